@@ -1,0 +1,4 @@
+-- Laws of plain numbers that the functions' proofs cite.
+mod Halves
+mod Digits
+mod Shifts
