@@ -1,0 +1,91 @@
+//! Compares the static library, or the stand-in where none is linked, with the model.
+//! `compare [LISTS [EVENTS [FIRST_SEED]]]` compares; `compare --faults [LISTS]` plants each fault
+//! in the stand-in and demands that the lists find it.
+
+use std::process::ExitCode;
+
+use compare::comparison::{Mismatch, Probing, compare, explain};
+use compare::entries::{Entries, library};
+use compare::faults::Fault;
+use compare::stand_in::{STAND_IN, plant};
+use compare::tally::Tally;
+use lists::{List, PROFILES, exhaustive, list};
+
+const PROBING: Probing = Probing { every: 25, at_end: false };
+const WHOLE_PROBING: Probing = Probing { every: 25, at_end: true };
+
+fn main() -> ExitCode {
+    let args: Vec<String> = std::env::args().skip(1).collect();
+    let faults = args.first().is_some_and(|arg| arg == "--faults");
+    let numbers: Vec<u64> =
+        args.iter().skip(faults.into()).map(|arg| arg.parse().expect("a number")).collect();
+    let number = |at: usize, usual: u64| numbers.get(at).copied().unwrap_or(usual);
+    if faults {
+        return find_faults(number(0, 200));
+    }
+    compare_lists(number(0, 100), number(1, 400) as usize, number(2, 1))
+}
+
+fn compare_lists(lists: u64, events: usize, first: u64) -> ExitCode {
+    let linked = library();
+    let entries = linked.unwrap_or(STAND_IN);
+    let mut tally = Tally::default();
+    let differs = |origin: &str, list: &List, mismatch: &Mismatch| {
+        println!("{origin}, event {}, differs:", mismatch.at + 1);
+        println!("{}", explain(&entries, list, mismatch));
+        ExitCode::FAILURE
+    };
+    for list in exhaustive::all() {
+        tally.lists += 1;
+        if let Err(mismatch) = compare(&entries, &list, PROBING, Some(&mut tally)) {
+            return differs("an exhaustive list", &list, &mismatch);
+        }
+    }
+    for seed in first..first + lists {
+        tally.lists += 1;
+        // Every profile's first list is probed whole at its end.
+        let probing = if seed - first < PROFILES.len() as u64 { WHOLE_PROBING } else { PROBING };
+        if let Err((list, mismatch)) = compare_seed(&entries, seed, events, probing, &mut tally) {
+            let profile = PROFILES[seed as usize % PROFILES.len()].name;
+            return differs(&format!("profile {profile}, seed {seed}"), &list, &mismatch);
+        }
+    }
+    tally.print();
+    let compared = if linked.is_some() { "the library" } else { "the stand-in" };
+    println!("compare: {compared}, {} lists, {} events, no difference", tally.lists, tally.events);
+    ExitCode::SUCCESS
+}
+
+fn compare_seed(
+    entries: &Entries,
+    seed: u64,
+    events: usize,
+    probing: Probing,
+    tally: &mut Tally,
+) -> Result<(), (List, Mismatch)> {
+    let list = list(&PROFILES[seed as usize % PROFILES.len()], seed, events);
+    compare(entries, &list, probing, Some(tally)).map_err(|mismatch| (list, mismatch))
+}
+
+fn find_faults(lists: u64) -> ExitCode {
+    let mut missed = 0;
+    for fault in Fault::ALL {
+        plant(Some(fault));
+        let found = (1..=lists).find_map(|seed| {
+            let mut tally = Tally::default();
+            compare_seed(&STAND_IN, seed, 400, PROBING, &mut tally).err().map(|found| (seed, found))
+        });
+        match found {
+            Some((seed, (_, mismatch))) => {
+                println!("  {fault:?}: found at seed {seed}, event {}", mismatch.at + 1);
+            }
+            None => {
+                println!("{fault:?} NOT FOUND in {lists} lists");
+                missed += 1;
+            }
+        }
+    }
+    plant(None);
+    println!("compare: planted faults, {} of {} found", Fault::ALL.len() - missed, Fault::ALL.len());
+    if missed == 0 { ExitCode::SUCCESS } else { ExitCode::FAILURE }
+}

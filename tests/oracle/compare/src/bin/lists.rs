@@ -1,0 +1,48 @@
+//! Runs generated lists through the model: after every event the Rust's own `check()`, document
+//! 01's rules, demand 3 and exact prices. `lists [LISTS [EVENTS [FIRST_SEED]]]`; a failing list is
+//! printed as short as it can be made.
+
+use std::process::ExitCode;
+
+use compare::tally::{Tally, log_sites};
+use compare::{minimize::minimize, show};
+use lists::{List, PROFILES, list};
+use model::watch::Watched;
+
+fn main() -> ExitCode {
+    let numbers: Vec<u64> = std::env::args().skip(1).map(|arg| arg.parse().expect("a number")).collect();
+    let number = |at: usize, usual: u64| numbers.get(at).copied().unwrap_or(usual);
+    let (lists, events, first) = (number(0, 200), number(1, 400), number(2, 1));
+    let mut tally = Tally::default();
+    for seed in first..first + lists {
+        let profile = &PROFILES[seed as usize % PROFILES.len()];
+        let list = list(profile, seed, events as usize);
+        tally.lists += 1;
+        if let Err((at, error)) = watch(&list, Some(&mut tally)) {
+            println!("profile {}, seed {seed}, event {}: {error}", profile.name, at + 1);
+            print!("{}", show::list(&minimize(&list, |list| watch(list, None).is_err())));
+            return ExitCode::FAILURE;
+        }
+    }
+    tally.print();
+    let (reached, all, missed) = log_sites();
+    let (lists, events) = (tally.lists, tally.events);
+    println!("lists: {lists} lists, {events} events, all rules kept; {reached} of {all} log sites reached");
+    if missed.is_empty() {
+        return ExitCode::SUCCESS;
+    }
+    println!("log sites that the lists should have reached: {missed:?}");
+    ExitCode::FAILURE
+}
+
+/// Runs the list under watch; the place and what does not hold, where something does not.
+fn watch(list: &List, mut tally: Option<&mut Tally>) -> Result<(), (usize, String)> {
+    let mut watched = Watched::start(list.setting);
+    for (at, item) in list.items.iter().enumerate() {
+        let outcome = watched.event(&item.record, item.answer_buffer).map_err(|error| (at, error))?;
+        if let Some(tally) = &mut tally {
+            tally.add(&item.record, &outcome);
+        }
+    }
+    Ok(())
+}

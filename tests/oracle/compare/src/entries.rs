@@ -1,0 +1,57 @@
+//! The three C entries: a library's, where one is linked, else the stand-in's.
+
+pub type Start = unsafe extern "C" fn(*mut u8, usize, u32) -> u32;
+pub type Event = unsafe extern "C" fn(*mut u8, usize, *const u8, usize, *mut u8, usize) -> u32;
+pub type Check = unsafe extern "C" fn(*const u8, usize) -> u32;
+
+#[derive(Debug, Clone, Copy)]
+pub struct Entries {
+    pub start: Start,
+    pub event: Event,
+    pub check: Check,
+}
+
+// Each call lends whole slices for its time, which is all that an entry may touch.
+impl Entries {
+    pub fn start(&self, book: &mut [u8], setting: u32) -> u32 {
+        unsafe { (self.start)(book.as_mut_ptr(), book.len(), setting) }
+    }
+
+    pub fn event(&self, book: &mut [u8], record: &[u8], answer: &mut [u8]) -> u32 {
+        let (record, record_len) = (record.as_ptr(), record.len());
+        unsafe {
+            (self.event)(book.as_mut_ptr(), book.len(), record, record_len, answer.as_mut_ptr(), answer.len())
+        }
+    }
+
+    pub fn check(&self, book: &[u8]) -> u32 {
+        unsafe { (self.check)(book.as_ptr(), book.len()) }
+    }
+}
+
+#[cfg(library)]
+mod linked {
+    unsafe extern "C" {
+        pub fn start(book: *mut u8, book_len: usize, setting: u32) -> u32;
+        pub fn event(
+            book: *mut u8,
+            book_len: usize,
+            record: *const u8,
+            record_len: usize,
+            answer: *mut u8,
+            answer_len: usize,
+        ) -> u32;
+        pub fn check(book: *const u8, book_len: usize) -> u32;
+    }
+}
+
+/// The entries of the static library that this program was built with.
+#[cfg(library)]
+pub fn library() -> Option<Entries> {
+    Some(Entries { start: linked::start, event: linked::event, check: linked::check })
+}
+
+#[cfg(not(library))]
+pub fn library() -> Option<Entries> {
+    None
+}

@@ -1,0 +1,66 @@
+//! Counts over many events: refusals, messages, alarms, and which log sites of the Rust ran.
+
+use std::collections::BTreeMap;
+
+use gateway::LOG_SITES;
+use model::answer::messages;
+
+#[derive(Debug, Clone, Default)]
+pub struct Tally {
+    pub lists: u64,
+    pub events: u64,
+    /// Taken events by kind, by alarm, and messages by kind; refusals by number.
+    pub taken: BTreeMap<u8, u64>,
+    pub refused: BTreeMap<u32, u64>,
+    pub messages: BTreeMap<u8, u64>,
+    pub alarms: BTreeMap<u8, u64>,
+}
+
+impl Tally {
+    pub fn add(&mut self, record: &[u8], outcome: &Result<Vec<u8>, u32>) {
+        self.events += 1;
+        match outcome {
+            Err(refusal) => *self.refused.entry(*refusal).or_default() += 1,
+            Ok(answer) => {
+                *self.taken.entry(record[0]).or_default() += 1;
+                *self.alarms.entry(answer[3]).or_default() += 1;
+                for message in messages(answer) {
+                    *self.messages.entry(message.kind).or_default() += 1;
+                }
+            }
+        }
+    }
+
+    pub fn print(&self) {
+        println!("  taken by kind {:?}", self.taken);
+        println!("  refused by number {:?}", self.refused);
+        println!("  messages by kind {:?}, alarms {:?}", self.messages, self.alarms);
+    }
+}
+
+/// Functions with log sites that no event of document 01 reaches, how many, and why.
+const UNREACHABLE: [(&str, usize, &str); 8] = [
+    ("set_unavailable", 2, "admission is left out"),
+    ("venue_status_request", 3, "not an event of document 01"),
+    ("roll", 1, "days are left out"),
+    ("adopt_orphaned_replace", 2, "orphans are left out"),
+    ("orphan", 8, "orphans are left out"),
+    ("make_orphan_pending", 1, "orphans are left out"),
+    ("resolve", 2, "not an event of document 01"),
+    ("refuse_request", 2, "a gateway replace does not exist; an open gateway cancel is the latest cancel"),
+];
+
+/// How many log sites of the Rust ran in this process, of how many, and those that should have.
+pub fn log_sites() -> (usize, usize, Vec<(&'static str, u32, &'static str)>) {
+    let reached = tracing::reached();
+    let ran = |file: &str, line: u32| reached.iter().any(|(path, at, _)| path.ends_with(file) && *at == line);
+    let mut missed: Vec<_> = LOG_SITES.iter().copied().filter(|&(file, line, _)| !ran(file, line)).collect();
+    let count = LOG_SITES.len() - missed.len();
+    for (function, allowed, _) in UNREACHABLE {
+        let of_function = |site: &&(&str, u32, &str)| site.2 == function;
+        if missed.iter().filter(of_function).count() <= allowed {
+            missed.retain(|site| site.2 != function);
+        }
+    }
+    (count, LOG_SITES.len(), missed)
+}

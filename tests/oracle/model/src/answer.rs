@@ -1,0 +1,159 @@
+//! Answers: their whole length in two bytes, the count of messages, the alarm's kind, then the
+//! messages as records. The Rust's outputs become messages here.
+
+use gateway::CompactString;
+use gateway::book::{AlarmKind, CancelKind, ClientId, ClientReport, OrderRequest, Output};
+
+use crate::codes;
+use crate::numbers::{price_count, qty_count};
+use crate::record::*;
+
+pub const HEAD: usize = 4;
+
+/// The alarm's number.
+pub fn alarm_code(kind: AlarmKind) -> u8 {
+    match kind {
+        AlarmKind::StuckCancel => 1,
+        AlarmKind::Overfill => 2,
+        AlarmKind::UnknownOrder => 3,
+        AlarmKind::UnknownAtVenue => 4,
+        AlarmKind::FillOnDoneOrder => 5,
+        kind => panic!("{kind:?} has no event in document 01"),
+    }
+}
+
+/// The whole answer. `told` is the text that came with the event: it goes back as it is, while a
+/// text that the Rust supplied goes as its number.
+pub fn write(outputs: &[Output], alarm: u8, told: Option<&[u8]>) -> Vec<u8> {
+    let mut bytes = vec![0, 0, outputs.len() as u8, alarm];
+    outputs.iter().for_each(|output| bytes.extend(message(output, told).bytes()));
+    let length = u16::try_from(bytes.len()).expect("an answer is short");
+    bytes[..2].copy_from_slice(&length.to_le_bytes());
+    bytes
+}
+
+/// The messages of a whole answer.
+pub fn messages(answer: &[u8]) -> Vec<Record<'_>> {
+    let mut rest = &answer[HEAD..];
+    let mut messages = Vec::new();
+    while !rest.is_empty() {
+        let (message, after) = Record::read(rest).expect("an answer's messages read");
+        messages.push(message);
+        rest = after;
+    }
+    assert_eq!(messages.len(), usize::from(answer[2]), "an answer counts its messages");
+    messages
+}
+
+fn message(output: &Output, told: Option<&[u8]>) -> Draft {
+    match output {
+        Output::Report { client, report } => report_message(client, report, told),
+        Output::CancelReject { .. } => reject_message(output, told),
+        Output::NewOrder { venue, downstream, request } => {
+            request_message(NEW_ORDER_MESSAGE, venue, downstream, request)
+        }
+        Output::Cancel { venue, downstream, orig_downstream, request, venue_order_id } => {
+            request_message(CANCEL_MESSAGE, venue, downstream, request)
+                .text(ORIG_DOWNSTREAM, bytes(orig_downstream))
+                .maybe(venue_order_id.as_ref(), |draft, id| draft.text(VENUE_ORDER_ID, bytes(id)))
+        }
+        Output::Replace { venue, downstream, orig_downstream, request, venue_order_id } => {
+            request_message(REPLACE_MESSAGE, venue, downstream, request)
+                .text(ORIG_DOWNSTREAM, bytes(orig_downstream))
+                .maybe(venue_order_id.as_ref(), |draft, id| draft.text(VENUE_ORDER_ID, bytes(id)))
+        }
+        Output::StatusRequest { .. } => panic!("document 01 has no such message"),
+    }
+}
+
+fn reject_message(output: &Output, told: Option<&[u8]>) -> Draft {
+    let Output::CancelReject {
+        client,
+        order_id,
+        cl_ord_id,
+        orig_cl_ord_id,
+        response_to,
+        status,
+        reason,
+        text,
+    } = output
+    else {
+        panic!("a cancel reject: {output:?}");
+    };
+    let (reason, origin) = codes::cancel_reject_reason(*reason);
+    let draft = Draft::new(REJECT_MESSAGE)
+        .number(CLIENT, client_number(client))
+        .text(CL_ORD_ID, bytes(cl_ord_id))
+        .text(ORIG_CL_ORD_ID, bytes(orig_cl_ord_id))
+        .number(ORD_STATUS, codes::status_code(*status))
+        .number(REASON, reason)
+        .number(ORIGIN, origin)
+        .number(RESPONSE_TO, if *response_to == CancelKind::Cancel { 1_u8 } else { 2 })
+        .maybe(order_id.as_ref(), |draft, name| draft.text(NAME, bytes(name)));
+    with_text(draft, Some(text), told)
+}
+
+fn report_message(client: &ClientId, report: &ClientReport, told: Option<&[u8]>) -> Draft {
+    let name = report.order_id.as_ref().expect("every reported order is booked");
+    let (_, sequence) = report.exec_id.rsplit_once('.').expect("an ExecID is name, point, number");
+    let draft = terms(Draft::new(REPORT_MESSAGE), &report.request)
+        .number(CLIENT, client_number(client))
+        .text(NAME, bytes(name))
+        .text(CL_ORD_ID, bytes(&report.cl_ord_id))
+        .maybe(report.orig_cl_ord_id.as_ref(), |draft, id| draft.text(ORIG_CL_ORD_ID, bytes(id)))
+        .number(EXEC_TYPE, codes::exec_type_code(report.exec_type))
+        .number(ORD_STATUS, codes::status_code(report.status))
+        .number(LAST_QTY, qty_count(report.last_qty))
+        .number(CUM_QTY, qty_count(report.cum_qty))
+        .number(AVG_PX, price_count(report.avg_px))
+        .number(LEAVES_QTY, qty_count(report.leaves_qty))
+        .number(REPORT_SEQUENCE, sequence.parse::<u64>().expect("a number"))
+        .number(FILL_PRICE, price_count(report.last_px))
+        .maybe(report.reject.map(codes::reject_reason), |draft, (reason, origin)| {
+            draft.number(REASON, reason).number(ORIGIN, origin)
+        });
+    with_text(draft, report.text.as_ref(), told)
+}
+
+fn request_message(kind: u8, venue: &str, downstream: &str, request: &OrderRequest) -> Draft {
+    let venue: u16 = venue.parse().expect("a venue is a number");
+    terms(Draft::new(kind), request).number(VENUE, venue).text(DOWNSTREAM, bytes(downstream))
+}
+
+/// Fields 6 to 11.
+fn terms(draft: Draft, request: &OrderRequest) -> Draft {
+    draft
+        .text(SYMBOL, bytes(&request.symbol))
+        .number(SIDE, codes::side_code(request.side))
+        .number(ORD_TYPE, codes::ord_type_code(request.ord_type))
+        .number(QTY, qty_count(request.qty))
+        .maybe(request.price, |draft, price| draft.number(PRICE, price_count(price)))
+        .maybe(request.time_in_force.map(codes::time_in_force_code), |draft, code| {
+            draft.number(TIME_IN_FORCE, code)
+        })
+}
+
+fn with_text(draft: Draft, text: Option<&CompactString>, told: Option<&[u8]>) -> Draft {
+    match (text, told) {
+        (None, _) => draft,
+        (Some(text), Some(told)) => {
+            assert_eq!(bytes(text), told, "the event's text goes back as it is");
+            draft.text(TEXT, told)
+        }
+        (Some(text), None) => draft.number(FIXED_TEXT, codes::fixed_text(text)),
+    }
+}
+
+pub fn client_number(client: &ClientId) -> u16 {
+    client.session().parse().expect("a client is a number")
+}
+
+/// A Latin-1 text as its bytes.
+pub fn bytes(text: &str) -> Vec<u8> {
+    text.chars().map(|c| u8::try_from(c).expect("every text came from bytes")).collect()
+}
+
+/// Bytes as a Latin-1 text.
+pub fn latin1(bytes: &[u8]) -> CompactString {
+    bytes.iter().map(|&byte| char::from(byte)).collect()
+}

@@ -1,0 +1,105 @@
+//! Document 01's counts and the book's `Decimal`: a quantity is a count of 1/10,000, a price a
+//! count of 10^-8.
+
+use gateway::Decimal;
+
+pub const MAX_QTY: u64 = 1_000_000_000_000;
+pub const MAX_PRICE: u64 = 100_000_000_000_000;
+
+const QTY_PLACES: u32 = 4;
+const PRICE_PLACES: u32 = 8;
+
+pub fn qty(count: u64) -> Decimal {
+    Decimal::from_i128_with_scale(count.into(), QTY_PLACES)
+}
+
+pub fn price(count: u64) -> Decimal {
+    Decimal::from_i128_with_scale(count.into(), PRICE_PLACES)
+}
+
+pub fn qty_count(qty: Decimal) -> u64 {
+    count(qty, QTY_PLACES).try_into().expect("a quantity fits 64 bits")
+}
+
+pub fn price_count(price: Decimal) -> u128 {
+    count(price, PRICE_PLACES)
+}
+
+/// `decimal` as a count of 10^-`places`; it must be whole and not negative.
+fn count(decimal: Decimal, places: u32) -> u128 {
+    let exact = decimal.normalize();
+    assert!(exact.scale() <= places, "{decimal} has more than {places} places");
+    let count = exact.mantissa() * 10_i128.pow(places - exact.scale());
+    count.try_into().unwrap_or_else(|_| panic!("{decimal} is negative"))
+}
+
+/// What document 01 says a fill's price is, by exact integers: the numbers that decide it.
+#[derive(Debug, Clone, Copy, PartialEq, Eq)]
+pub struct Fill {
+    pub last_qty: u64,
+    pub last_px: u64,
+    pub cum_qty: u64,
+    pub avg_px: u64,
+    pub old_cum_qty: u64,
+    pub old_avg_px: u64,
+}
+
+impl Fill {
+    pub fn rise(&self) -> u64 {
+        self.cum_qty.saturating_sub(self.old_cum_qty)
+    }
+
+    /// The exact fraction of document 01, rounded to eight places, a half to the even one.
+    pub fn price(&self) -> u128 {
+        let rise = self.rise();
+        if rise == 0 {
+            return if self.last_px > 0 { self.last_px } else { self.avg_px }.into();
+        }
+        if rise == self.last_qty && self.last_px > 0 {
+            return self.last_px.into();
+        }
+        let new = u128::from(self.cum_qty) * u128::from(self.avg_px);
+        let old = u128::from(self.old_cum_qty) * u128::from(self.old_avg_px);
+        let price = new.checked_sub(old).map_or(0, |paid| half_to_even(paid, rise.into()));
+        if price > 0 { price } else { self.avg_px.into() }
+    }
+}
+
+fn half_to_even(paid: u128, rise: u128) -> u128 {
+    let (whole, rest) = (paid / rise, paid % rise);
+    let up = rest * 2 > rise || (rest * 2 == rise && whole % 2 == 1);
+    whole + u128::from(up)
+}
+
+#[cfg(test)]
+mod tests {
+    use super::*;
+
+    const FILL: Fill = Fill { last_qty: 0, last_px: 0, cum_qty: 0, avg_px: 0, old_cum_qty: 0, old_avg_px: 0 };
+
+    #[test]
+    fn counts_are_exact() {
+        assert_eq!(qty_count(qty(MAX_QTY)), MAX_QTY);
+        assert_eq!(price_count(price(MAX_PRICE)), u128::from(MAX_PRICE));
+        assert_eq!(price_count(price(1)), 1);
+        assert_eq!(qty(1).to_string(), "0.0001");
+    }
+
+    #[test]
+    fn document_01s_prices() {
+        let missed = Fill {
+            last_qty: 100_000,
+            last_px: 1_100_000_000,
+            cum_qty: 700_000,
+            avg_px: 1_030_000_000,
+            old_cum_qty: 400_000,
+            old_avg_px: 1_000_000_000,
+        };
+        assert_eq!(missed.price(), 1_070_000_000);
+        let tie = Fill { cum_qty: 30_000, avg_px: 100_000_001, old_cum_qty: 10_000, ..FILL };
+        assert_eq!(Fill { old_avg_px: 100_000_000, ..tie }.price(), 100_000_002);
+        assert_eq!(Fill { old_avg_px: 100_000_002, ..tie }.price(), 100_000_000);
+        let below = Fill { cum_qty: 30_000, avg_px: 50_000_000, old_cum_qty: 20_000, ..FILL };
+        assert_eq!(Fill { old_avg_px: 100_000_000, ..below }.price(), 50_000_000);
+    }
+}
