@@ -1,0 +1,15 @@
+pub mod Laws
+pub mod Moves
+pub mod Ruled
+pub mod Walk
+pub mod Filled
+pub mod Turn
+pub mod Shapes
+pub mod Fresh
+pub mod Records
+pub mod Steps
+pub mod Events
+pub mod Whole
+pub mod Touches
+pub mod OneOrder
+pub mod Calls

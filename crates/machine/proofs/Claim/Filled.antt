@@ -1,0 +1,338 @@
+-- The first three parts of demand 3: LastQty, the quantity ordered, and a done status. Rests on Walk and Moves.
+use Prim.Native.Nat.{ℕ, _+_, _-_, _≤_, _<_}
+use native.Mathlib.Nat.{not-suc-le-zero}
+use native.Mathlib.Decide.{ℕ-discrete, decLt}
+use native.Mathlib.Omega.{arith}
+use mathlib.Core.Path.{_≡_, refl, sym, ap, _∙_, subst}
+use mathlib.Core.Logic.{_⊎_, inl, inr}
+use mathlib.Core.Bool.{true, false}
+use mathlib.Core.Option.{Option, none, some}
+use mathlib.Core.List.{List, [], _∷_, _++_}
+use lib.Dec.{eqb}
+use lib.ListN.{length, getD, set, length-append, length-set, List·getD-append}
+use lib.Seq.{getD-at, getD-set-same, getD-set-other}
+use borrow.Author.Tests.{eqb-true, eq-eqb, ne-eqb, le-leb, lt-leb}
+use Rattle.prelude.specs.Below.{first-some, first-elim, first-hit, first-ext, First}
+use Rattle.prelude.specs.Cases.{if_then_else_, maybe, split-if, if-true, if-false}
+use Rattle.prelude.specs.Texts.{sameText}
+use Rattle.prelude.specs.declared.Text.{Text}
+use Rattle.store.specs.declared.Order.{Order}
+use Rattle.store.specs.Book.{Book, orderIn, requestIn}
+use Rattle.store.specs.Orders.{noOrder}
+use Rattle.machine.specs.Orders.{isDone}
+use Rattle.machine.specs.Changes.{Event, Message, unchanged, refusing, adding}
+use Rattle.machine.specs.Amend.{cancel, replace}
+use Rattle.store.specs.Finds.{findName}
+use Rattle.machine.specs.Machine.{factsOf, bookedOrder, ordersAfter, after, onReport, stepOf}
+use Rattle.machine.specs.Rules.{rules}
+use Rattle.machine.specs.History.{Decoded, unread, readAs, comesTo, spoken, messagesOf, leftBy, lineOf, State, start, next, run}
+use Rattle.machine.specs.Claim.{sum, lastQty, toldOf, statusOf, All, all[], all∷, Each}
+use Rattle.machine.specs.declared.Change.{Change}
+use Rattle.machine.proofs.Claim.Laws.{decide, none-some, map-all, tells}
+use Rattle.machine.proofs.Claim.Moves.{Moves, more-moves, cancelOrder-moves, failed-moves, unsent-moves, told-refusal, status-moves, cancel-goes-moves, replace-goes-moves, unknown-moves, reject-moves, report-moves}
+use Rattle.machine.proofs.Claim.Ruled.{Ruled, ruled, one-name}
+use Rattle.machine.proofs.Claim.Walk.{booking, Did, Roomy, turned-away, no-order, on-order, new-order, found-order, Either, Handles, step-walk, refusing-bystands, refusing-away}
+
+-- ---- every handler moves its order
+
+module _ (b : Book) (e : Event) where
+  unfoldable pub Moved : ℕ → Change → Type 0
+  Moved i c = Moves 2 (i + 1) (orderIn b i) c
+
+  facts-place : (p : ℕ) → factsOf b p .place ≡ p
+  unfolding factsOf
+  facts-place p = refl
+
+  moved : (i n : ℕ) (c : Change) → n ≤ 2 → Moves n (factsOf b (i + 1) .place) (orderIn b i) c → Either (Moved i c) c
+  unfolding Either Moved factsOf
+  moved i n c l m = inr (m .taken, more-moves n 2 _ _ _ l m)
+
+  pub handles-moved : Handles Moved b e
+  handles-moved = record {
+    cancels = λ k i h order full. unfold cancel in
+        split-if (λ c. Either (Moved i c) c) _ (λ t. moved i 1 _ (omega arith) (status-moves _ _ e))
+        (λ t. split-if (λ c. Either (Moved i c) c) _ (λ u. moved i 1 _ (omega arith) (told-refusal _ _ _ e _)) (λ u. moved i 1 _ (omega arith) (cancel-goes-moves _ _ e)));
+    replaces = λ k i h order full. unfold replace in
+        split-if (λ c. Either (Moved i c) c) _ (λ t. moved i 1 _ (omega arith) (status-moves _ _ e))
+        (λ t. split-if (λ c. Either (Moved i c) c) _ (λ u. moved i 1 _ (omega arith) (told-refusal _ _ _ e _))
+        (λ u. split-if (λ c. Either (Moved i c) c) _ (λ v. unfold Either in inl (refusing-away 6 refl)) (λ v. moved i 1 _ (omega arith) (replace-goes-moves _ _ e))));
+    reports = λ n k w. unfold onReport in
+        split-if (λ c. Either (Moved (requestIn b k .order) c) c) _ (λ t. moved _ 0 _ (omega arith) (unknown-moves _ (k + 1) _ e)) (λ t. moved _ 2 _ (omega arith) (report-moves _ (k + 1) _ _ e));
+    unknowns = λ n k w. moved _ 0 _ (omega arith) (unknown-moves _ (k + 1) _ e);
+    rejects = λ n k w. moved _ 2 _ (omega arith) (reject-moves _ (k + 1) _ _ e);
+    fails = λ n k w. moved _ 1 _ (omega arith) (failed-moves _ (k + 1) _ _ _ _);
+    resends = λ n k w. moved _ 1 _ (omega arith) (unsent-moves _ (k + 1) _ _ _);
+    asks = λ n i w. moved i 1 _ (omega arith) (cancelOrder-moves _ _);
+  }
+
+-- ---- the orders that a change leaves
+
+pub orders-set : (os : List Order) (c : Change) (i : ℕ) → i < length os → c .place ≡ i + 1 → ordersAfter os c ≡ set os i (c .order)
+unfolding ordersAfter
+orders-set os c i h p =
+    let z : c .place - 1 ≡ i = omega arith in
+    if-false _ os _ (ne-eqb (c .place) 0 (λ z. omega arith)) ∙ if-true _ _ _ (le-leb (c .place) (length os) (omega arith)) ∙ ap (λ (j : ℕ). set os j (c .order)) z
+
+pub orders-same : (os : List Order) (c : Change) → c .place ≡ 0 → ordersAfter os c ≡ os
+unfolding ordersAfter
+orders-same os c p = if-true _ _ _ (eq-eqb (c .place) 0 p)
+
+pub orders-more : (os : List Order) (c : Change) → c .place ≡ length os + 1 → ordersAfter os c ≡ os ++ (c .order ∷ [])
+unfolding ordersAfter
+orders-more os c p = if-false _ _ _ (ne-eqb (c .place) 0 (λ z. omega arith)) ∙ if-false _ _ _ (lt-leb (c .place) (length os) (omega arith))
+
+-- ---- a book after another: no order is lost, and each keeps its name and a done status
+
+pub record Persists (b b′ : Book) : Type 0 where
+  pub longer : length (b .orders) ≤ length (b′ .orders)
+  pub names : (i : ℕ) → i < length (b .orders) → orderIn b′ i .names .name ≡ orderIn b i .names .name
+  pub done : (i : ℕ) → i < length (b .orders) → isDone (orderIn b i .state .status) ≡ true → orderIn b′ i .state .status ≡ orderIn b i .state .status
+
+pub persists-same : (b : Book) → Persists b b
+persists-same b = record { longer = omega arith; names = λ i h. refl; done = λ i h d. refl }
+
+module _ (b b′ : Book) (p : Persists b b′) where
+  pub name-stays : (t : Text) (i : ℕ) → findName b t ≡ some i → findName b′ t ≡ some i
+  unfolding findName
+  name-stays t i h =
+      let f : First (λ k. sameText (orderIn b k .names .name) t) (length (b .orders)) i = first-some _ _ i h in
+      first-hit (λ k. sameText (orderIn b′ k .names .name) t) (length (b′ .orders)) i (let l = f .below in omega (arith, p .longer))
+      (first-ext (λ k. sameText (orderIn b′ k .names .name) t) (λ k. sameText (orderIn b k .names .name) t) i
+      (λ k l. ap (λ (x : Text). sameText x t) (p .names k (let m = f .below in omega arith)))
+      ∙ f .least)
+      (ap (λ (x : Text). sameText x t) (p .names i (f .below)) ∙ f .passes)
+
+  pub still-unused : (t : Text) → findName b′ t ≡ none → findName b t ≡ none
+  still-unused t h = go (findName b t) refl
+    where
+      go : (x : Option ℕ) → findName b t ≡ x → x ≡ none
+      go none e = refl
+      go (some i) e = none-some h (name-stays t i e)
+
+  pub status-stays : (t : Text) (s : ℕ) → statusOf t b ≡ some s → isDone s ≡ true → statusOf t b′ ≡ some s
+  unfolding maybe
+  status-stays t s h d = go (findName b t) refl h
+    where
+      go : (x : Option ℕ) → findName b t ≡ x → maybe none (λ i. some (orderIn b i .state .status)) x ≡ some s → statusOf t b′ ≡ some s
+      go none e z = none-some refl z
+      go (some i) e z =
+          let w : orderIn b i .state .status ≡ s = cc in
+          ap (maybe none (λ (j : ℕ). some (orderIn b′ j .state .status))) (name-stays t i e)
+          ∙ ap some (p .done i (found-order b t i e) (ap isDone w ∙ d) ∙ w)
+
+pub persists-trans : (a b c : Book) → Persists a b → Persists b c → Persists a c
+persists-trans a b c p q = record {
+  longer = omega (arith, p .longer, q .longer);
+  names = λ i h. q .names i (omega (arith, p .longer)) ∙ p .names i h;
+  done = λ i h d. q .done i (omega (arith, p .longer)) (ap isDone (p .done i h d) ∙ d) ∙ p .done i h d;
+}
+
+-- ---- one call: `old` stands for what has been told before it
+
+pub record Advances (b : Book) (ms : List Message) (b′ : Book) : Type 0 where
+  pub persists : Persists b b′
+  pub filled : (old : ℕ → Text → ℕ) → ((i : ℕ) → i < length (b .orders) → old (orderIn b i .client) (orderIn b i .names .name) ≡ orderIn b i .state .cumqty)
+      → ((client : ℕ) (t : Text) → findName b t ≡ none → old client t ≡ 0)
+      → (i : ℕ) → i < length (b′ .orders)
+      → sum (lastQty (orderIn b′ i .client) (orderIn b′ i .names .name)) ms + old (orderIn b′ i .client) (orderIn b′ i .names .name) ≡ orderIn b′ i .state .cumqty
+  pub quiet : (client : ℕ) (t : Text) → findName b′ t ≡ none → sum (lastQty client t) ms ≡ 0
+  pub ordered : ((i : ℕ) → i < length (b .orders) → orderIn b i .state .cumqty ≤ orderIn b i .terms .qty)
+      → (i : ℕ) → i < length (b′ .orders) → orderIn b′ i .state .cumqty ≤ orderIn b′ i .terms .qty
+
+-- the orders stay, and no report goes out
+still : (b : Book) (ms : List Message) (b′ : Book) → b′ .orders ≡ b .orders → ((client : ℕ) (t : Text) → sum (lastQty client t) ms ≡ 0) → Advances b ms b′
+still b ms b′ e q =
+    subst (λ (os : List Order). Advances b ms (record { setting = b′ .setting; orders = os; requests = b′ .requests })) (sym e)
+    (record {
+      persists = record { longer = omega arith; names = λ i h. refl; done = λ i h d. refl };
+      filled = λ old f u i h. let z = f i h in omega (arith, q (orderIn b i .client) (orderIn b i .names .name));
+      quiet = λ client t h. q client t;
+      ordered = λ f. f;
+    })
+
+-- one order is changed
+module _ (b : Book) (r : Ruled b) (c : Change) (i : ℕ) (h : i < length (b .orders)) (m : Moves 2 (i + 1) (orderIn b i) c) (b′ : Book) (e : b′ .orders ≡ set (b .orders) i (c .order)) where
+  pub long : length (b′ .orders) ≡ length (b .orders)
+  long = ap length e ∙ length-set (b .orders) i (c .order)
+
+  pub at : orderIn b′ i ≡ c .order
+  at = ap (λ (os : List Order). getD os i noOrder) e ∙ getD-set-same (b .orders) i (c .order) noOrder h
+
+  pub beside : (j : ℕ) → (j ≡ i → ⊥) → orderIn b′ j ≡ orderIn b j
+  beside j n = ap (λ (os : List Order). getD os j noOrder) e ∙ getD-set-other (b .orders) i j (c .order) noOrder n
+
+  name-at : orderIn b′ i .names .name ≡ orderIn b i .names .name
+  name-at = ap (λ (o : Order). o .names .name) at ∙ m .same-name
+
+  -- what holds of the changed order and of the others
+  each : (Q : ℕ → Order → Type 0) → Q i (c .order) → ((j : ℕ) → (j ≡ i → ⊥) → j < length (b .orders) → Q j (orderIn b j)) → (j : ℕ) → j < length (b′ .orders) → Q j (orderIn b′ j)
+  each Q x y j l = go (ℕ-discrete j i)
+    where
+      go : Dec (j ≡ i) → Q j (orderIn b′ j)
+      go (yes z) = subst (λ (k : ℕ). Q k (orderIn b′ k)) (sym z) (subst (Q i) (sym at) x)
+      go (no z) = subst (Q j) (sym (beside j z)) (y j z (omega (arith, long)))
+
+  pub changed-persists : Persists b b′
+  changed-persists = record {
+    longer = omega (arith, long);
+    names = λ j l. each (λ k o. o .names .name ≡ orderIn b k .names .name) (m .same-name) (λ k n u. refl) j (omega (arith, long));
+    done = λ j l. each (λ k o. isDone (orderIn b k .state .status) ≡ true → o .state .status ≡ orderIn b k .state .status) (m .done) (λ k n u d. refl) j (omega (arith, long));
+  }
+
+  apart : (j : ℕ) → (j ≡ i → ⊥) → j < length (b .orders) → sameText (orderIn b i .names .name) (orderIn b j .names .name) ≡ false
+  apart j n l = go (decide _)
+    where
+      go : (sameText (orderIn b i .names .name) (orderIn b j .names .name) ≡ true) ⊎ (sameText (orderIn b i .names .name) (orderIn b j .names .name) ≡ false)
+          → sameText (orderIn b i .names .name) (orderIn b j .names .name) ≡ false
+      go (inl z) = absurd (n (sym (one-name b r i j h l z)))
+      go (inr z) = z
+
+  changed-advances : Advances b (tells c) b′
+  changed-advances = record {
+    persists = changed-persists;
+    filled = λ old f u. each (λ k o. sum (lastQty (o .client) (o .names .name)) (tells c) + old (o .client) (o .names .name) ≡ o .state .cumqty)
+        (rw (m .same-client, m .same-name) (omega (arith, f i h, m .told)))
+        (λ j n l. omega (arith, f j l, m .others (orderIn b j .client) (orderIn b j .names .name) (apart j n l)));
+    quiet = λ client t w. m .others client t (bare t (still-unused b b′ changed-persists t w));
+    ordered = λ f. each (λ k o. o .state .cumqty ≤ o .terms .qty) (m .ordered (f i h)) (λ j n l. f j l);
+  }
+    where
+      bare : (t : Text) → findName b t ≡ none → sameText (orderIn b i .names .name) t ≡ false
+      bare t w = unfold findName in first-elim (λ k. sameText (orderIn b k .names .name) t) (length (b .orders)) w i h
+
+-- an order is booked
+module _ (b : Book) (o : Order) (b′ : Book) (e : b′ .orders ≡ b .orders ++ (o ∷ [])) where
+  pub more-long : length (b′ .orders) ≡ length (b .orders) + 1
+  more-long = ap length e ∙ length-append (b .orders) (o ∷ [])
+
+  pub more-at : orderIn b′ (length (b .orders)) ≡ o
+  more-at = ap (λ (os : List Order). getD os (length (b .orders)) noOrder) e ∙ getD-at (b .orders) o [] noOrder (length (b .orders)) refl
+
+  pub more-beside : (j : ℕ) → j < length (b .orders) → orderIn b′ j ≡ orderIn b j
+  more-beside j l = ap (λ (os : List Order). getD os j noOrder) e ∙ List·getD-append (b .orders) (o ∷ []) noOrder j l
+
+  more-each : (Q : ℕ → Order → Type 0) → Q (length (b .orders)) o → ((j : ℕ) → j < length (b .orders) → Q j (orderIn b j)) → (j : ℕ) → j < length (b′ .orders) → Q j (orderIn b′ j)
+  more-each Q x y j l = go (decLt j (length (b .orders)))
+    where
+      go : Dec (j < length (b .orders)) → Q j (orderIn b′ j)
+      go (yes z) = subst (Q j) (sym (more-beside j z)) (y j z)
+      go (no z) = let w : j ≡ length (b .orders) = omega (arith, more-long) in subst (λ (k : ℕ). Q k (orderIn b′ k)) (sym w) (subst (Q (length (b .orders))) (sym more-at) x)
+
+  pub more-persists : Persists b b′
+  more-persists = record {
+    longer = omega (arith, more-long);
+    names = λ j l. ap (λ (x : Order). x .names .name) (more-beside j l);
+    done = λ j l d. ap (λ (x : Order). x .state .status) (more-beside j l);
+  }
+
+  booked-advances : findName b (o .names .name) ≡ none → o .state .cumqty ≡ 0 → Advances b [] b′
+  booked-advances free none-yet = record {
+    persists = more-persists;
+    filled = λ old f u. more-each (λ k x. 0 + old (x .client) (x .names .name) ≡ x .state .cumqty) (omega (arith, u (o .client) (o .names .name) free)) (λ j l. omega (arith, f j l));
+    quiet = λ client t w. refl;
+    ordered = λ f. more-each (λ k x. x .state .cumqty ≤ x .terms .qty) (omega arith) f;
+  }
+
+-- ---- a line of the history
+
+pub after-orders : (b : Book) (c : Change) → after b c .orders ≡ ordersAfter (b .orders) c
+unfolding after
+after-orders b c = refl
+
+pub refused-line : (b : Book) (i : Decoded) (c : Change) → eqb (c .refusal) 0 ≡ false → (lineOf b i c .messages ≡ []) × (lineOf b i c .left ≡ b)
+unfolding messagesOf leftBy
+refused-line b i c h = (if-false _ _ _ h, if-false _ _ _ h)
+
+pub taken-line : (b : Book) (i : Decoded) (c : Change) → c .refusal ≡ 0 → (lineOf b i c .messages ≡ tells c) × (lineOf b i c .left ≡ after b c)
+unfolding messagesOf leftBy
+taken-line b i c h = (if-true _ _ _ (eq-eqb (c .refusal) 0 h), if-true _ _ _ (eq-eqb (c .refusal) 0 h))
+
+-- what holds of the messages and the book of the change holds of its line
+pub line-of : (Q : List Message → Book → Type 0) (b : Book) (i : Decoded) (c : Change) → c .refusal ≡ 0 → Q (tells c) (after b c) → Q (lineOf b i c .messages) (lineOf b i c .left)
+line-of Q b i c h q =
+    let s = taken-line b i c h in
+    subst (λ (ms : List Message). Q ms (lineOf b i c .left)) (sym (s .0)) (subst (λ (x : Book). Q (tells c) x) (sym (s .1)) q)
+
+pub refused-of : (Q : List Message → Book → Type 0) (b : Book) (i : Decoded) (c : Change) → eqb (c .refusal) 0 ≡ false → Q [] b → Q (lineOf b i c .messages) (lineOf b i c .left)
+refused-of Q b i c h q =
+    let s = refused-line b i c h in
+    subst (λ (ms : List Message). Q ms (lineOf b i c .left)) (sym (s .0)) (subst (λ (x : Book). Q [] x) (sym (s .1)) q)
+
+pub booking-place : (b : Book) (e : Event) → (booking b e .refusal ≡ 0) × (booking b e .place ≡ length (b .orders) + 1) × (booking b e .order ≡ bookedOrder b e)
+unfolding adding unchanged
+booking-place b e = (refl, refl, refl)
+
+pub booking-silent : (b : Book) (e : Event) → tells (booking b e) ≡ []
+unfolding adding unchanged spoken if_then_else_
+booking-silent b e = refl
+
+booked-fields : (b : Book) (e : Event) → (bookedOrder b e .names .name ≡ e .ids .name) × (bookedOrder b e .state .cumqty ≡ 0)
+unfolding bookedOrder
+booked-fields b e = (refl, refl)
+
+module _ (b : Book) (r : Ruled b) (e : Event) where
+  did-advances : (i : Decoded) (c : Change) → Did (Roomy (Moved b e) b) b e c → Advances b (lineOf b i c .messages) (lineOf b i c .left)
+  unfolding Moved Roomy
+  did-advances i c (turned-away z) = refused-of (Advances b) b i c z (still b [] b refl (λ client t. refl))
+  did-advances i c (no-order s n) =
+      line-of (Advances b) b i c (s .taken) (still b (tells c) (after b c) (after-orders b c ∙ orders-same (b .orders) c (s .nowhere)) (s .no-report))
+  did-advances i c (on-order j h t p) =
+      let m = p .0 in
+      line-of (Advances b) b i c t (changed-advances b r c j h m (after b c) (after-orders b c ∙ orders-set (b .orders) c j h (m .there)))
+  did-advances i c (new-order k u) =
+      let p = booking-place b e in
+      let o = bookedOrder b e in
+      let s = booked-fields b e in
+      line-of (Advances b) b i (booking b e) (p .0)
+      (subst (λ (ms : List Message). Advances b ms (after b (booking b e))) (sym (booking-silent b e))
+      (booked-advances b o (after b (booking b e))
+      (after-orders b (booking b e) ∙ orders-more (b .orders) (booking b e) (p .1) ∙ ap (λ (x : Order). b .orders ++ (x ∷ [])) (p .2))
+      (ap (findName b) (s .0) ∙ u) (s .1)))
+
+refusing-advances : (b : Book) (i : Decoded) (n : ℕ) → Advances b (lineOf b i (refusing n) .messages) (lineOf b i (refusing n) .left)
+refusing-advances b i n = go (decide (eqb n 0))
+  where
+    go : (eqb n 0 ≡ true) ⊎ (eqb n 0 ≡ false) → Advances b (lineOf b i (refusing n) .messages) (lineOf b i (refusing n) .left)
+    go (inl z) =
+        subst (λ (k : ℕ). Advances b (lineOf b i (refusing k) .messages) (lineOf b i (refusing k) .left)) (sym (eqb-true n 0 z))
+        (line-of (Advances b) b i (refusing 0) (refusing-bystands .taken)
+        (still b (tells (refusing 0)) (after b (refusing 0)) (after-orders b (refusing 0) ∙ orders-same (b .orders) (refusing 0) (refusing-bystands .nowhere)) (refusing-bystands .no-report)))
+    go (inr z) = refused-of (Advances b) b i (refusing n) (refusing-away n z) (still b [] b refl (λ client t. refl))
+
+pub call-advances : (b : Book) (i : Decoded) → Advances b (lineOf b i (comesTo b i) .messages) (lineOf b i (comesTo b i) .left)
+unfolding comesTo
+call-advances b (unread n) =
+    split-if (λ c. Advances b (lineOf b (unread n) c .messages) (lineOf b (unread n) c .left)) (rules b) (λ h. refusing-advances b (unread n) n) (λ h. refusing-advances b (unread n) 1)
+call-advances b (readAs e) =
+    split-if (λ c. Advances b (lineOf b (readAs e) c .messages) (lineOf b (readAs e) c .left)) (rules b)
+    (λ h. did-advances b (ruled b h) e (readAs e) (stepOf b e) (step-walk (Moved b e) b e (ruled b h) (handles-moved b e)))
+    (λ h. refusing-advances b (readAs e) 1)
+
+-- ---- the list
+
+pub record First3 (s : State) : Type 0 where
+  pub filled : Each s (λ o. toldOf (o .client) (o .names .name) (s .past) ≡ o .state .cumqty)
+  pub unbooked : (client : ℕ) (t : Text) → findName (s .book) t ≡ none → toldOf client t (s .past) ≡ 0
+  pub ordered : Each s (λ o. o .state .cumqty ≤ o .terms .qty)
+  pub done : All (λ e. (name : Text) (st : ℕ) → statusOf name (e .left) ≡ some st → isDone st ≡ true → statusOf name (s .book) ≡ some st) (s .past)
+
+start-first : (setting : ℕ) → First3 (start setting)
+start-first setting = record { filled = λ i h. absurd (not-suc-le-zero h); unbooked = λ client t h. refl; ordered = λ i h. absurd (not-suc-le-zero h); done = all[] }
+
+next-first : (s : State) (i : Decoded) → First3 s → First3 (next s i)
+next-first s i f =
+    let a = call-advances (s .book) i in
+    record {
+      filled = a .filled (λ client t. toldOf client t (s .past)) (f .filled) (f .unbooked);
+      unbooked = λ client t h. omega (arith, a .quiet client t h, f .unbooked client t (still-unused (s .book) _ (a .persists) t h));
+      ordered = a .ordered (f .ordered);
+      done = all∷ (λ name st h d. h) (map-all (λ e k name st h d. status-stays (s .book) _ (a .persists) name st (k name st h d) d) (f .done));
+    }
+
+module _ {In : Type 0} (read : In → Decoded) where
+  run-first : (s : State) (is : List In) → First3 s → First3 (run read s is)
+  run-first s [] f = f
+  run-first s (i ∷ is) f = run-first (next s (read i)) is (next-first s (read i) f)
+
+  pub first-three : (setting : ℕ) (is : List In) → First3 (run read (start setting) is)
+  first-three setting is = run-first (start setting) is (start-first setting)

@@ -1,0 +1,9 @@
+pub mod Laws
+pub mod Tables
+pub mod Local
+pub mod Keep
+pub mod Lift
+pub mod Steps
+pub mod Fits
+pub mod Whole
+pub mod Consequences

@@ -1,0 +1,7 @@
+pub mod Reads
+pub mod Maps
+pub mod Rows
+pub mod Messages
+pub mod Orders
+pub mod Changes
+pub mod Steps

@@ -1,0 +1,205 @@
+-- The orders and requests that messages tell of: those of a book that keeps its rules and is whole are in range, and each step of an order keeps that. Rests on Messages.
+use Prim.Native.Nat.{ℕ, _+_, _-_, _^_, _≤_, _<_}
+use native.Mathlib.Omega.{arith}
+use mathlib.Core.Path.{_≡_, refl, sym, _∙_}
+use mathlib.Core.Bool.{Bool, true, false, _||_}
+use mathlib.Core.List.{List}
+use lib.Dec.{eqb, leb}
+use lib.ListN.{length}
+use borrow.Author.Tests.{eqb-false, leb-true, le-leb, ltb-true}
+use Rattle.prelude.specs.Cases.{if-false, split-if, clash, both-true}
+use Rattle.prelude.specs.Texts.{isText, contents}
+use Rattle.prelude.specs.declared.Text.{Text}
+use Rattle.format.specs.Codes.{isStatus, statuses}
+use Rattle.store.specs.declared.Pending.{Pending}
+use Rattle.store.specs.declared.GatewayCancel.{GatewayCancel}
+use Rattle.store.specs.declared.Order.{Order}
+use Rattle.store.specs.declared.Request.{Request}
+use Rattle.store.specs.Book.{Book, requestIn}
+use Rattle.text.specs.Numbered.{numberedText, decimal}
+use Rattle.text.specs.NameLaws.{numbered-fits, numbered-is-text, numbered-long, numbered-len}
+use Rattle.machine.specs.Orders.{oneMore, statusAt, setStatus, keptOrderId, recordVenueOrderId, pendingTerms, applyReplace, nextSequence, nextExec, withState, withPending, withGateway}
+use Rattle.machine.specs.Changes.{isFirst, isGateway, nextNumber, nextDownstream, numberedOrder}
+use Rattle.machine.specs.Ranges.{isQty, isPrice, textWithin}
+use Rattle.machine.specs.Rules.{termsRange, filledRule}
+use Rattle.machine.specs.Whole.{WholeOrder, WholeRequest, WholeBook}
+use Rattle.machine.specs.declared.Facts.{Facts}
+use Rattle.machine.proofs.Numbered.{numbered-laws}
+use Rattle.machine.proofs.Kept.Laws.{kept-text, name-short}
+use Rattle.machine.proofs.Kept.Local.{OrderKept, NamesKept, names-kept, TermsKept, terms-kept, pending-parts}
+use Rattle.machine.proofs.Kept.Lift.{RangeKept, range-kept, BookKept}
+use Rattle.machine.proofs.Kept.Steps.{downstream-within}
+use Rattle.machine.proofs.Said.Rows.{Fine}
+use Rattle.machine.proofs.Said.Messages.{Told}
+
+-- ---- of a book
+
+pub order-told : (i : ℕ) (o : Order) (qs : List Request) → OrderKept i o qs → WholeOrder o → Told o
+unfolding filledRule isQty
+order-told i o qs l w =
+    let n : NamesKept (o .names) = names-kept (o .names) (l .names) in
+    let t : TermsKept (o .terms) = terms-kept (o .terms) (l .terms) in
+    let cum : o .state .cumqty ≤ o .terms .qty = leb-true (o .state .cumqty) (o .terms .qty) (l .filled) in
+    let most : o .terms .qty ≤ 1000000000000 = leb-true (o .terms .qty) (10 ^ 12) (t .qty) in
+    record {
+      client = w .client;
+      venue = w .venue;
+      names = record {
+        name = record { long = w .name .long; range = n .name };
+        clordid = record { long = w .clordid .long; range = n .clordid };
+        downstream = record { long = w .downstream .long; range = n .downstream };
+        symbol = record { long = w .symbol .long; range = n .symbol };
+        venueorderid = record { long = w .venueorderid .long; range = n .venueorderid };
+      };
+      terms = l .terms;
+      state = record { status = l .coded; cumqty = le-leb (o .state .cumqty) (10 ^ 12) (omega arith); avgpx = l .average; execseq = w .execseq };
+      amendments = omega (arith, w .amendments);
+      pending = λ some. pending-parts i o qs some l .terms;
+    }
+
+-- what messages take of a request
+pub record Asks (q : Request) : Type 0 where
+  pub kind : q .kind ≤ 3
+  pub clordid : isGateway q ≡ false → Fine 1 32 (q .clordid)
+  pub origclordid : isFirst q ≡ false → isGateway q ≡ false → Fine 1 32 (q .origclordid)
+  pub downstream : Fine 1 32 (q .downstream)
+
+pub request-asks : (b : Book) (j : ℕ) → BookKept b → WholeBook b → j < length (b .requests) → Asks (requestIn b j)
+request-asks b j good whole h =
+    let q : Request = requestIn b j in
+    let r : RangeKept q = range-kept q (good .request j h .range) in
+    let w : WholeRequest q = whole .request j h in
+    record {
+      kind = r .kind;
+      clordid = λ g. record { long = w .clordid .long; range = sym (if-false (isGateway q) (textWithin 0 0 (q .clordid)) (textWithin 1 32 (q .clordid)) g) ∙ r .clordid };
+      origclordid = λ f g. record {
+        long = w .origclordid .long;
+        range = sym (if-false (isFirst q || isGateway q) (textWithin 0 0 (q .origclordid)) (textWithin 1 32 (q .origclordid)) (rw (f, g) refl)) ∙ r .origclordid;
+      };
+      downstream = record { long = w .downstream .long; range = downstream-within numbered-laws b good j h };
+    }
+
+-- ---- the order's steps
+
+pub sequence-told : (o : Order) → Told o → Told (nextExec o)
+unfolding nextExec nextSequence pendingTerms
+sequence-told o k = record {
+  client = k .client;
+  venue = k .venue;
+  names = k .names;
+  terms = k .terms;
+  state = record {
+    status = k .state .status;
+    cumqty = k .state .cumqty;
+    avgpx = k .state .avgpx;
+    execseq = split-if (λ (n : ℕ). n < 2 ^ 64) _ (λ t. omega arith) (λ t. omega (arith, eqb-false (o .state .execseq) (2 ^ 64 - 1) t, k .state .execseq));
+  };
+  amendments = k .amendments;
+  pending = k .pending;
+}
+
+status-coded : (cumqty s : ℕ) → isStatus s ≡ true → isStatus (statusAt cumqty s) ≡ true
+unfolding statusAt
+status-coded cumqty s e = split-if (λ (t : ℕ). isStatus t ≡ true) _ (λ h. unfold isStatus statuses in refl) (λ h. e)
+
+-- quantities and a status; with its own quantities this is `setStatus` alone
+pub state-told : (s status cumqty avgpx execseq : ℕ) (o : Order) → isStatus s ≡ true → isQty cumqty ≡ true → isPrice avgpx ≡ true → execseq < 2 ^ 64 → Told o
+    → Told (setStatus s (withState (record { status = status; cumqty = cumqty; avgpx = avgpx; execseq = execseq }) o))
+unfolding setStatus pendingTerms
+state-told s status cumqty avgpx execseq o e q p x k = record {
+  client = k .client;
+  venue = k .venue;
+  names = k .names;
+  terms = k .terms;
+  state = record { status = status-coded cumqty s e; cumqty = q; avgpx = p; execseq = x };
+  amendments = k .amendments;
+  pending = split-if (λ (x : Pending). eqb (x .request) 0 ≡ false → termsRange (record { side = o .terms .side; ordtype = x .ordtype; timeinforce = x .timeinforce; qty = x .qty; price = x .price }) ≡ true) _
+      (λ d z. clash true refl z) (λ d. k .pending);
+}
+
+pub status-told : (s : ℕ) (o : Order) → isStatus s ≡ true → Told o → Told (setStatus s o)
+status-told s o e k = state-told s (o .state .status) (o .state .cumqty) (o .state .avgpx) (o .state .execseq) o e (k .state .cumqty) (k .state .avgpx) (k .state .execseq) k
+
+pub named-told : (given : Text) (r : Bool) (o : Order) → Fine 0 32 given → Told o → Told (recordVenueOrderId given r o)
+unfolding recordVenueOrderId keptOrderId pendingTerms
+named-told given r o g k = record {
+  client = k .client;
+  venue = k .venue;
+  names = record {
+    name = k .names .name;
+    clordid = k .names .clordid;
+    downstream = k .names .downstream;
+    symbol = k .names .symbol;
+    venueorderid = split-if (Fine 0 32) _ (λ t. k .names .venueorderid) (λ t. split-if (Fine 0 32) _ (λ t. g) (λ t. k .names .venueorderid));
+  };
+  terms = k .terms;
+  state = k .state;
+  amendments = k .amendments;
+  pending = k .pending;
+}
+
+pub pending-told : (p : Pending) (o : Order) → (eqb (p .request) 0 ≡ false → termsRange (pendingTerms (withPending p o)) ≡ true) → Told o → Told (withPending p o)
+pending-told p o t k = record {
+  client = k .client;
+  venue = k .venue;
+  names = k .names;
+  terms = k .terms;
+  state = k .state;
+  amendments = k .amendments;
+  pending = t;
+}
+
+pub gateway-told : (g : GatewayCancel) (o : Order) → Told o → Told (withGateway g o)
+unfolding pendingTerms
+gateway-told g o k = record {
+  client = k .client;
+  venue = k .venue;
+  names = k .names;
+  terms = k .terms;
+  state = k .state;
+  amendments = k .amendments;
+  pending = k .pending;
+}
+
+one-more : (n : ℕ) → n ≤ 65535 → oneMore 65535 n ≤ 65535
+unfolding oneMore
+one-more n h = split-if (λ (k : ℕ). k ≤ 65535) _ (λ t. omega (arith, ltb-true n 65535 t)) (λ t. h)
+
+pub numbered-told : (f : Facts) (cancels : Bool) (o : Order) → Told o → Told (numberedOrder f cancels o)
+unfolding numberedOrder nextNumber pendingTerms
+numbered-told f cancels o k = record {
+  client = k .client;
+  venue = k .venue;
+  names = k .names;
+  terms = k .terms;
+  state = k .state;
+  amendments = one-more (o .links .amendments) (k .amendments);
+  pending = k .pending;
+}
+
+pub replaced-told : (q : Request) (o : Order) → Fine 1 32 (q .clordid) → Fine 1 32 (q .downstream) → eqb (o .pending .request) 0 ≡ false → Told o → Told (applyReplace q o)
+unfolding applyReplace
+replaced-told q o c d some k = record {
+  client = k .client;
+  venue = k .venue;
+  names = record { name = k .names .name; clordid = c; downstream = d; symbol = k .names .symbol; venueorderid = k .names .venueorderid };
+  terms = k .pending some;
+  state = k .state;
+  amendments = k .amendments;
+  pending = λ z. clash true refl z;
+}
+
+-- the next numbered downstream ClOrdID fits, whatever the counter says
+pub next-fine : (o : Order) → Told o → Fine 1 32 (nextDownstream o)
+unfolding nextDownstream nextNumber isText
+next-fine o k =
+    let name : Text = o .names .name in
+    let n : ℕ = oneMore 65535 (o .links .amendments) in
+    let most : n ≤ 65535 = one-more (o .links .amendments) (k .amendments) in
+    let short : name .len ≤ 20 = name-short name (k .names .name .range) in
+    let long : numberedText name n .len ≡ length (contents name) + (length (decimal n) + 1) = numbered-len name n (numbered-fits name n (omega arith) (omega arith)) in
+    record {
+      long = numbered-long name n;
+      range = kept-text 1 32 (numberedText name n)
+          (record { stored = numbered-is-text name n; above = omega arith; below = leb-true (numberedText name n .len) 32 (both-true (leb (numberedText name n .len) 32) _ (numbered-is-text name n) .0) });
+    }

@@ -1,0 +1,13 @@
+pub mod FieldLaws
+pub mod Scan
+pub mod Fields
+pub mod Record
+pub mod Answer
+pub mod Reading
+pub mod Writing
+pub mod Right
+pub mod Back
+pub mod AnswerBack
+pub mod ReadingAnswer
+pub mod Accepted
+pub mod Ranges

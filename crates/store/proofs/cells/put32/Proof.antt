@@ -1,0 +1,14 @@
+-- `put32` meets its contract. Assumes nothing.
+use borrow.Author.Needs.{needs}
+use Rattle.store.proofs.cells.put32.Statement.{statement}
+use Rattle.store.proofs.cells.put32.Tie as tie
+
+pub put32-spec : {M : Type 1} → statement M
+put32-spec =
+    tie.close
+    (tie.spec
+    (λ c κs. search needs)
+    (λ c. search needs)
+    (λ c κs. search needs)
+    (λ c. search needs)
+    (λ c. cc))

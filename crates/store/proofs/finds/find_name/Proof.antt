@@ -1,0 +1,52 @@
+-- `find_name` meets its contract: no record below i passes. Rests on Finds.
+use mathlib.Core.Path.{_≡_, sym, ap, _∙_}
+use mathlib.Core.Option.{none}
+use Prim.Native.Nat.{_≤_, _<_, _-_}
+use native.Mathlib.Omega.{arith}
+use Rattle.prelude.specs.Below.{firstBelow, first-none, first-more, first-hit, first-done}
+use Rattle.store.specs.Book.{orderCount}
+use Rattle.store.specs.Laws.{count-book, count-most}
+use Rattle.store.specs.Finds.{namedAt, foundOf, find-name-bytes}
+use borrow.Author.Needs.{needs}
+use Rattle.store.proofs.finds.find_name.Statement.{statement}
+use Rattle.store.proofs.finds.find_name.Tie as tie
+
+abbrev Inv-loop : tie.InvT-loop
+Inv-loop book t n i₀ i = (i ≤ n) × (n ≡ orderCount book) × (firstBelow (namedAt book t) i ≡ none)
+
+abbrev μ-loop : tie.MeasureT-loop
+μ-loop book t n i₀ i = n - i
+
+named-requires : tie.Need-named-requires Inv-loop μ-loop
+named-requires c κs = let l = c .before .loop in
+    let b = c .before .before .before .before .args .book .now in
+    let h : l .i < orderCount b = omega (arith, l .inv .1) in
+    (count-book 0 64 b (l .i) h, omega (arith, count-most 0 64 b))
+
+returns : tie.Need-returns Inv-loop μ-loop
+returns c = let l = c .before .before .before .loop in
+    let a = c .before .before .before .before .before .before .args in
+    sym (ap foundOf (find-name-bytes (a .book .now) (a .t) ∙ first-hit _ _ (l .i) (omega (arith, l .inv .1)) (l .inv .2) (rw (← c .before .named .ensures, c .if1 .taken))))
+
+loop-again : tie.Need-loop-again Inv-loop μ-loop
+loop-again c = (search needs, search needs, first-more _ _ (c .before .before .before .loop .inv .2) (rw (← c .before .named .ensures, c .if1 .left)))
+
+returns-2 : tie.Need-returns-2 Inv-loop μ-loop
+returns-2 c = let l = c .before .loop in
+    let a = c .before .before .before .before .args in
+    sym (ap foundOf (find-name-bytes (a .book .now) (a .t) ∙ first-done _ _ (l .i) (l .inv .2) (omega (arith, l .inv .1)) (omega (arith, l .inv .1))))
+
+pub find-name-spec : {M : Type 1} → statement M
+find-name-spec =
+    tie.close
+    (tie.spec
+    Inv-loop
+    μ-loop
+    (λ c κs. search needs)
+    (λ c. (search needs, c .order-count .ensures, first-none _))
+    named-requires
+    returns
+    (λ c. search needs)
+    (λ c. search needs)
+    loop-again
+    returns-2)

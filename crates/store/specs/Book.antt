@@ -1,0 +1,129 @@
+-- The book: its records in use as lists, what the bytes of one say, and what each function makes of the bytes.
+-- Rests on Layout, Orders and Requests. A buffer of another length than 65,536 is an empty book, and no function changes it.
+-- A count in the header that is above the table's size counts as the table's size.
+use mathlib.Core.Bool.{Bool, _&&_}
+use mathlib.Core.List.{List, [], _∷_, _++_}
+use Prim.Native.Nat.{ℕ, _+_, min}
+use lib.Dec.{eqb, ltb}
+use lib.ListN.{length, getD, set, replicate}
+use Rattle.prelude.specs.Cases.{if_then_else_}
+use Rattle.prelude.specs.Lists.{listBelow}
+use Rattle.prelude.specs.Number.{word16, word32, bytesOf}
+use Rattle.prelude.specs.Span.{splice}
+use Rattle.prelude.specs.Table.{rowAt, putRow}
+use Rattle.store.specs.declared.Order.{Order}
+use Rattle.store.specs.declared.Request.{Request}
+use Rattle.store.specs.Layout.{bookSize, header·orders, header·requests, header·setting, ordersAt, orderSize, mostOrders, requestsAt, requestSize, mostRequests, requestBase, request·answered}
+use Rattle.store.specs.Orders.{decodeOrder, encodeOrder, noOrder}
+use Rattle.store.specs.Requests.{decodeRequest, encodeRequest, noRequest}
+
+pub record Book : Type 0 where
+  pub setting : ℕ
+  pub orders : List Order
+  pub requests : List Request
+
+abbrev pub orderIn : Book → ℕ → Order
+orderIn b i = getD (b .orders) i noOrder
+
+abbrev pub requestIn : Book → ℕ → Request
+requestIn b i = getD (b .requests) i noRequest
+
+-- ---- records in the bytes
+
+unfoldable pub orderAt : List ℕ → ℕ → Order
+orderAt b i = rowAt ordersAt orderSize decodeOrder b i
+
+unfoldable pub putOrder : List ℕ → ℕ → Order → List ℕ
+putOrder b i o = putRow ordersAt orderSize encodeOrder b i o
+
+unfoldable pub requestAt : List ℕ → ℕ → Request
+requestAt b i = rowAt requestsAt requestSize decodeRequest b i
+
+unfoldable pub putRequest : List ℕ → ℕ → Request → List ℕ
+putRequest b i r = putRow requestsAt requestSize encodeRequest b i r
+
+-- ---- the header
+
+abbrev pub isBook : List ℕ → Bool
+isBook b = eqb (length b) bookSize
+
+-- the count at an index, at most `most`
+unfoldable pub countAt : ℕ → ℕ → List ℕ → ℕ
+countAt at most b = if isBook b then min most (word16 b at) else 0
+
+abbrev pub orderCount : List ℕ → ℕ
+orderCount b = countAt header·orders mostOrders b
+
+abbrev pub requestCount : List ℕ → ℕ
+requestCount b = countAt header·requests mostRequests b
+
+unfoldable pub settingOf : List ℕ → ℕ
+settingOf b = if isBook b then word32 b header·setting else 0
+
+-- THE BOOK that the bytes are
+unfoldable pub bookOf : List ℕ → Book
+bookOf b = record {
+  setting = settingOf b;
+  orders = listBelow (orderAt b) (orderCount b);
+  requests = listBelow (requestAt b) (requestCount b);
+}
+
+-- ---- what the functions give and leave
+
+unfoldable pub loadOrder : List ℕ → ℕ → Order
+loadOrder b i = if isBook b && ltb i mostOrders then orderAt b i else noOrder
+
+unfoldable pub loadRequest : List ℕ → ℕ → Request
+loadRequest b i = if isBook b && ltb i mostRequests then requestAt b i else noRequest
+
+unfoldable pub storeOrder : List ℕ → ℕ → Order → List ℕ
+storeOrder b i o = if isBook b && ltb i mostOrders then putOrder b i o else b
+
+unfoldable pub storeRequest : List ℕ → ℕ → Request → List ℕ
+storeRequest b i r = if isBook b && ltb i mostRequests then putRequest b i r else b
+
+unfoldable pub setCount : List ℕ → ℕ → ℕ → List ℕ
+setCount b at n = splice b at (bytesOf 2 n)
+
+unfoldable pub addOrder : List ℕ → Order → List ℕ
+addOrder b o = if isBook b && ltb (orderCount b) mostOrders then setCount (putOrder b (orderCount b) o) header·orders (orderCount b + 1) else b
+
+unfoldable pub addRequest : List ℕ → Request → List ℕ
+addRequest b r =
+    if isBook b && ltb (requestCount b) mostRequests then setCount (putRequest b (requestCount b) r) header·requests (requestCount b + 1) else b
+
+unfoldable pub markAnswered : List ℕ → ℕ → List ℕ
+markAnswered b i = if isBook b && ltb i mostRequests then splice b (requestBase i + request·answered) (1 ∷ []) else b
+
+abbrev pub zeros : ℕ → List ℕ
+zeros n = replicate n 0
+
+-- an empty book with its setting
+unfoldable pub blank : ℕ → List ℕ
+blank setting = splice (zeros bookSize) header·setting (bytesOf 4 setting)
+
+unfoldable pub clearBook : List ℕ → ℕ → List ℕ
+clearBook b setting = if isBook b then blank setting else b
+
+-- ---- the same on the book
+
+abbrev pub withOrder : Book → ℕ → Order → Book
+withOrder b i o = record { setting = b .setting; orders = set (b .orders) i o; requests = b .requests }
+
+abbrev pub withRequest : Book → ℕ → Request → Book
+withRequest b i r = record { setting = b .setting; orders = b .orders; requests = set (b .requests) i r }
+
+abbrev pub plusOrder : Book → Order → Book
+plusOrder b o = record { setting = b .setting; orders = b .orders ++ (o ∷ []); requests = b .requests }
+
+abbrev pub plusRequest : Book → Request → Book
+plusRequest b r = record { setting = b .setting; orders = b .orders; requests = b .requests ++ (r ∷ []) }
+
+abbrev pub answered : Request → Request
+answered r = record { order = r .order; kind = r .kind; answered = 1; clordid = r .clordid; origclordid = r .origclordid; downstream = r .downstream }
+
+abbrev pub withAnswered : Book → ℕ → Book
+withAnswered b i = withRequest b i (answered (requestIn b i))
+
+abbrev pub emptyBook : ℕ → Book
+emptyBook setting = record { setting = setting; orders = []; requests = [] }

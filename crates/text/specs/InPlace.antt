@@ -1,0 +1,69 @@
+-- Comparison and range of a text, byte by byte: what loops over its bytes show. Rests on Words.
+use mathlib.Core.Path.{_≡_, refl, sym, ap, _∙_}
+use mathlib.Core.Bool.{Bool, true, false, _&&_}
+use mathlib.Core.List.{List}
+use Prim.Native.Nat.{ℕ, _+_, _<_, _≤_}
+use native.Mathlib.Numerals.{add-one}
+use native.Mathlib.Omega.{arith}
+use borrow.Author.Tests.{eqb-true, eqb-false, eq-eqb, ne-eqb, lt-ltb, le-ltb, le-leb}
+use lib.Bits.{bitOr, or-add-and, and-le-l, and-le-r}
+use lib.Dec.{eqb}
+use lib.ListN.{length, getD}
+use Rattle.prelude.specs.Below.{allBelow, all-miss, all-intro}
+use Rattle.prelude.specs.Cases.{both-false}
+use Rattle.prelude.specs.Span.{span, get-span}
+use Rattle.prelude.specs.Texts.{textAt, agreeAt, sameText, filledAt, isText}
+use Rattle.prelude.specs.declared.Text.{Text}
+use Rattle.text.specs.Words.{textIs, textFine}
+
+-- a byte that differs, and none that does
+module _ (s : List ℕ) (at : ℕ) (t : Text) where
+  pub text-differs : (k : ℕ) → k < 32 → (getD s (at + k) 0 ≡ getD (t .bytes) k 0 → ⊥) → sameText (textAt s at) t ≡ false
+  unfolding sameText
+  text-differs k h d =
+      ap (λ (b : Bool). eqb (getD s (at + 32) 0) (t .len) && b)
+      (all-miss (agreeAt (span s at 32) (t .bytes)) 32 k h (rw (get-span s at 32 k h) (ne-eqb _ _ d)))
+      ∙ both-false (eqb (getD s (at + 32) 0) (t .len))
+
+  pub text-agrees : getD s (at + 32) 0 ≡ t .len → allBelow (agreeAt (span s at 32) (t .bytes)) 32 ≡ true → sameText (textAt s at) t ≡ true
+  unfolding sameText
+  text-agrees e a = rw (eq-eqb _ _ e) a
+
+-- where the slice goes on far enough, the text in place is the text
+pub text-is-here : (s : List ℕ) (at : ℕ) (t : Text) → at + 33 ≤ length s → textIs s at t ≡ sameText (textAt s at) t
+unfolding textIs
+text-is-here s at t h = rw (le-leb (at + 33) (length s) h)
+
+pub text-fine-here : (s : List ℕ) (at : ℕ) → at + 33 ≤ length s → textFine s at ≡ isText (textAt s at)
+unfolding textFine
+text-fine-here s at h = rw (le-leb (at + 33) (length s) h)
+
+-- ---- zeros behind a text, gathered by OR
+
+or-none : (a b : ℕ) → bitOr a b ≡ 0 → (a ≡ 0) × (b ≡ 0)
+or-none a b e = (omega (arith, or-add-and a b, and-le-r a b, e), omega (arith, or-add-and a b, and-le-l a b, e))
+
+or-zero : (a b : ℕ) → eqb (bitOr a b) 0 ≡ eqb a 0 && eqb b 0
+or-zero a b = go (eqb a 0) (eqb b 0) refl refl
+  where
+    go : (u v : Bool) → eqb a 0 ≡ u → eqb b 0 ≡ v → eqb (bitOr a b) 0 ≡ u && v
+    go true true p q = rw (eqb-true a 0 p, eqb-true b 0 q)
+    go true false p q = ne-eqb (bitOr a b) 0 (λ e. eqb-false b 0 q (or-none a b e .1))
+    go false v p q = ne-eqb (bitOr a b) 0 (λ e. eqb-false a 0 p (or-none a b e .0))
+
+all-step : (p : ℕ → Bool) (k : ℕ) → allBelow p (k + 1) ≡ allBelow p k && p k
+unfolding allBelow
+all-step p k = rw add-one
+
+module _ (t : Text) where
+  -- the bytes of the text itself are not looked at
+  pub fill-none : allBelow (filledAt t) (t .len) ≡ true
+  fill-none = all-intro (filledAt t) (t .len) (λ k h. rw (lt-ltb k (t .len) h))
+
+  -- one byte more
+  pub fill-more : (k a x : ℕ) → t .len ≤ k → getD (t .bytes) k 0 ≡ x → eqb a 0 ≡ allBelow (filledAt t) k
+      → eqb (bitOr a x) 0 ≡ allBelow (filledAt t) (k + 1)
+  fill-more k a x l g e =
+      or-zero a x
+      ∙ ap (λ (v : Bool). v && eqb x 0) e
+      ∙ sym (all-step (filledAt t) k ∙ ap (λ (v : Bool). allBelow (filledAt t) k && v) (rw (le-ltb k (t .len) l, g)))

@@ -1,0 +1,5 @@
+pub mod More
+pub mod Words
+pub mod InPlace
+pub mod Numbered
+pub mod NameLaws
