@@ -12,18 +12,18 @@ use store::Request;
 use store::State;
 
 // One letter, a dash and k.
-pub fn label(letter: u8, k: u16) -> Text {
+pub(crate) fn label(letter: u8, k: u16) -> Text {
     let t = text::no_text();
     let mut bytes = t.bytes;
     bytes[0] = letter;
     text::numbered(Text { bytes, len: 1 }, k)
 }
 
-pub fn name(i: u16) -> Text {
+pub(crate) fn name(i: u16) -> Text {
     label(b'N', i)
 }
 
-pub fn client(i: u16) -> u16
+pub(crate) fn client(i: u16) -> u16
     ensures { λ r. ⌜ r < 8 ⌝ }
 {
     i % 8
@@ -94,7 +94,7 @@ fn gateway(i: u16) -> GatewayCancel {
     }
 }
 
-pub fn order(i: u16, turn: u16) -> Order {
+pub(crate) fn order(i: u16, turn: u16) -> Order {
     let names = names(i, turn);
     let terms = terms(i, turn);
     let state = state(i, turn);
@@ -118,19 +118,19 @@ pub fn order(i: u16, turn: u16) -> Order {
 }
 
 // The fourth of an order's requests is a gateway cancel: it has no ClOrdID.
-pub fn clordid(j: u16) -> Text {
+pub(crate) fn clordid(j: u16) -> Text {
     if j % 4 == 3 {
         return text::no_text();
     }
     label(b'K', j)
 }
 
-pub fn downstream(j: u16) -> Text {
+pub(crate) fn downstream(j: u16) -> Text {
     label(b'R', j)
 }
 
 // Four requests for each order.
-pub fn request(j: u16, answered: u8) -> Request {
+pub(crate) fn request(j: u16, answered: u8) -> Request {
     let clordid = clordid(j);
     let origclordid = label(b'O', j / 2);
     let downstream = downstream(j);
@@ -185,7 +185,7 @@ fn same_gateway(a: GatewayCancel, b: GatewayCancel) -> bool {
         && a.refusedsends == b.refusedsends
 }
 
-pub fn same_order(a: Order, b: Order) -> bool {
+pub(crate) fn same_order(a: Order, b: Order) -> bool {
     let names = same_names(a.names, b.names);
     let terms = same_terms(a.terms, b.terms);
     let state = same_state(a.state, b.state);
@@ -202,7 +202,7 @@ pub fn same_order(a: Order, b: Order) -> bool {
         && gateway
 }
 
-pub fn same_request(a: Request, b: Request) -> bool {
+pub(crate) fn same_request(a: Request, b: Request) -> bool {
     let clordid = text::same_text(a.clordid, b.clordid);
     let origclordid = text::same_text(a.origclordid, b.origclordid);
     let downstream = text::same_text(a.downstream, b.downstream);

@@ -50,7 +50,7 @@ fn scale(d: u64) -> u32
 
 // `hi * 2^64 + lo` divided by `d`: both are shifted until the highest bit of `d` is set, which
 // leaves the quotient and shifts the rest.
-pub fn divide(hi: u64, lo: u64, d: u64) -> Divided
+pub(crate) fn divide(hi: u64, lo: u64, d: u64) -> Divided
     requires { ⌜ hi < d ⌝ }
     ensures { λ r. ⌜ Divides (hi * 2 ^ 64 + lo) d (r .quotient) (r .rest) ⌝ }
 {
