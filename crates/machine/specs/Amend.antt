@@ -105,13 +105,17 @@ samePrice none (some q) = false
 samePrice (some p) none = false
 samePrice (some p) (some q) = eqb p q
 
--- `check_replace`: the verdict that the event brings, passed over where no risk is added. Verdict v is text 11 + v.
+-- the text of a verdict: 11 more, or the last text at the top of the field's range, which the format keeps away
+unfoldable pub verdictText : ℕ → ℕ
+verdictText v = if ltb v 244 then 11 + v else 255
+
+-- `check_replace`: the verdict that the event brings, passed over where no risk is added
 unfoldable pub checkReplace : Order → Event → Refusal
 checkReplace o e =
     if samePrice (limitPrice (orOwn (e .terms .ordtype) (o .terms .ordtype)) (priceOf e)) (limitPrice (o .terms .ordtype) (some (o .terms .price)))
     && leb (e .terms .qty) (o .terms .qty) then passes
     else if eqb (e .verdict) 0 then passes
-    else refusal other (11 + e .verdict)
+    else refusal other (verdictText (e .verdict))
 
 unfoldable pub replaceRefusal : Facts → Order → Event → Refusal
 replaceRefusal f o e =

@@ -120,7 +120,7 @@ alarming a c = record {
 
 -- the link of a request that is added
 unfoldable pub nextLink : Facts → ℕ
-nextLink f = f .requests + 1
+nextLink f = oneMore 65535 (f .requests)
 
 unfoldable pub nextNumber : Order → ℕ
 nextNumber o = oneMore 65535 (o .links .amendments)

@@ -37,7 +37,7 @@ use Rattle.machine.specs.declared.Refused.{Refused}
 use Rattle.machine.specs.declared.Change.{Change}
 use Rattle.machine.proofs.Kept.Laws.{both, or-left, or-right, or-else, and-else, and-tail, not-is, is-not}
 use Rattle.machine.proofs.Kept.Tables.{at, Linked, linked-at, linked-new, length-answer, owned, owned-answer, amendments-at}
-use Rattle.machine.proofs.Kept.Local.{OrderKept, Flights, Quiet, settled, InFlight, in-flight, flight-rule, settled-flight, quiet-flights, quiet-unsent, quiet-latest, quiet-answer, answer-kept, next-owned, own-kept, gateway-live, terms-kept, sequence-kept, named-kept, gateway-kept, pending-kept, cleared-kept, state-kept, pending-parts, replaced-kept}
+use Rattle.machine.proofs.Kept.Local.{OrderKept, Flights, Quiet, settled, InFlight, in-flight, flight-rule, settled-flight, quiet-flights, quiet-unsent, quiet-latest, quiet-answer, answer-kept, one-more, next-link, next-owned, own-kept, gateway-live, terms-kept, sequence-kept, named-kept, gateway-kept, pending-kept, cleared-kept, state-kept, pending-parts, replaced-kept}
 
 -- ---- the law of a change to order i
 
@@ -206,10 +206,6 @@ pub tries-unsent : (g : GatewayCancel) → g .unsent ≡ true → triesRule g �
 unfolding triesRule
 tries-unsent g u e = leb-true (g .tries) 2 (sym (ap (λ (n : ℕ). leb (g .tries) n) (if-true (g .unsent) 2 3 u)) ∙ e)
 
-one-more : (top n : ℕ) → n < top → oneMore top n ≡ n + 1
-unfolding oneMore
-one-more top n h = if-true (ltb n top) (n + 1) n (lt-ltb n top h)
-
 -- one stage is not two
 pub not-stuck : (n : ℕ) (g : GatewayCancel) → g .unsent ≡ true → gatewayRange n g ≡ true → g .stuck ≡ false
 unfolding gatewayRange
@@ -230,7 +226,7 @@ module _ (b : Book) (i : ℕ) (f : Facts) (o : Order) (here : Here b i f o) (c :
   gateway-request = nextRequest f (c .order) gatewayKind noText noText
 
   send-order : Sends b i c → OrderKept i (withGateway (trySent (c .order)) (numberedOrder f true (c .order))) (settledBy (b .requests) c ++ (gateway-request ∷ []))
-  unfolding gateway-request trySent numberedOrder nextNumber nextLink if_then_else_
+  unfolding gateway-request trySent numberedOrder nextNumber if_then_else_
   send-order s =
       let p : Order = c .order in
       let qs : List Request = settledBy (b .requests) c in
@@ -245,7 +241,7 @@ module _ (b : Book) (i : ℕ) (f : Facts) (o : Order) (here : Here b i f o) (c :
       own-kept i qs (nextRequest f p gatewayKind noText noText) f true (withGateway (trySent p) p) (here .count ∙ sym n) (omega arith)
       (unfold nextRequest in let e : f .place ≡ i + 1 = here .place in omega arith) (λ e. unfold isCancel isFirst isReplace nextRequest in refl)
       (quiet-flights i _ qs quiet)
-      (flight-rule (length qs + 1) _ _ (record { latest = ap (λ (k : ℕ). k + 1) (here .count ∙ sym n); tried = omega arith; sent = refl; free = s .free }))
+      (flight-rule (length qs + 1) _ _ (record { latest = next-link f (length qs) (here .count ∙ sym n) (omega arith); tried = omega arith; sent = refl; free = s .free }))
       g
 
   send-added : Sends b i c → Added b i (withGateway (trySent (c .order)) (numberedOrder f true (c .order))) gateway-request
@@ -795,13 +791,16 @@ module _ (b : Book) (i : ℕ) (f : Facts) (o : Order) (here : Here b i f o) wher
         force : forceRange (orOwn (e .terms .timeinforce) (o .terms .timeinforce)) ≡ true
         force = unfold orOwn in split-if (λ (n : ℕ). forceRange n ≡ true) _ (λ t. terms-kept (o .terms) (here .kept .terms) .timeinforce) (λ t. ranged .timeinforce)
 
+        link : nextLink f ≡ length (b .requests) + 1
+        link = next-link f (length (b .requests)) (here .count) (here .few)
+
         range : pendingRange (newPending f (newTerms o e)) ≡ true
-        range = unfold newPending newTerms pendingRange nextLink in
-            if-false (eqb (f .requests + 1) 0) _ _ (ne-eqb (f .requests + 1) 0 (λ z. omega arith)) ∙ both (both (priced-range (orOwn (e .terms .ordtype) (o .terms .ordtype)) e ranged listed priced) force) (ranged .qty)
+        range = unfold newPending newTerms pendingRange in
+            if-false (eqb (nextLink f) 0) _ _ (ne-eqb (nextLink f) 0 (λ z. omega (arith, link))) ∙ both (both (priced-range (orOwn (e .terms .ordtype) (o .terms .ordtype)) e ranged listed priced) force) (ranged .qty)
 
         rule : pendingRule i (newPending f (newTerms o e) .request) (b .requests ++ (x ∷ [])) ≡ true
-        rule = unfold newPending nextLink pendingRule in or-right (eqb (f .requests + 1) 0)
-            (subst (λ (n : ℕ). linked pendingTest i (n + 1) (b .requests ++ (x ∷ [])) ≡ true) (sym (here .count))
+        rule = unfold newPending pendingRule in or-right (eqb (nextLink f) 0)
+            (subst (λ (n : ℕ). linked pendingTest i n (b .requests ++ (x ∷ [])) ≡ true) (sym link)
             (linked-new pendingTest i (b .requests) x (unfold nextRequest in let z : f .place ≡ i + 1 = here .place in omega arith) (unfold isReplace isAnswered nextRequest in refl)))
 
         kept : OrderKept i p (b .requests ++ (x ∷ []))

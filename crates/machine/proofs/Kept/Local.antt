@@ -198,6 +198,15 @@ gateway-more n g e =
     let (e, r3) = both-true _ _ e in let (r1, r2) = both-true (not (g .unsent && g .stuck)) (leb (g .origdownstream) n) e in
     both (both r1 (le-leb (g .origdownstream) (n + 1) (let h : g .origdownstream ≤ n = leb-true (g .origdownstream) n r2 in omega arith))) r3
 
+pub one-more : (top n : ℕ) → n < top → oneMore top n ≡ n + 1
+unfolding oneMore
+one-more top n h = if-true (ltb n top) (n + 1) n (lt-ltb n top h)
+
+-- the link of the request that is added
+pub next-link : (f : Facts) (n : ℕ) → f .requests ≡ n → n ≤ 256 → nextLink f ≡ n + 1
+unfolding nextLink
+next-link f n e h = one-more 65535 (f .requests) (omega arith) ∙ ap (λ (k : ℕ). k + 1) e
+
 -- the next number is that of the requests so far
 pub next-owned : (i : ℕ) (o : Order) (qs : List Request) → length qs ≤ 256 → amendmentsRule i (o .links .amendments) qs ≡ true → nextNumber o ≡ owned i qs
 unfolding nextNumber oneMore
@@ -246,7 +255,7 @@ module _ (i : ℕ) (qs : List Request) (x : Request) where
   pub own-kept : (f : Facts) (cancels : Bool) (o : Order) → f .requests ≡ length qs → length qs ≤ 256 → x .order ≡ i → (cancels ≡ true → isCancel x ≡ true)
       → Flights i (numberedOrder f cancels o) qs → inFlightRule (length qs + 1) x (numberedOrder f cancels o) ≡ true
       → OrderKept i o qs → OrderKept i (numberedOrder f cancels o) (qs ++ (x ∷ []))
-  unfolding numberedOrder nextLink filledRule doneRule hasPending hasGateway
+  unfolding numberedOrder filledRule doneRule hasPending hasGateway
   own-kept f cancels o n room own c old fresh l =
       record {
         names = l .names;
@@ -267,9 +276,9 @@ module _ (i : ℕ) (qs : List Request) (x : Request) where
         flight = flight-more (numberedOrder f cancels o) old (λ e. fresh);
       }
     where
-      new : isCancel x ≡ true → cancelRule i (f .requests + 1) (qs ++ (x ∷ [])) ≡ true
-      new t = unfold cancelRule in or-right (eqb (f .requests + 1) 0)
-          (subst (λ (k : ℕ). linked isCancel i (k + 1) (qs ++ (x ∷ [])) ≡ true) (sym n) (linked-new isCancel i qs x own t))
+      new : isCancel x ≡ true → cancelRule i (nextLink f) (qs ++ (x ∷ [])) ≡ true
+      new t = subst (λ (k : ℕ). cancelRule i k (qs ++ (x ∷ [])) ≡ true) (sym (next-link f (length qs) n room))
+          (unfold cancelRule in or-right (eqb (length qs + 1) 0) (linked-new isCancel i qs x own t))
 
 -- ---- the order's steps
 

@@ -7,7 +7,7 @@ use mathlib.Core.Logic.{⊎-elim}
 use mathlib.Core.Bool.{Bool, true, false, not, _&&_}
 use mathlib.Core.List.{[], _∷_}
 use lib.Dec.{eqb, leb, lit<}
-use borrow.Author.Tests.{eqb-true, eqb-false, eq-eqb, ne-eqb, leb-true, le-leb, not-true, not-false}
+use borrow.Author.Tests.{eqb-true, eqb-false, eq-eqb, ne-eqb, leb-true, le-leb, lt-ltb, not-true, not-false}
 use Rattle.prelude.specs.Cases.{if_then_else_, split-if, clash, both-true, both-false, either-true}
 use Rattle.prelude.specs.declared.Text.{Text}
 use Rattle.wide.specs.Wide.{fillPrice}
@@ -27,7 +27,7 @@ use Rattle.machine.specs.Orders.{isEmpty, setStatus, recordVenueOrderId,
 use Rattle.machine.specs.Messages.{noNote}
 use Rattle.machine.specs.Changes.{Event, Message, unchanged, refusing, answering, superseding, adding, telling, alarming, isFirst, isReplace, isGateway, isCancel, nextDownstream, numberedOrder}
 use Rattle.machine.specs.GatewayCancel.{begun, trySent, sendGatewayCancel, cancelOrder, resumeGatewayCancel, stuck, retryGatewayCancel, gatewayCancelRefused}
-use Rattle.machine.specs.Amend.{has, passes, refusal, amendRefusal, refuse, alreadyTaken, statusReport, cancelRefusal, cancelGoes, cancel, orOwn, checkReplace, replaceRefusal, newTerms, pricedRight, newPending, replaceGoes, replace, notPending, refusedOrder, refusedNote, refuseRequest, venueNote, venueCancelReject, firstFailed, sendFailed, resendable, unsent}
+use Rattle.machine.specs.Amend.{has, passes, refusal, amendRefusal, refuse, alreadyTaken, statusReport, cancelRefusal, cancelGoes, cancel, orOwn, verdictText, checkReplace, replaceRefusal, newTerms, pricedRight, newPending, replaceGoes, replace, notPending, refusedOrder, refusedNote, refuseRequest, venueNote, venueCancelReject, firstFailed, sendFailed, resendable, unsent}
 use Rattle.machine.specs.Report.{unknownAtVenue, isRejection, pendingHere, droppedStale, droppedRepeat, statusTaken, accepts, answersRequest, reportedOrder, fillPriceOf, reportNote, clientReport, settles, applyReport, venueReport}
 use Rattle.machine.specs.Events.{Ranged}
 use Rattle.machine.specs.Ranges.{isQty, isPrice}
@@ -417,10 +417,14 @@ unfolding cancelRefusal
 cancel-refuses f o = or-known _ _ refl no-refusal
 
 -- the verdicts 1 to 7 are the texts 12 to 18
+verdict-text : (v : ℕ) → v ≤ 7 → verdictText v ≡ 11 + v
+unfolding verdictText if_then_else_
+verdict-text v h = rw (lt-ltb v 244 (omega arith))
+
 replace-refuses : (f : Facts) (o : Order) (e : Event) → e .verdict ≤ 7 → Refuses (replaceRefusal f o e)
 unfolding replaceRefusal checkReplace
 replace-refuses f o e v =
-    let verdict : Refuses (refusal other (11 + e .verdict)) = record { reason = omega arith; fixedtext = omega arith } in
+    let verdict : Refuses (refusal other (verdictText (e .verdict))) = record { reason = omega arith; fixedtext = rw (verdict-text (e .verdict) v) (omega arith) } in
     or-known _ _ refl (or-known _ _ refl (or-known _ _ refl (or-known _ _ refl (or-known _ _ refl (or-known _ _ refl verdict)))))
 
 module _ (f : Facts) (o : Order) (e : Event) (h : Right e) (clordid : Fine 1 32 (e .ids .clordid)) (origclordid : Fine 1 32 (e .ids .origclordid)) where

@@ -1,0 +1,37 @@
+-- `book::amend::cancel` is `cancel`. Assumes nothing.
+use borrow.Author.Needs.{needs}
+use borrow.Author.Tests.{eq-eqb, ne-eqb}
+use Rattle.prelude.specs.Cases.{if_then_else_}
+use Rattle.machine.specs.Amend.{cancel}
+use Rattle.book.proofs.amend.cancel.Statement.{statement}
+use Rattle.book.proofs.amend.cancel.Tie as tie
+
+returns : tie.Need-returns
+unfolding cancel if_then_else_
+returns c =
+    let c1 = c .before in
+    let c2 = c1 .before in
+    rw (← c2 .already-taken .ensures, c1 .if1 .taken, ← c .status-report .ensures)
+
+returns-2 : tie.Need-returns-2
+unfolding cancel if_then_else_
+returns-2 c =
+    let c1 = c .before in
+    let c2 = c1 .before .before in
+    let c3 = c2 .before in
+    let c4 = c3 .before in
+    let c5 = c4 .before in
+    rw (← c5 .already-taken .ensures, c4 .if1 .left, ← c3 .cancel-refusal .ensures, ← c2 .amend-refusal .ensures, ne-eqb _ _ (c1 .if2 .taken), ← c .refuse .ensures)
+
+returns-3 : tie.Need-returns-3
+unfolding cancel if_then_else_
+returns-3 c =
+    let c1 = c .before in
+    let c2 = c1 .before .before in
+    let c3 = c2 .before in
+    let c4 = c3 .before in
+    let c5 = c4 .before in
+    rw (← c5 .already-taken .ensures, c4 .if1 .left, ← c3 .cancel-refusal .ensures, ← c2 .amend-refusal .ensures, eq-eqb _ _ (c1 .if2 .left), ← c .cancel-goes .ensures)
+
+pub cancel-spec : {M : Type 1} → statement M
+cancel-spec = tie.close (tie.spec (λ c κs. search needs) (λ c κs. search needs) returns (λ c κs. search needs) (λ c κs. search needs) (λ c κs. search needs) returns-2 (λ c κs. search needs) returns-3)

@@ -1,0 +1,14 @@
+-- `book::refuse::venue_note` is `venueNote`. Assumes nothing.
+use borrow.Author.Needs.{needs}
+use Rattle.machine.specs.Amend.{venueNote}
+use Rattle.book.proofs.refuse.venue_note.Statement.{statement}
+use Rattle.book.proofs.refuse.venue_note.Tie as tie
+
+returns : tie.Need-returns
+unfolding venueNote
+returns c =
+    let c1 = c .before in
+    rw (← c1 .has .ensures, ← c .pick-8 .ensures)
+
+pub venue-note-spec : {M : Type 1} → statement M
+venue-note-spec = tie.close (tie.spec (λ c κs. search needs) (λ c κs. search needs) returns)

@@ -1,0 +1,294 @@
+// The second half of src/book/amend.rs: a request that the venue refused, and sends that failed.
+// Each function equals its definition in machine's Amend. Rests on gateway_cancel.
+ghost use mathlib.Core.Path.{_≡_};
+ghost use lib.Dec.{eqb};
+ghost use Rattle.prelude.specs.Cases.{if_then_else_};
+ghost use Rattle.machine.specs.Orders.{noPending};
+ghost use Rattle.machine.specs.Messages.{cancelReject};
+ghost use Rattle.machine.specs.Amend.{notPending, refusedOrder, refusedNote, refuseRequest, venueNote, venueCancelReject, sendRefused, firstFailed, sendFailed, resendable, unsent};
+use crate::amend::OTHER;
+use crate::amend::OURS;
+use crate::amend::has;
+use crate::gateway_cancel::VENUES;
+use crate::gateway_cancel::gateway_cancel_refused;
+use crate::gateway_cancel::resume_gateway_cancel;
+use machine::Change;
+use machine::Facts;
+use machine::Note;
+use machine::Refused;
+use orders::change::is_answered;
+use orders::change::is_cancel;
+use orders::change::is_first;
+use orders::change::is_gateway;
+use orders::change::is_replace;
+use orders::change::saying;
+use orders::change::settled;
+use orders::change::telling;
+use orders::change::unchanged;
+use orders::message::NO_LONG_TEXT;
+use orders::message::cancel_reject;
+use orders::message::cancel_request;
+use orders::message::new_order;
+use orders::message::replace_request;
+use orders::message::report;
+use orders::order::NEW;
+use orders::order::NO_PENDING;
+use orders::order::NO_TEXT;
+use orders::order::PARTIALLY_FILLED;
+use orders::order::PENDING_CANCEL;
+use orders::order::PENDING_NEW;
+use orders::order::PENDING_REPLACE;
+use orders::order::REJECTED;
+use orders::order::has_gateway;
+use orders::order::is_done;
+use orders::order::next_exec;
+use orders::order::one_less_8;
+use orders::order::one_more_32;
+use orders::order::pending_terms;
+use orders::order::pick_8;
+use orders::order::pick_32;
+use orders::order::record_venue_order_id;
+use orders::order::set_status;
+use records::Record;
+use store::GatewayCancel;
+use store::Order;
+use store::Pending;
+use store::Request;
+
+const EXEC_REJECTED: u8 = b'8';
+
+// The fixed texts.
+const TEXT_REJECTED: u8 = 10;
+
+const TEXT_NOT_SENT: u8 = 11;
+
+// Without the venue's word, a refused request no longer holds the order pending.
+fn not_pending(o: Order) -> Order
+    ensures { λ r. ⌜ r ≡ notPending o ⌝ }
+{
+    let s = o.state.status;
+    if (s == PENDING_CANCEL) | (s == PENDING_REPLACE) {
+        let status = pick_8(0 < o.state.cumqty, PARTIALLY_FILLED, NEW);
+        return set_status(status, o);
+    }
+    o
+}
+
+// What is pending, but for the request k.
+fn pending_but(k: u16, p: Pending) -> Pending
+    ensures { λ r. ⌜ r ≡ (if eqb (p .request) k then noPending else p) ⌝ }
+{
+    if p.request == k {
+        return NO_PENDING;
+    }
+    p
+}
+
+// The order once its request k is refused: done stays done.
+fn refused_order(k: u16, r: Refused, o: Order) -> Order
+    ensures { λ q. ⌜ q ≡ refusedOrder k r o ⌝ }
+{
+    let given = r.venueorderid;
+    let mut out = record_venue_order_id(given, false, o);
+    let was = o.pending;
+    let pending = pending_but(k, was);
+    out.pending = pending;
+    if is_done(o.state.status) {
+        return out;
+    }
+    if r.status != 0 {
+        return set_status(r.status, out);
+    }
+    not_pending(out)
+}
+
+// What the client is told: the text that came, or that the venue rejected it; the venue's reason,
+// or Other.
+fn refused_note(n: Note) -> Note
+    ensures { λ r. ⌜ r ≡ refusedNote n ⌝ }
+{
+    let text = n.text;
+    let fixedtext = pick_8(
+        (n.text.len == 0) & (n.fixedtext == 0),
+        TEXT_REJECTED,
+        n.fixedtext,
+    );
+    let reason = pick_32(n.origin == 0, OTHER, n.reason);
+    let origin = pick_8(n.origin == 0, OURS, n.origin);
+    Note {
+        text,
+        fixedtext,
+        reason,
+        origin,
+    }
+}
+
+// And the message that tells it, with the status that the order is left at.
+fn refused_message(q: Request, status: u8, n: Note, o: Order) -> Record
+    ensures { λ r. ⌜ r ≡ cancelReject (o .client) (o .names .name) status (q .clordid) (q .origclordid) (q .kind) (refusedNote n) ⌝ }
+{
+    let names = o.names;
+    let name = names.name;
+    let clordid = q.clordid;
+    let orig = q.origclordid;
+    let told = refused_note(n);
+    cancel_reject(o.client, name, status, clordid, orig, q.kind, told)
+}
+
+pub(crate) fn refuse_request(
+    f: Facts,
+    k: u16,
+    q: Request,
+    venue: u16,
+    r: Refused,
+    o: Order,
+) -> Change
+    ensures { λ c. ⌜ c ≡ refuseRequest f k q venue r o ⌝ }
+{
+    if is_first(q) {
+        return unchanged(f.place, o);
+    }
+    if o.venue != venue {
+        return unchanged(f.place, o);
+    }
+    if is_answered(q) {
+        return unchanged(f.place, o);
+    }
+    let order = refused_order(k, r, o);
+    let c = settled(k, f.place, order);
+    let gateway = is_gateway(q);
+    if gateway & (o.links.cancel != k) {
+        return c;
+    }
+    let note = r.note;
+    if gateway {
+        return gateway_cancel_refused(f, note, c);
+    }
+    let m = refused_message(q, order.state.status, note, o);
+    telling(m, c)
+}
+
+fn venue_note(e: Record) -> Note
+    ensures { λ r. ⌜ r ≡ venueNote e ⌝ }
+{
+    let text = e.text;
+    let origin = pick_8(has(e, 19), VENUES, 0);
+    Note {
+        text,
+        fixedtext: 0,
+        reason: e.reason,
+        origin,
+    }
+}
+
+// Of a request that the book knows.
+pub fn venue_cancel_reject(f: Facts, k: u16, q: Request, o: Order, e: Record) -> Change
+    ensures { λ r. ⌜ r ≡ venueCancelReject f k q o e ⌝ }
+{
+    let ids = e.ids;
+    let venueorderid = ids.venueorderid;
+    let note = venue_note(e);
+    let r = Refused {
+        status: e.exec.status,
+        venueorderid,
+        note,
+    };
+    let c = refuse_request(f, k, q, e.venue, r, o);
+    resume_gateway_cancel(f, c)
+}
+
+// One try less, and it waits.
+fn send_refused(g: GatewayCancel) -> GatewayCancel
+    ensures { λ r. ⌜ r ≡ sendRefused g ⌝ }
+{
+    let tries = one_less_8(g.tries);
+    let refusedsends = one_more_32(g.refusedsends);
+    GatewayCancel {
+        tries,
+        unsent: true,
+        stuck: g.stuck,
+        origdownstream: g.origdownstream,
+        refusedsends,
+    }
+}
+
+// The first send failed: the order is rejected, for a reason of ours.
+fn first_failed(f: Facts, k: u16, n: Note, o: Order) -> Change
+    ensures { λ r. ⌜ r ≡ firstFailed f k n o ⌝ }
+{
+    let order = next_exec(set_status(REJECTED, o));
+    let names = order.names;
+    let clordid = names.clordid;
+    let mut note = n;
+    note.reason = OTHER;
+    note.origin = OURS;
+    let m = report(order, clordid, NO_TEXT, EXEC_REJECTED, 0, [0, 0], note);
+    telling(m, settled(k, f.place, order))
+}
+
+pub fn send_failed(f: Facts, k: u16, q: Request, venue: u16, n: Note, o: Order) -> Change
+    ensures { λ r. ⌜ r ≡ sendFailed f k q venue n o ⌝ }
+{
+    let gateway = is_gateway(q);
+    let answered = is_answered(q);
+    if o.venue != venue {
+        return unchanged(f.place, o);
+    }
+    if gateway & answered {
+        return unchanged(f.place, o);
+    }
+    if gateway & !has_gateway(o) {
+        return settled(k, f.place, o);
+    }
+    if gateway {
+        let was = o.gateway;
+        let now = send_refused(was);
+        let mut order = o;
+        order.gateway = now;
+        return settled(k, f.place, order);
+    }
+    if !is_first(q) {
+        let r = Refused {
+            status: o.state.status,
+            venueorderid: NO_TEXT,
+            note: n,
+        };
+        return refuse_request(f, k, q, venue, r, o);
+    }
+    if answered | (o.state.status != PENDING_NEW) {
+        return unchanged(f.place, o);
+    }
+    first_failed(f, k, n, o)
+}
+
+fn resendable(q: Request, venue: u16, o: Order) -> bool
+    ensures { λ r. ⌜ r ≡ resendable q venue o ⌝ }
+{
+    !is_answered(q) & !is_done(o.state.status) & (o.venue == venue)
+}
+
+// A request is sent again, or its send has failed.
+pub fn unsent(f: Facts, k: u16, q: Request, venue: u16, o: Order) -> Change
+    ensures { λ r. ⌜ r ≡ unsent f k q venue o ⌝ }
+{
+    let again = resendable(q, venue, o);
+    let downstream = q.downstream;
+    if again & is_first(q) & (o.state.status == PENDING_NEW) {
+        return saying(new_order(o, downstream), f.place, o);
+    }
+    if again & is_cancel(q) {
+        return saying(cancel_request(o, downstream), f.place, o);
+    }
+    if again & is_replace(q) & (o.pending.request == k) {
+        let m = replace_request(o, downstream, pending_terms(o));
+        return saying(m, f.place, o);
+    }
+    let text = NO_LONG_TEXT;
+    let n = Note {
+        text,
+        fixedtext: TEXT_NOT_SENT,
+        reason: 0,
+        origin: 0,
+    };
+    send_failed(f, k, q, venue, n, o)
+}

@@ -1,0 +1,395 @@
+// src/book/report.rs: a venue's report. Each function equals its definition in machine's Report.
+// Rests on refuse and wide.
+ghost use mathlib.Core.Path.{_≡_};
+ghost use Prim.Native.Nat.{_-_, max};
+ghost use Rattle.prelude.specs.Cases.{if_then_else_};
+ghost use Rattle.machine.specs.Report.{saysUnknownAtVenue, unknownAtVenue, isRejection, pendingHere, behind, stale, repeats, droppedStale, droppedRepeat, statusTaken, accepts, answersRequest, orderedQty, reportedOrder, fillPriceOf, reportNote, clientReport, settles, applyReport, venueReport};
+ghost use Rattle.machine.specs.Orders.{applyReplace};
+ghost use Rattle.book.specs.Rejection.{rejectionOf};
+ghost use Rattle.machine.specs.Machine.{onReport};
+ghost use Rattle.machine.specs.Changes.{unchanged};
+ghost use Rattle.machine.specs.GatewayCancel.{resumeGatewayCancel};
+ghost use Rattle.machine.specs.Amend.{refuseRequest};
+use crate::amend::has;
+use crate::gateway_cancel::VENUES;
+use crate::gateway_cancel::resume_gateway_cancel;
+use crate::refuse::refuse_request;
+use machine::Change;
+use machine::Facts;
+use machine::Note;
+use machine::Refused;
+use orders::change::answering;
+use orders::change::is_answered;
+use orders::change::is_cancel;
+use orders::change::is_first;
+use orders::change::is_gateway;
+use orders::change::is_replace;
+use orders::change::raising;
+use orders::change::superseding;
+use orders::change::telling;
+use orders::change::unchanged;
+use orders::message::report;
+use orders::order::CANCELED;
+use orders::order::NEW;
+use orders::order::NO_TEXT;
+use orders::order::PARTIALLY_FILLED;
+use orders::order::PENDING_CANCEL;
+use orders::order::PENDING_NEW;
+use orders::order::PENDING_REPLACE;
+use orders::order::REJECTED;
+use orders::order::apply_replace;
+use orders::order::is_done;
+use orders::order::less;
+use orders::order::next_exec;
+use orders::order::pick_8;
+use orders::order::pick_32;
+use orders::order::pick_64;
+use orders::order::pick_text;
+use orders::order::record_venue_order_id;
+use orders::order::set_status;
+use records::Record;
+use store::Order;
+use store::Request;
+
+// ExecType(150).
+const EXEC_TRADE: u8 = b'F';
+
+const EXEC_REPLACED: u8 = b'5';
+
+const EXEC_REJECTED: u8 = b'8';
+
+const EXEC_RESTATED: u8 = b'D';
+
+const EXEC_DONE_FOR_DAY: u8 = b'3';
+
+const EXEC_STATUS: u8 = b'I';
+
+// OrdRejReason(103): unknown order.
+const UNKNOWN_ORDER: u32 = 5;
+
+// Alarms.
+const OVERFILL: u8 = 2;
+
+const UNKNOWN_AT_VENUE: u8 = 4;
+
+const FILL_ON_DONE_ORDER: u8 = 5;
+
+// How FIX answers a status request for an order that the venue does not know.
+fn says_unknown_at_venue(e: Record) -> bool
+    ensures { λ r. ⌜ r ≡ saysUnknownAtVenue e ⌝ }
+{
+    (e.exec.exectype == EXEC_STATUS)
+        & (e.exec.status == REJECTED)
+        & (has(e, 19) & (e.reason == UNKNOWN_ORDER))
+}
+
+// Of a request that the book knows: an alarm for a live order under its current ClOrdID.
+pub fn unknown_at_venue(f: Facts, k: u16, o: Order, e: Record) -> Change
+    ensures { λ r. ⌜ r ≡ unknownAtVenue f k o e ⌝ }
+{
+    if o.venue != e.venue {
+        return unchanged(f.place, o);
+    }
+    if is_done(o.state.status) {
+        return unchanged(f.place, o);
+    }
+    if o.links.current != k {
+        return unchanged(f.place, o);
+    }
+    raising(UNKNOWN_AT_VENUE, f.place, o)
+}
+
+// The status is Rejected, or the ExecType is, with some status.
+fn is_rejection(e: Record) -> bool
+    ensures { λ r. ⌜ r ≡ isRejection e ⌝ }
+{
+    let s = e.exec.status;
+    (s == REJECTED) | ((e.exec.exectype == EXEC_REJECTED) & (s != 0))
+}
+
+// The order's pending replace is the request k.
+fn pending_here(k: u16, o: Order) -> bool
+    ensures { λ r. ⌜ r ≡ pendingHere k o ⌝ }
+{
+    o.pending.request == k
+}
+
+// The report's status would roll the order's back.
+fn behind(k: u16, q: Request, o: Order, e: Record) -> bool
+    ensures { λ r. ⌜ r ≡ behind k q o e ⌝ }
+{
+    let s = e.exec.status;
+    let at = o.state.status;
+    let settled = is_answered(q) & !is_done(s) & ((o.links.current != k) | (s == PENDING_REPLACE));
+    let behind_new = (s == PENDING_NEW) & (at != PENDING_NEW);
+    let pending = (at == PENDING_CANCEL) | (at == PENDING_REPLACE);
+    let behind_pending = ((s == NEW) | (s == PARTIALLY_FILLED)) & pending & !pending_here(k, o);
+    settled | behind_new | behind_pending
+}
+
+// The book has moved past the report.
+fn stale(k: u16, q: Request, o: Order, e: Record) -> bool
+    ensures { λ r. ⌜ r ≡ stale k q o e ⌝ }
+{
+    let cumqty = e.exec.cumqty;
+    let old = o.state.cumqty;
+    let resent = (cumqty == old) & ((0 < e.exec.lastqty) | behind(k, q, o, e));
+    is_done(o.state.status) | (cumqty < old) | resent
+}
+
+// The report changes nothing.
+fn repeats(k: u16, o: Order, e: Record) -> bool
+    ensures { λ r. ⌜ r ≡ repeats k o e ⌝ }
+{
+    let x = e.exec.exectype;
+    let same = (o.links.current == k)
+        & (e.exec.status == o.state.status)
+        & (e.exec.cumqty == o.state.cumqty);
+    let news = (x == EXEC_RESTATED) | (x == EXEC_REPLACED) | (x == EXEC_DONE_FOR_DAY);
+    same & (e.exec.lastqty == 0) & !news
+}
+
+// A stale report leaves the order as it is. A fill on a done order is an alarm.
+fn dropped_stale(f: Facts, o: Order, e: Record) -> Change
+    ensures { λ r. ⌜ r ≡ droppedStale f o e ⌝ }
+{
+    if is_done(o.state.status) & (o.state.cumqty < e.exec.cumqty) {
+        return raising(FILL_ON_DONE_ORDER, f.place, o);
+    }
+    unchanged(f.place, o)
+}
+
+// A repeat may bring the venue's OrderID.
+fn dropped_repeat(f: Facts, o: Order, e: Record) -> Change
+    ensures { λ r. ⌜ r ≡ droppedRepeat f o e ⌝ }
+{
+    let ids = e.ids;
+    let given = ids.venueorderid;
+    let order = record_venue_order_id(given, false, o);
+    unchanged(f.place, order)
+}
+
+// The status that the report sets, 0 for none: one that is behind is dropped.
+fn status_taken(k: u16, q: Request, o: Order, e: Record) -> u8
+    ensures { λ r. ⌜ r ≡ statusTaken k q o e ⌝ }
+{
+    if behind(k, q, o, e) {
+        return 0;
+    }
+    e.exec.status
+}
+
+// The report accepts the pending replace: any answer under its ClOrdID but a rejection and
+// PendingReplace.
+fn accepts(k: u16, q: Request, o: Order, e: Record) -> bool
+    ensures { λ r. ⌜ r ≡ accepts k q o e ⌝ }
+{
+    let s = status_taken(k, q, o, e);
+    pending_here(k, o) & !is_rejection(e) & ((s != 0) & (s != PENDING_REPLACE))
+}
+
+// A client's cancel's reports, and its pending replace's, answer that request.
+fn answers_request(k: u16, q: Request, o: Order) -> bool
+    ensures { λ r. ⌜ r ≡ answersRequest k q o ⌝ }
+{
+    !is_gateway(q) & (is_cancel(q) | (is_replace(q) & pending_here(k, o)))
+}
+
+// The quantity that the report may not pass.
+fn ordered_qty(accepted: bool, o: Order) -> u64
+    ensures { λ r. ⌜ r ≡ orderedQty accepted o ⌝ }
+{
+    pick_64(accepted, o.pending.qty, o.terms.qty)
+}
+
+// The order with the replace applied that the report accepts.
+fn replaced_order(accepted: bool, q: Request, o: Order) -> Order
+    ensures { λ r. ⌜ r ≡ (if accepted then applyReplace q o else o) ⌝ }
+{
+    if accepted {
+        return apply_replace(q, o);
+    }
+    o
+}
+
+// The order with the report's quantities and status; `s` is 0 where the status stays.
+fn reported_order(accepted: bool, s: u8, q: Request, o: Order, e: Record) -> Order
+    ensures { λ r. ⌜ r ≡ reportedOrder accepted s q o e ⌝ }
+{
+    let ids = e.ids;
+    let given = ids.venueorderid;
+    let named = record_venue_order_id(given, accepted, o);
+    let mut order = replaced_order(accepted, q, named);
+    let mut state = o.state;
+    state.cumqty = e.exec.cumqty;
+    state.avgpx = e.exec.avgpx;
+    order.state = state;
+    let status = pick_8(s == 0, o.state.status, s);
+    set_status(status, order)
+}
+
+// `fill_price`, of the order as it was.
+fn fill_price(o: Order, e: Record) -> [u64; 2]
+    ensures { λ r. ⌜ r ≡ fillPriceOf o e ⌝ }
+{
+    let x = e.exec;
+    let rise = less(x.cumqty, o.state.cumqty);
+    wide::fill_price(
+        x.lastqty,
+        x.lastpx,
+        x.cumqty,
+        x.avgpx,
+        o.state.cumqty,
+        o.state.avgpx,
+        rise,
+    )
+}
+
+fn report_note(e: Record) -> Note
+    ensures { λ r. ⌜ r ≡ reportNote e ⌝ }
+{
+    let text = e.text;
+    let rejected = is_rejection(e);
+    let reason = pick_32(rejected, e.reason, 0);
+    let origin = pick_8(rejected & has(e, 19), VENUES, 0);
+    Note {
+        text,
+        fixedtext: 0,
+        reason,
+        origin,
+    }
+}
+
+// What the client is told of the order as it is left, by the request that the report answers, if
+// any. A rise is a Trade.
+fn client_report(
+    answers: bool,
+    rise: u64,
+    q: Request,
+    price: [u64; 2],
+    o: Order,
+    e: Record,
+) -> Record
+    ensures { λ r. ⌜ r ≡ clientReport answers rise q price o e ⌝ }
+{
+    let names = o.names;
+    let own = names.clordid;
+    let asked = q.clordid;
+    let was = q.origclordid;
+    let clordid = pick_text(answers, asked, own);
+    let orig = pick_text(answers, was, NO_TEXT);
+    let exectype = pick_8(0 < rise, EXEC_TRADE, e.exec.exectype);
+    let n = report_note(e);
+    report(o, clordid, orig, exectype, rise, price, n)
+}
+
+// The requests that the report answers: an accepted replace and the one that it supersedes, or a
+// cancel that was Canceled.
+fn settles(accepted: bool, s: u8, k: u16, q: Request, o: Order, c: Change) -> Change
+    ensures { λ r. ⌜ r ≡ settles accepted s k q o c ⌝ }
+{
+    if accepted {
+        return superseding(o.links.current, answering(k, c));
+    }
+    if is_cancel(q) & (s == CANCELED) {
+        return answering(k, c);
+    }
+    c
+}
+
+// The change of a report that leaves the order as it is given.
+fn settling(accepted: bool, s: u8, k: u16, q: Request, o: Order, place: u16, left: Order) -> Change
+    ensures { λ r. ⌜ r ≡ settles accepted s k q o (unchanged place left) ⌝ }
+{
+    settles(accepted, s, k, q, o, unchanged(place, left))
+}
+
+// The report is applied. An ack of the gateway's own cancel is not the client's.
+fn apply_report(f: Facts, k: u16, q: Request, o: Order, e: Record) -> Change
+    ensures { λ r. ⌜ r ≡ applyReport f k q o e ⌝ }
+{
+    let accepted = accepts(k, q, o, e);
+    let s = status_taken(k, q, o, e);
+    let rise = less(e.exec.cumqty, o.state.cumqty);
+    let order = reported_order(accepted, s, q, o, e);
+    if is_gateway(q) & (rise == 0) & !is_done(order.state.status) & !accepted {
+        return settling(accepted, s, k, q, o, f.place, order);
+    }
+    let told = next_exec(order);
+    let answers = answers_request(k, q, o);
+    let price = fill_price(o, e);
+    let m = client_report(answers, rise, q, price, told, e);
+    telling(m, settling(accepted, s, k, q, o, f.place, told))
+}
+
+// What a rejection of a cancel or replace says: Rejected is not the order's status.
+fn rejection(e: Record) -> Refused
+    ensures { λ r. ⌜ r ≡ rejectionOf e ⌝ }
+{
+    let status = pick_8(e.exec.status == REJECTED, 0, e.exec.status);
+    let ids = e.ids;
+    let venueorderid = ids.venueorderid;
+    let text = e.text;
+    let note = Note {
+        text,
+        fixedtext: 0,
+        reason: 0,
+        origin: 0,
+    };
+    Refused {
+        status,
+        venueorderid,
+        note,
+    }
+}
+
+// A cancel or replace was rejected.
+fn refused_report(f: Facts, k: u16, q: Request, o: Order, e: Record) -> Change
+    ensures { λ r. ⌜ r ≡ resumeGatewayCancel f (refuseRequest f k q (e .venue) (rejectionOf e) o) ⌝ }
+{
+    let r = rejection(e);
+    let c = refuse_request(f, k, q, e.venue, r, o);
+    resume_gateway_cancel(f, c)
+}
+
+fn larger(a: u64, b: u64) -> u64
+    ensures { λ r. ⌜ r ≡ max a b ⌝ }
+{
+    if a < b {
+        return b;
+    }
+    a
+}
+
+// Of a request that the book knows.
+fn venue_report(f: Facts, k: u16, q: Request, o: Order, e: Record) -> Change
+    ensures { λ r. ⌜ r ≡ venueReport f k q o e ⌝ }
+{
+    if is_rejection(e) & !is_first(q) {
+        return refused_report(f, k, q, o, e);
+    }
+    if o.venue != e.venue {
+        return unchanged(f.place, o);
+    }
+    if stale(k, q, o, e) {
+        return dropped_stale(f, o, e);
+    }
+    if repeats(k, o, e) {
+        return dropped_repeat(f, o, e);
+    }
+    let most = ordered_qty(accepts(k, q, o, e), o);
+    if most < larger(e.exec.cumqty, o.state.cumqty) {
+        return raising(OVERFILL, f.place, o);
+    }
+    apply_report(f, k, q, o, e)
+}
+
+// Event 4, of a request that the book knows.
+pub fn on_report(e: Record, f: Facts, k: u16, q: Request, o: Order) -> Change
+    ensures { λ r. ⌜ r ≡ onReport e f k q o ⌝ }
+{
+    if says_unknown_at_venue(e) {
+        return unknown_at_venue(f, k, o, e);
+    }
+    venue_report(f, k, q, o, e)
+}

@@ -1,0 +1,5 @@
+// Orders, the messages about them, and changes: the words in which the crate book handles events.
+// Every function is total and equals a definition of machine. Rests on text.
+pub mod change;
+pub mod message;
+pub mod order;
