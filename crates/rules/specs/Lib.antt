@@ -1,0 +1,7 @@
+pub mod More
+pub mod Places
+pub mod Here
+pub mod Spread
+pub mod Suffix
+pub mod Things
+pub mod Keeps

@@ -1,0 +1,67 @@
+// The book's rules, decided on its buffer: one function, which is total and writes nothing. Rests on
+// machine's definition of the rules, on store's layout, and on text and format. Its cost grows with the
+// records in use.
+ghost use mathlib.Core.Path.{_≡_};
+ghost use Prim.Native.Nat.{_≤_};
+ghost use lib.ListN.{length};
+ghost use Rattle.rules.specs.Keeps.{keepsOf, decided};
+use words::get16;
+
+mod distinct; // names and ClOrdIDs are distinct
+mod links; // an order's links and counts
+mod marks; // a status and a gateway cancel's marks
+mod numbered; // a name with a number
+mod numbers; // requests
+mod ranges; // fields in their ranges
+mod words; // numbers and texts at an index
+
+const BOOK: usize = 65536;
+
+// The header: where the counts stand.
+const ORDER_COUNT: usize = 0;
+
+const REQUEST_COUNT: usize = 2;
+
+const MOST_ORDERS: usize = 64;
+
+const MOST_REQUESTS: usize = 256;
+
+// The rules of n orders and m requests, one after the other.
+fn decide(book: &[u8], n: usize, m: usize) -> bool
+    requires { ⌜ (length (now book) ≡ 65536) × (n ≤ 64) × (m ≤ 256) ⌝ }
+    ensures { λ r. ⌜ r ≡ decided (now (book .entry)) n m ⌝ }
+{
+    if !ranges::ranges_ok(book, n, m) {
+        return false;
+    }
+    let pass = numbers::requests_ok(book, n, m);
+    if !pass.ok {
+        return false;
+    }
+    let next = pass.next;
+    if !links::links_ok(book, n, m, &next) {
+        return false;
+    }
+    if !distinct::distinct(book, false, n) {
+        return false;
+    }
+    distinct::distinct(book, true, m)
+}
+
+// Whether the book keeps its rules, its length and its counts included.
+pub fn keeps(book: &[u8]) -> bool
+    ensures { λ r. ⌜ r ≡ keepsOf (now (book .entry)) ⌝ }
+{
+    if book.len() != BOOK {
+        return false;
+    }
+    let n = get16(book, ORDER_COUNT) as usize;
+    if n > MOST_ORDERS {
+        return false;
+    }
+    let m = get16(book, REQUEST_COUNT) as usize;
+    if m > MOST_REQUESTS {
+        return false;
+    }
+    decide(book, n, m)
+}

@@ -1,0 +1,188 @@
+// One order: the requests that its links name, its counts and its status. Rests on marks and words.
+ghost use mathlib.Core.Path.{_≡_};
+ghost use Prim.Native.Nat.{ℕ, _+_, _-_, _≤_, _<_};
+ghost use lib.Dec.{eqb, leb};
+ghost use lib.ListN.{length, getD};
+ghost use Rattle.prelude.specs.Below.{allBelow, countBelow};
+ghost use Rattle.prelude.specs.Cases.{if_then_else_};
+ghost use Rattle.store.specs.Book.{orderAt};
+ghost use Rattle.machine.specs.Codes.{mostTries};
+ghost use Rattle.machine.specs.Changes.{isCancel};
+ghost use Rattle.machine.specs.Rules.{currentTest, pendingTest, statusRule};
+ghost use Rattle.rules.specs.Here.{ofOrderAt, linkedAt, optionalAt, countsAt, linksAt, linksOf, ownAt};
+use crate::marks::is_done;
+use crate::marks::unsent_of;
+use crate::words::ORDER;
+use crate::words::ORDERS;
+use crate::words::REQUEST;
+use crate::words::REQUESTS;
+use crate::words::get16;
+use crate::words::get64;
+use crate::words::same_at;
+
+const KIND: usize = 2;
+
+const ANSWERED: usize = 3;
+
+const DOWNSTREAM: usize = 70;
+
+const QTY: usize = 172;
+
+const STATUS: usize = 188;
+
+const CUMQTY: usize = 189;
+
+const AMENDMENTS: usize = 213;
+
+const CURRENT: usize = 215;
+
+const CANCEL: usize = 217;
+
+const PENDING: usize = 219;
+
+const STAGE: usize = 239;
+
+const TRIES: usize = 240;
+
+const ORIGDOWNSTREAM: usize = 241;
+
+// Whether the request of a link is there and is order i's.
+fn own(book: &[u8], m: usize, i: usize, link: u16) -> bool
+    requires { ⌜ (length (now book) ≡ 65536) × (m ≤ 256) × (i < 64) ⌝ }
+    ensures { λ r. ⌜ r ≡ ownAt (now (book .entry)) m i link ⌝ }
+{
+    let k = link as usize;
+    if k == 0 {
+        return false;
+    }
+    if m < k {
+        return false;
+    }
+    let o = get16(book, REQUESTS + (k - 1) * REQUEST);
+    o == (i as u16)
+}
+
+// The current downstream is the first request's or a replace's.
+fn current_ok(book: &[u8], m: usize, i: usize, link: u16) -> bool
+    requires { ⌜ (length (now book) ≡ 65536) × (m ≤ 256) × (i < 64) ⌝ }
+    ensures { λ r. ⌜ r ≡ linkedAt (now (book .entry)) m (currentTest (orderAt (now (book .entry)) i .names .downstream)) i link ⌝ }
+{
+    if !own(book, m, i, link) {
+        return false;
+    }
+    let j = (link as usize) - 1;
+    let kind = book[REQUESTS + j * REQUEST + KIND];
+    let same = same_at(
+        book,
+        ORDERS + i * ORDER + DOWNSTREAM,
+        REQUESTS + j * REQUEST + DOWNSTREAM,
+    );
+    !(!(kind == 0) & !(kind == 2)) & same
+}
+
+// The latest cancel, if any, is a cancel.
+fn cancel_ok(book: &[u8], m: usize, i: usize, link: u16) -> bool
+    requires { ⌜ (length (now book) ≡ 65536) × (m ≤ 256) × (i < 64) ⌝ }
+    ensures { λ r. ⌜ r ≡ optionalAt (now (book .entry)) m isCancel i link ⌝ }
+{
+    if link == 0 {
+        return true;
+    }
+    if !own(book, m, i, link) {
+        return false;
+    }
+    let j = (link as usize) - 1;
+    let kind = book[REQUESTS + j * REQUEST + KIND];
+    !(kind == 0) & !(kind == 2)
+}
+
+// Pending terms name an unanswered client replace.
+fn pending_ok(book: &[u8], m: usize, i: usize, link: u16) -> bool
+    requires { ⌜ (length (now book) ≡ 65536) × (m ≤ 256) × (i < 64) ⌝ }
+    ensures { λ r. ⌜ r ≡ optionalAt (now (book .entry)) m pendingTest i link ⌝ }
+{
+    if link == 0 {
+        return true;
+    }
+    if !own(book, m, i, link) {
+        return false;
+    }
+    let at = REQUESTS + ((link as usize) - 1) * REQUEST;
+    (book[at + KIND] == 2) & (book[at + ANSWERED] == 0)
+}
+
+// Amendments are the requests less one.
+fn count_ok(amendments: u16, count: u16) -> bool
+    ensures { λ r. ⌜ r ≡ eqb (amendments + 1) count ⌝ }
+{
+    (amendments as u32) + 1 == (count as u32)
+}
+
+// Above a cumulative of 0 the status is not A or 0.
+fn status_ok(cumqty: u64, status: u8) -> bool
+    ensures { λ r. ⌜ r ≡ statusRule cumqty status ⌝ }
+{
+    (cumqty == 0) | !((status == 65) | (status == 48))
+}
+
+// At most 3, and at most 2 where unsent.
+fn tries_ok(tries: u8, unsent: bool) -> bool
+    ensures { λ r. ⌜ r ≡ leb tries (if unsent then mostTries - 1 else mostTries) ⌝ }
+{
+    if unsent {
+        return tries <= 2;
+    }
+    tries <= 3
+}
+
+// Order i, which has count requests: its counts and its status.
+fn counts_ok(book: &[u8], count: u16, i: usize) -> bool
+    requires { ⌜ (length (now book) ≡ 65536) × (i < 64) ⌝ }
+    ensures { λ r. ⌜ r ≡ countsAt (now (book .entry)) count i ⌝ }
+{
+    let at = ORDERS + i * ORDER;
+    let amendments = get16(book, at + AMENDMENTS);
+    let counted = count_ok(amendments, count);
+    let qty = get64(book, at + QTY);
+    let cumqty = get64(book, at + CUMQTY);
+    let code = book[at + STATUS];
+    let status = status_ok(cumqty, code);
+    let over = is_done(code);
+    let pending = get16(book, at + PENDING);
+    let link = get16(book, at + ORIGDOWNSTREAM);
+    let unsent = unsent_of(book[at + STAGE], link);
+    let tries = tries_ok(book[at + TRIES], unsent);
+    counted & (cumqty <= qty) & status & (!over | ((pending == 0) & (link == 0))) & tries
+}
+
+// Order i, which has count requests of m.
+fn links_at(book: &[u8], m: usize, count: u16, i: usize) -> bool
+    requires { ⌜ (length (now book) ≡ 65536) × (m ≤ 256) × (i < 64) ⌝ }
+    ensures { λ r. ⌜ r ≡ linksAt (now (book .entry)) m count i ⌝ }
+{
+    let at = ORDERS + i * ORDER;
+    let x = get16(book, at + CURRENT);
+    let current = current_ok(book, m, i, x);
+    let y = get16(book, at + CANCEL);
+    let cancel = cancel_ok(book, m, i, y);
+    let z = get16(book, at + PENDING);
+    let pending = pending_ok(book, m, i, z);
+    let counts = counts_ok(book, count, i);
+    current & cancel & pending & counts
+}
+
+// The first n orders; next has how many of the m requests each has.
+pub(crate) fn links_ok(book: &[u8], n: usize, m: usize, next: &[u16; 64]) -> bool
+    requires { ⌜ (length (now book) ≡ 65536) × (n ≤ 64) × (m ≤ 256) × ((o : ℕ) → o < 64 → getD (now next) o 0 ≡ countBelow (ofOrderAt (now book) o) m) ⌝ }
+    ensures { λ r. ⌜ r ≡ allBelow (linksOf (now (book .entry)) m) n ⌝ }
+{
+    let mut i: usize = 0;
+    while i < n {
+        let count = next[i];
+        if !links_at(book, m, count, i) {
+            return false;
+        }
+        i += 1;
+    }
+    true
+}

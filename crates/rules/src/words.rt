@@ -1,0 +1,129 @@
+// Numbers and texts at an index of a slice, by words and parts: two texts compared, the zeros
+// behind one, its cell; and where the records of the book stand. Rests on text.
+ghost use mathlib.Core.Path.{_≡_};
+ghost use Prim.Native.Nat.{_+_, _≤_, _<_};
+ghost use lib.Dec.{eqb};
+ghost use lib.ListN.{length};
+ghost use Rattle.prelude.specs.Below.{allBelow};
+ghost use Rattle.prelude.specs.Number.{word16, word32, word64};
+ghost use Rattle.prelude.specs.Texts.{textAt, sameText, isText};
+ghost use Rattle.rules.specs.Places.{cell, zeroAt};
+
+// The tables, and the sizes of their records.
+pub(crate) const ORDERS: usize = 256;
+
+pub(crate) const ORDER: usize = 256;
+
+pub(crate) const REQUESTS: usize = 16640;
+
+pub(crate) const REQUEST: usize = 128;
+
+fn wide(x: u8) -> u64
+    ensures { λ r. ⌜ (r ≡ x) × (r < 256) ⌝ }
+{
+    x as u64
+}
+
+pub(crate) fn get16(s: &[u8], at: usize) -> u16
+    requires { ⌜ at + 2 ≤ length (now s) ⌝ }
+    ensures { λ r. ⌜ r ≡ word16 (now (s .entry)) at ⌝ }
+{
+    let b0 = wide(s[at]);
+    let b1 = wide(s[at + 1]);
+    (b0 + 256 * b1) as u16
+}
+
+pub(crate) fn get64(s: &[u8], at: usize) -> u64
+    requires { ⌜ at + 8 ≤ length (now s) ⌝ }
+    ensures { λ r. ⌜ r ≡ word64 (now (s .entry)) at ⌝ }
+{
+    let b0 = wide(s[at]);
+    let b1 = wide(s[at + 1]);
+    let b2 = wide(s[at + 2]);
+    let b3 = wide(s[at + 3]);
+    let b4 = wide(s[at + 4]);
+    let b5 = wide(s[at + 5]);
+    let b6 = wide(s[at + 6]);
+    let b7 = wide(s[at + 7]);
+    b0 + 256 * (b1 + 256 * (b2 + 256 * (b3 + 256 * (b4 + 256 * (b5 + 256 * (b6 + 256 * b7))))))
+}
+
+pub(crate) fn get32(s: &[u8], at: usize) -> u32
+    requires { ⌜ at + 4 ≤ length (now s) ⌝ }
+    ensures { λ r. ⌜ r ≡ word32 (now (s .entry)) at ⌝ }
+{
+    let b0 = wide(s[at]);
+    let b1 = wide(s[at + 1]);
+    let b2 = wide(s[at + 2]);
+    let b3 = wide(s[at + 3]);
+    (b0 + 256 * (b1 + 256 * (b2 + 256 * b3))) as u32
+}
+
+// Whether a word stands at x and at y.
+pub(crate) fn same_word(s: &[u8], x: usize, y: usize) -> bool
+    requires { ⌜ (x + 8 ≤ length (now s)) × (y + 8 ≤ length (now s)) ⌝ }
+    ensures { λ r. ⌜ r ≡ eqb (word64 (now (s .entry)) x) (word64 (now (s .entry)) y) ⌝ }
+{
+    let v = get64(s, x);
+    let w = get64(s, y);
+    v == w
+}
+
+// Whether the texts at x and y are the same.
+pub(crate) fn same_at(s: &[u8], x: usize, y: usize) -> bool
+    requires { ⌜ (x + 33 ≤ length (now s)) × (y + 33 ≤ length (now s)) ⌝ }
+    ensures { λ r. ⌜ r ≡ sameText (textAt (now (s .entry)) x) (textAt (now (s .entry)) y) ⌝ }
+{
+    let p = s[x + 32];
+    let q = s[y + 32];
+    let a = same_word(s, x, y);
+    let b = same_word(s, x + 8, y + 8);
+    let c = same_word(s, x + 16, y + 16);
+    let d = same_word(s, x + 24, y + 24);
+    (p == q) & (a & b & c & d)
+}
+
+// Whether the 16 bytes from an index are zeros.
+fn zeros(s: &[u8], at: usize) -> bool
+    requires { ⌜ at + 16 ≤ length (now s) ⌝ }
+    ensures { λ r. ⌜ r ≡ allBelow (zeroAt (now (s .entry)) at) 16 ⌝ }
+{
+    let mut acc: u8 = 0;
+    let mut k: usize = 0;
+    while k < 16 {
+        acc = acc | s[at + k];
+        k += 1;
+    }
+    acc == 0
+}
+
+// Whether a text as it is stored stands at an index: zeros after it, up to 16 bytes by two parts
+// that overlap.
+pub(crate) fn filled(s: &[u8], at: usize) -> bool
+    requires { ⌜ at + 33 ≤ length (now s) ⌝ }
+    ensures { λ r. ⌜ r ≡ isText (textAt (now (s .entry)) at) ⌝ }
+{
+    let n = s[at + 32] as usize;
+    if n > 16 {
+        return text::text_fine(s, at);
+    }
+    let a = zeros(s, at + n);
+    let b = zeros(s, at + 16);
+    a & b
+}
+
+// The cell of the text at an index and a client.
+pub(crate) fn cell_at(s: &[u8], at: usize, client: u16) -> u16
+    requires { ⌜ at + 33 ≤ length (now s) ⌝ }
+    ensures { λ r. ⌜ (r ≡ cell client (textAt (now (s .entry)) at)) × (r < 4021) ⌝ }
+{
+    let w0 = get64(s, at);
+    let w1 = get64(s, at + 8);
+    let w2 = get64(s, at + 16);
+    let w3 = get64(s, at + 24);
+    let x = std::num::wrapping_add_u64(w0, w1);
+    let y = std::num::wrapping_add_u64(w2, w3);
+    let z = std::num::wrapping_add_u64(x, y);
+    let v = std::num::wrapping_add_u64(z, client as u64);
+    (v % 4021) as u16
+}
