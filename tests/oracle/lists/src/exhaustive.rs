@@ -68,6 +68,37 @@ pub fn every_head() -> List {
     )
 }
 
+/// The smallest and the largest record of each kind, each whole, with every bit changed and cut anywhere: required fields alone
+/// and texts as short as they may be, and every field with texts as long as they may be.
+pub fn every_extreme() -> List {
+    let extremes = samples().into_iter().flat_map(|draft| [smallest(draft.clone()), largest(draft)]);
+    list(
+        extremes
+            .map(|draft| draft.bytes())
+            .flat_map(|record| [vec![record.clone()], every_cut(&record), every_flip(&record)].concat())
+            .collect(),
+    )
+}
+
+fn smallest(draft: Draft) -> Draft {
+    let (required, _) = event_bits(draft.bytes()[0]).expect("a kind of event");
+    let needed =
+        (0..BITS).fold(draft, |draft, bit| if required >> bit & 1 == 1 { draft } else { draft.without(bit) });
+    sized(needed, |least, _| least)
+}
+
+fn largest(draft: Draft) -> Draft {
+    sized(draft, |_, most| most)
+}
+
+/// `draft` with each text at the length that `length` gives for its limits.
+fn sized(draft: Draft, length: impl Fn(usize, usize) -> usize) -> Draft {
+    (0..BITS).fold(draft, |draft, bit| match shape(bit) {
+        Shape::Text(least, most) if draft.has(bit) => draft.text(bit, vec![b'x'; length(least, most)]),
+        _ => draft,
+    })
+}
+
 /// Each code at every value of its byte, and every kind.
 pub fn every_code() -> List {
     let mut records = Vec::new();

@@ -43,7 +43,7 @@ fn items() -> (Vec<u8>, usize) {
         items.push(refusal);
         count += 1;
     };
-    for list in [exhaustive::every_damage(), exhaustive::every_code(), exhaustive::every_range()] {
+    for list in [exhaustive::every_extreme(), exhaustive::every_code(), exhaustive::every_range()] {
         for item in &list.items {
             put(EVENT, &item.record, refusal(&item.record));
         }
