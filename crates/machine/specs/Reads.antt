@@ -4,15 +4,15 @@ use Prim.Native.Nat.{ℕ, _≤_, _<_}
 use mathlib.Core.Path.{_≡_}
 use mathlib.Core.List.{List}
 use Rattle.prelude.specs.Number.{Bytes}
-use Rattle.records.specs.Record.{eventRefusal, eventOf}
+use Rattle.records.specs.Record.{eventRefusal, eventIn}
 use Rattle.machine.specs.Events.{Ranged}
 use Rattle.machine.specs.Whole.{WholeEvent}
 
 abbrev pub EventRanged : Type 0
-EventRanged = (s : List ℕ) → Bytes s → eventRefusal s ≡ 0 → Ranged (eventOf s)
+EventRanged = (s : List ℕ) → Bytes s → eventRefusal s ≡ 0 → Ranged (eventIn s)
 
 abbrev pub EventWhole : Type 0
-EventWhole = (s : List ℕ) → Bytes s → eventRefusal s ≡ 0 → WholeEvent (eventOf s)
+EventWhole = (s : List ℕ) → Bytes s → eventRefusal s ≡ 0 → WholeEvent (eventIn s)
 
 abbrev pub EventKind : Type 0
-EventKind = (s : List ℕ) → eventRefusal s ≡ 0 → (0 < eventOf s .kind) × (eventOf s .kind ≤ 9)
+EventKind = (s : List ℕ) → eventRefusal s ≡ 0 → (0 < eventIn s .kind) × (eventIn s .kind ≤ 9)

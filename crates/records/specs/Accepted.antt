@@ -27,7 +27,7 @@ use Rattle.format.specs.Wire.{encode, fieldBytes, body, bytes}
 use Rattle.format.specs.Trip.{body-part}
 use Rattle.records.specs.declared.Record.{Record}
 use Rattle.records.specs.Fields.{numbersOf, highOf, textBy, shortBytes, longBytes, longOf, spelled, words, heldBy, held, idsOf, recordOf}
-use Rattle.records.specs.Record.{recordBytes, recordAt, nameIn, ranged, fieldRight, isShort, isLong, textsRight, priceRight, isRecord, isEvent, isMessage, eventRefusal, eventOf, messageShaped, messageRefusal, messageOf}
+use Rattle.records.specs.Record.{recordBytes, recordAt, nameIn, ranged, fieldRight, isShort, isLong, textsRight, priceRight, isRecord, isEvent, isMessage, eventRefusal, eventIn, messageShaped, messageRefusal, messageOf}
 use Rattle.records.specs.Reading.{bytes-span, bytes-take, bytes-drop, within-most, text-short, number-narrow, bytes-content, in-field, Whole, whole-of}
 use Rattle.records.specs.Back.{text-bits}
 
@@ -352,19 +352,19 @@ module _ (s : List ℕ) (w : Bytes s) (ok : eventRefusal s ≡ 0) where
   unfolding eventRefusal
   taken = split-refusal _ (ranged s 0) ok
 
-  event-is : eventOf s ≡ recordAt s 0
-  unfolding eventOf
+  event-is : eventIn s ≡ recordAt s 0
+  unfolding eventIn
   event-is = if-true (eqb (eventRefusal s) 0) _ _ (eq-eqb _ 0 ok)
 
   -- an event that is taken passes the test of events, and the whole slice is its writing
-  pub event-right : isEvent (eventOf s) ≡ true
+  pub event-right : isEvent (eventIn s) ≡ true
   unfolding isEvent recordAt
   event-right =
       let p = both-true (shaped s 0) _ (taken .0) in
       let q = both-true (leb (kindAt s 0) 9) _ (p .1) in
       ap isEvent event-is ∙ both-hold _ _ (record-right s 0 w (p .0) (taken .1)) (q .0)
 
-  pub event-writing : recordBytes (eventOf s) ≡ s
+  pub event-writing : recordBytes (eventIn s) ≡ s
   unfolding span
   event-writing =
       let p = both-true (shaped s 0) _ (taken .0) in

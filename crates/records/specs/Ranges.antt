@@ -18,7 +18,7 @@ use Rattle.format.specs.Format.{size, range, fields, inRange, isKind, required,
 use Rattle.records.specs.declared.LongText.{LongText}
 use Rattle.records.specs.declared.Record.{Record}
 use Rattle.records.specs.Fields.{numbersOf, highOf}
-use Rattle.records.specs.Record.{nameIn, fieldRight, isShort, isLong, textsRight, priceRight, isRecord, isEvent, eventRefusal, eventOf}
+use Rattle.records.specs.Record.{nameIn, fieldRight, isShort, isLong, textsRight, priceRight, isRecord, isEvent, eventRefusal, eventIn}
 use Rattle.records.specs.Reading.{within-most}
 use Rattle.records.specs.Right.{RightText, RightLong, Right, right}
 use Rattle.records.specs.Accepted.{event-right}
@@ -148,6 +148,6 @@ module _ (r : Record) (h : Right r) where
       high false e = if-false (bit (r .map) 26) _ _ e ∙ eq-eqb (highOf r) 0 (h .nothigh e)
 
 -- an event that is taken
-pub event-facts : (s : List ℕ) → Bytes s → eventRefusal s ≡ 0 → Right (eventOf s)
+pub event-facts : (s : List ℕ) → Bytes s → eventRefusal s ≡ 0 → Right (eventIn s)
 unfolding isEvent
-event-facts s w e = right (eventOf s) (both-true (isRecord (eventOf s)) (leb (eventOf s .kind) 9) (event-right s w e) .0)
+event-facts s w e = right (eventIn s) (both-true (isRecord (eventIn s)) (leb (eventIn s .kind) 9) (event-right s w e) .0)

@@ -26,7 +26,7 @@ use Rattle.format.specs.Laws.{start-up, start-on, start-off, length-part, conte
 use Rattle.records.specs.declared.Record.{Record}
 use Rattle.records.specs.declared.Got.{Got}
 use Rattle.records.specs.Fields.{longOf, recordOf, blank, Short, Narrow, builtFrom}
-use Rattle.records.specs.Record.{recordAt, nameIn, ranged, recordRefusal, eventRefusal, eventOf, Reads}
+use Rattle.records.specs.Record.{recordAt, nameIn, ranged, recordRefusal, eventRefusal, eventIn, Reads}
 
 drop-take : (k n : ℕ) (l : List ℕ) → drop k (take n l) ≡ take (n - k) (drop k l)
 drop-take zero n l = let e : n - 0 ≡ n = omega arith in rw e refl
@@ -263,20 +263,20 @@ module _ (s : List ℕ) (o : ℕ) (r : Got) where
 -- ---- events
 
 module _ (s : List ℕ) where
-  pub event-shape : shaped s 0 ≡ false → (eventRefusal s ≡ 3) × (eventOf s ≡ blank)
-  unfolding eventRefusal eventOf if_then_else_
+  pub event-shape : shaped s 0 ≡ false → (eventRefusal s ≡ 3) × (eventIn s ≡ blank)
+  unfolding eventRefusal eventIn if_then_else_
   event-shape e = rw e (refl, refl)
 
-  pub event-kind : shaped s 0 ≡ true → 9 < kindAt s 0 → (eventRefusal s ≡ 3) × (eventOf s ≡ blank)
-  unfolding eventRefusal eventOf if_then_else_
+  pub event-kind : shaped s 0 ≡ true → 9 < kindAt s 0 → (eventRefusal s ≡ 3) × (eventIn s ≡ blank)
+  unfolding eventRefusal eventIn if_then_else_
   event-kind e h = rw (e, lt-leb (kindAt s 0) 9 h) (refl, refl)
 
-  pub event-over : shaped s 0 ≡ true → kindAt s 0 ≤ 9 → (endOf s 0 ≡ length s → ⊥) → (eventRefusal s ≡ 3) × (eventOf s ≡ blank)
-  unfolding eventRefusal eventOf if_then_else_
+  pub event-over : shaped s 0 ≡ true → kindAt s 0 ≤ 9 → (endOf s 0 ≡ length s → ⊥) → (eventRefusal s ≡ 3) × (eventIn s ≡ blank)
+  unfolding eventRefusal eventIn if_then_else_
   event-over e h n = rw (e, le-leb (kindAt s 0) 9 h, ne-eqb (endOf s 0) (length s) n) (refl, refl)
 
   pub event-taken : (r : Got) → Reads s 0 r → shaped s 0 ≡ true → kindAt s 0 ≤ 9 → endOf s 0 ≡ length s
-      → (r .refusal ≡ eventRefusal s) × (r .taken ≡ eventOf s)
-  unfolding eventRefusal eventOf recordRefusal if_then_else_
+      → (r .refusal ≡ eventRefusal s) × (r .taken ≡ eventIn s)
+  unfolding eventRefusal eventIn recordRefusal if_then_else_
   event-taken r h e k n =
       rw (e, le-leb (kindAt s 0) 9 k, eq-eqb (endOf s 0) (length s) n) (rw e at (h .refusal), rw e at (h .taken))

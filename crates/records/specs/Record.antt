@@ -50,8 +50,8 @@ recordRefusal s o = refusalBy (shaped s o) (ranged s o)
 unfoldable pub eventRefusal : List ℕ → ℕ
 eventRefusal s = refusalBy (shaped s 0 && (leb (kindAt s 0) 9 && eqb (endOf s 0) (length s))) (ranged s 0)
 
-unfoldable pub eventOf : List ℕ → Record
-eventOf s = if eqb (eventRefusal s) 0 then recordAt s 0 else blank
+unfoldable pub eventIn : List ℕ → Record
+eventIn s = if eqb (eventRefusal s) 0 then recordAt s 0 else blank
 
 -- ---- messages: kinds 16 to 20, anywhere in a buffer
 

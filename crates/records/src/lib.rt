@@ -8,7 +8,7 @@ ghost use lib.ListN.{length};
 ghost use Rattle.prelude.specs.Span.{splice};
 ghost use Rattle.prelude.specs.Cases.{if_then_else_};
 ghost use Rattle.records.specs.Fields.{blank};
-ghost use Rattle.records.specs.Record.{recordBytes, nameIn, eventRefusal, eventOf, Shapes, Reads};
+ghost use Rattle.records.specs.Record.{recordBytes, nameIn, eventRefusal, eventIn, Shapes, Reads};
 ghost use Rattle.records.specs.Answer.{headBytes, answerBytes, chosen, ReadsMessage, ReadsFrom, ReadsAnswer, Holds};
 use prelude::Terms;
 use prelude::Text;
@@ -193,7 +193,7 @@ fn read_record(s: &[u8], o: usize) -> Got
 
 // An event, from a slice that is one whole record.
 pub fn read_event(s: &[u8]) -> EventRead
-    ensures { λ r. ⌜ (r .refusal ≡ eventRefusal (now (s .entry))) × (r .event ≡ eventOf (now (s .entry))) ⌝ }
+    ensures { λ r. ⌜ (r .refusal ≡ eventRefusal (now (s .entry))) × (r .event ≡ eventIn (now (s .entry))) ⌝ }
 {
     let got = read_record(s, 0);
     if got.refusal == 3 {

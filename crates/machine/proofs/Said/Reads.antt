@@ -19,7 +19,7 @@ use Rattle.format.specs.Places.{start, strip, part, content, kindAt, mapAt, sha
 use Rattle.records.specs.declared.Ids.{Ids}
 use Rattle.records.specs.declared.Record.{Record}
 use Rattle.records.specs.Fields.{numbersOf}
-use Rattle.records.specs.Record.{recordAt, nameIn, ranged, refusalBy, isRecord, isEvent, eventRefusal, eventOf}
+use Rattle.records.specs.Record.{recordAt, nameIn, ranged, refusalBy, isRecord, isEvent, eventRefusal, eventIn}
 use Rattle.records.specs.Reading.{bytes-span, bytes-drop, bytes-take}
 use Rattle.records.specs.Right.{RightText, Right, right}
 use Rattle.records.specs.Ranges.{Ranges, ranges, stands, event-facts}
@@ -97,8 +97,8 @@ module _ (e : Event) (h : Right e) where
 
 -- ---- bytes
 
-read-at : (s : List ℕ) → eventRefusal s ≡ 0 → eventOf s ≡ recordAt s 0
-unfolding eventOf
+read-at : (s : List ℕ) → eventRefusal s ≡ 0 → eventIn s ≡ recordAt s 0
+unfolding eventIn
 read-at s ok = if-true (eqb (eventRefusal s) 0) _ _ (eq-eqb _ 0 ok)
 
 -- the texts that were read are made of bytes
@@ -125,17 +125,17 @@ module _ (s : List ℕ) (w : Bytes s) where
     bytes = λ k. subst (λ (x : Text). getD (x .bytes) k 0 < 256) (sym z) (text-bytes (content s o m b) (content-bytes o m b) k);
   }
 
-  text-at : eventRefusal s ≡ 0 → (f : Ids → Text) (b : ℕ) → f (recordAt s 0 .ids) ≡ textOf (content s 0 (mapAt s 0) b) → RightText (f (eventOf s .ids)) → WholeText (f (eventOf s .ids))
-  text-at ok f b z r = whole-text (f (eventOf s .ids)) 0 (mapAt s 0) b (ap (λ (x : Record). f (x .ids)) (read-at s ok) ∙ z) r
+  text-at : eventRefusal s ≡ 0 → (f : Ids → Text) (b : ℕ) → f (recordAt s 0 .ids) ≡ textOf (content s 0 (mapAt s 0) b) → RightText (f (eventIn s .ids)) → WholeText (f (eventIn s .ids))
+  text-at ok f b z r = whole-text (f (eventIn s .ids)) 0 (mapAt s 0) b (ap (λ (x : Record). f (x .ids)) (read-at s ok) ∙ z) r
 
 pub event-ranged : EventRanged
-event-ranged s w ok = right-ranged (eventOf s) (event-facts s w ok)
+event-ranged s w ok = right-ranged (eventIn s) (event-facts s w ok)
 
 pub event-whole : EventWhole
 unfolding recordAt
 event-whole s w ok =
-    let h : Right (eventOf s) = event-facts s w ok in
-    let r : Ranges (eventOf s) = ranges (eventOf s) h in
+    let h : Right (eventIn s) = event-facts s w ok in
+    let r : Ranges (eventIn s) = ranges (eventIn s) h in
     record {
       client = r .client;
       venue = r .venue;
@@ -170,5 +170,5 @@ event-kind s ok =
     let k : ℕ = kindAt s 0 in
     let (shape, e) = both-true (shaped s 0) _ (accepted _ (ranged s 0) ok) in
     let (bits, whole) = both-true (bitsRight k (mapAt s 0)) _ (both-true (leb (0 + 5) (length s)) _ shape .1) in
-    let is : eventOf s .kind ≡ k = ap (λ (r : Record). r .kind) (read-at s ok) in
+    let is : eventIn s .kind ≡ k = ap (λ (r : Record). r .kind) (read-at s ok) in
     (rw is (kind-above k (both-true (isKind k) _ bits .0)), rw is (leb-true k 9 (both-true (leb k 9) _ e .0)))

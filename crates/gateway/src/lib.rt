@@ -1,0 +1,63 @@
+// The entries of the gateway's book, for a host that calls them as C functions on byte slices:
+// `start` makes an empty book, `event` takes one record and writes the answer, `check` says whether a
+// book keeps its rules. Each is total: whatever the bytes, it returns document 01's number, and a
+// refused call has written nothing. Rests on rules, records, book and store.
+ghost use mathlib.Core.Path.{_≡_};
+ghost use Rattle.gateway.specs.Entries.{startOf, startRefusal, checkOf, outcome, eventOf};
+
+mod loads; // records in use, and what an event's handling needs of the book
+mod step; // an event's whole effect, by value
+mod write; // a change written into the book
+
+const BOOK: usize = 65536;
+
+const SHORTEST_ANSWER: usize = 1024;
+
+// Makes an empty book: zeros but for the setting, the most ClOrdIDs that a client may use.
+#[no_mangle]
+pub extern "C" fn start(book: &mut [u8], setting: u32) -> u32
+    ensures { λ r. ⌜ (r ≡ startRefusal (now (book .entry))) × (now (book .exit) ≡ startOf (now (book .entry)) setting) ⌝ }
+{
+    if book.len() != BOOK {
+        return 1;
+    }
+    store::clear(book, setting);
+    0
+}
+
+// Takes the event in `record`: the book changes, and the answer stands at the start of `answer`.
+#[no_mangle]
+pub extern "C" fn event(book: &mut [u8], record: &[u8], answer: &mut [u8]) -> u32
+    ensures { λ r. ⌜ outcome r (now (book .exit)) (now (answer .exit)) ≡ eventOf (now (book .entry)) (now («record» .entry)) (now (answer .entry)) ⌝ }
+{
+    if !rules::keeps(book) {
+        return 1;
+    }
+    if answer.len() < SHORTEST_ANSWER {
+        return 2;
+    }
+    let read = records::read_event(record);
+    if read.refusal != 0 {
+        return read.refusal;
+    }
+    let c = step::step_of(book, read.event);
+    if c.refusal != 0 {
+        return c.refusal as u32;
+    }
+    write::place_order(book, c.place, c.order);
+    write::place_requests(book, c.requests);
+    let out = c.output;
+    let _ = records::write_answer(answer, out.alarm, out.count, out.first, out.second);
+    0
+}
+
+// Whether the book keeps its rules: 0, or 1.
+#[no_mangle]
+pub extern "C" fn check(book: &[u8]) -> u32
+    ensures { λ r. ⌜ r ≡ checkOf (now (book .entry)) ⌝ }
+{
+    if rules::keeps(book) {
+        return 0;
+    }
+    1
+}

@@ -1,0 +1,40 @@
+// A change written into the book's bytes. Rests on store.
+ghost use mathlib.Core.Path.{_≡_};
+ghost use Rattle.gateway.specs.Entries.{placeOrder, markLink, placeRequests};
+use machine::Requests;
+use store::Order;
+
+// The order goes to the place of its link: 0 is none, one past those in use is a new order.
+pub(crate) fn place_order(book: &mut [u8], place: u16, o: Order)
+    ensures { λ _. ⌜ now (book .exit) ≡ placeOrder (now (book .entry)) place o ⌝ }
+{
+    if place == 0 {
+        return;
+    }
+    if (place as usize) <= store::order_count(book) {
+        store::store_order(book, (place - 1) as usize, o);
+        return;
+    }
+    store::add_order(book, o);
+}
+
+// The request of this link is marked answered; 0 is none.
+fn mark_link(book: &mut [u8], link: u16)
+    ensures { λ _. ⌜ now (book .exit) ≡ markLink (now (book .entry)) link ⌝ }
+{
+    if link == 0 {
+        return;
+    }
+    store::mark_answered(book, (link - 1) as usize);
+}
+
+pub(crate) fn place_requests(book: &mut [u8], r: Requests)
+    ensures { λ _. ⌜ now (book .exit) ≡ placeRequests (now (book .entry)) r ⌝ }
+{
+    mark_link(book, r.answered);
+    mark_link(book, r.superseded);
+    if r.added == 0 {
+        return;
+    }
+    store::add_request(book, r.request);
+}
