@@ -2,3 +2,5 @@ pub mod Entries
 pub mod Steps
 pub mod Found
 pub mod Entered
+pub mod Questions
+pub mod Claims

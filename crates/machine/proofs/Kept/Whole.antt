@@ -15,12 +15,14 @@ use Rattle.store.specs.declared.GatewayCancel.{GatewayCancel}
 use Rattle.store.specs.declared.Order.{Order}
 use Rattle.store.specs.declared.Request.{Request}
 use Rattle.store.specs.Book.{Book, orderIn, requestIn}
+use Rattle.store.specs.Orders.{WholeOrder}
+use Rattle.store.specs.Requests.{WholeRequest}
 use Rattle.machine.specs.Changes.{Event, isCancel}
 use Rattle.machine.specs.Machine.{after, bookAfter}
 use Rattle.format.specs.Codes.{sides, ordtypes, timesinforce, statuses, isSide, isOrdtype, isTimeinforce, isStatus, listed-small}
 use Rattle.machine.specs.Ranges.{isQty, isPrice}
 use Rattle.machine.specs.Rules.{forceRange, pricedRange, pendingRange, gatewayRange, pendingTest, cancelRule, pendingRule, filledRule, rules}
-use Rattle.machine.specs.Whole.{WholeOrder, WholeRequest, WholeBook, WholeStart, WholeKept}
+use Rattle.machine.specs.Whole.{WholeBook, WholeStart, WholeKept}
 use Rattle.machine.proofs.Kept.Laws.{or-else, is-not, name-short}
 use Rattle.machine.proofs.Kept.Tables.{linked-at}
 use Rattle.machine.proofs.Kept.Local.{OrderKept, names-kept, TermsKept, terms-kept}
@@ -142,35 +144,23 @@ whole-order i o qs few l f =
     let amendments : o .links .amendments ≤ 65535 = f .amendments in
     let sends : o .gateway .refusedsends ≤ 4294967295 = f .refusedsends in
     record {
-      client = f .client;
-      venue = f .venue;
-      name = n .name;
-      clordid = n .clordid;
-      downstream = n .downstream;
-      symbol = n .symbol;
-      venueorderid = n .venueorderid;
-      side = side-byte (o .terms .side) (t .side);
-      ordtype = c .ordtype′;
-      timeinforce = force-byte (o .terms .timeinforce) (t .timeinforce);
-      qty = qty;
-      price = c .price′;
-      status = status-byte (o .state .status) (l .coded);
-      cumqty = omega arith;
-      avgpx = price-word (o .state .avgpx) (l .average);
-      execseq = f .execseq;
-      amendments = omega arith;
-      current = omega arith;
-      cancel = omega arith;
-      pending = omega arith;
-      pending-qty = p .qty;
-      pending-price = p .priced .price′;
-      pending-ordtype = p .priced .ordtype′;
-      pending-timeinforce = p .timeinforce;
-      tries = omega arith;
-      origdownstream = omega arith;
-      refusedsends = omega arith;
-      stage = g .stage;
-      no-stage = g .no-stage;
+      fits = record {
+        client = f .client;
+        venue = f .venue;
+        names = record { name = n .name; clordid = n .clordid; downstream = n .downstream; symbol = n .symbol; venueorderid = n .venueorderid };
+        terms = record {
+          side = side-byte (o .terms .side) (t .side);
+          ordtype = c .ordtype′;
+          timeinforce = force-byte (o .terms .timeinforce) (t .timeinforce);
+          qty = qty;
+          price = c .price′;
+        };
+        state = record { status = status-byte (o .state .status) (l .coded); cumqty = omega arith; avgpx = price-word (o .state .avgpx) (l .average); execseq = f .execseq };
+        links = record { amendments = omega arith; current = omega arith; cancel = omega arith };
+        pending = record { request = omega arith; qty = p .qty; price = p .priced .price′; ordtype = p .priced .ordtype′; timeinforce = p .timeinforce };
+        gateway = record { tries = omega arith; origdownstream = omega arith; refusedsends = omega arith };
+      };
+      stage = record { one = g .stage; none = g .no-stage };
     }
 
 pub whole-book : (b : Book) → b .setting < 2 ^ 32 → rules b ≡ true → BookFits b → WholeBook b
@@ -200,19 +190,19 @@ book-fits b k w =
       order = orders-past (b .orders) (λ i h.
           let o : WholeOrder (orderIn b i) = w .order i h in
           record {
-            client = o .client;
-            venue = o .venue;
+            client = o .fits .client;
+            venue = o .fits .venue;
             names = record {
-              name = o .name;
+              name = o .fits .names .name;
               short = name-short (orderIn b i .names .name) (names-kept (orderIn b i .names) (good .order i h .names) .name);
-              clordid = o .clordid;
-              downstream = o .downstream;
-              symbol = o .symbol;
-              venueorderid = o .venueorderid;
+              clordid = o .fits .names .clordid;
+              downstream = o .fits .names .downstream;
+              symbol = o .fits .names .symbol;
+              venueorderid = o .fits .names .venueorderid;
             };
-            execseq = o .execseq;
-            amendments = omega (arith, o .amendments);
-            refusedsends = omega (arith, o .refusedsends);
+            execseq = o .fits .state .execseq;
+            amendments = omega (arith, o .fits .links .amendments);
+            refusedsends = omega (arith, o .fits .gateway .refusedsends);
           });
       request = requests-past (b .requests) (λ j h.
           let q : WholeRequest (requestIn b j) = w .request j h in

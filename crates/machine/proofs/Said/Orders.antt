@@ -16,13 +16,15 @@ use Rattle.store.specs.declared.GatewayCancel.{GatewayCancel}
 use Rattle.store.specs.declared.Order.{Order}
 use Rattle.store.specs.declared.Request.{Request}
 use Rattle.store.specs.Book.{Book, requestIn}
+use Rattle.store.specs.Orders.{WholeOrder}
+use Rattle.store.specs.Requests.{WholeRequest}
 use Rattle.text.specs.Numbered.{numberedText, decimal}
 use Rattle.text.specs.NameLaws.{numbered-fits, numbered-is-text, numbered-long, numbered-len}
 use Rattle.machine.specs.Orders.{oneMore, statusAt, setStatus, keptOrderId, recordVenueOrderId, pendingTerms, applyReplace, nextSequence, nextExec, withState, withPending, withGateway}
 use Rattle.machine.specs.Changes.{isFirst, isGateway, nextNumber, nextDownstream, numberedOrder}
 use Rattle.machine.specs.Ranges.{isQty, isPrice, textWithin}
 use Rattle.machine.specs.Rules.{termsRange, filledRule}
-use Rattle.machine.specs.Whole.{WholeOrder, WholeRequest, WholeBook}
+use Rattle.machine.specs.Whole.{WholeBook}
 use Rattle.machine.specs.declared.Facts.{Facts}
 use Rattle.machine.proofs.Numbered.{numbered-laws}
 use Rattle.machine.proofs.Kept.Laws.{kept-text, name-short}
@@ -42,18 +44,18 @@ order-told i o qs l w =
     let cum : o .state .cumqty ≤ o .terms .qty = leb-true (o .state .cumqty) (o .terms .qty) (l .filled) in
     let most : o .terms .qty ≤ 1000000000000 = leb-true (o .terms .qty) (10 ^ 12) (t .qty) in
     record {
-      client = w .client;
-      venue = w .venue;
+      client = w .fits .client;
+      venue = w .fits .venue;
       names = record {
-        name = record { long = w .name .long; range = n .name };
-        clordid = record { long = w .clordid .long; range = n .clordid };
-        downstream = record { long = w .downstream .long; range = n .downstream };
-        symbol = record { long = w .symbol .long; range = n .symbol };
-        venueorderid = record { long = w .venueorderid .long; range = n .venueorderid };
+        name = record { long = w .fits .names .name .long; range = n .name };
+        clordid = record { long = w .fits .names .clordid .long; range = n .clordid };
+        downstream = record { long = w .fits .names .downstream .long; range = n .downstream };
+        symbol = record { long = w .fits .names .symbol .long; range = n .symbol };
+        venueorderid = record { long = w .fits .names .venueorderid .long; range = n .venueorderid };
       };
       terms = l .terms;
-      state = record { status = l .coded; cumqty = le-leb (o .state .cumqty) (10 ^ 12) (omega arith); avgpx = l .average; execseq = w .execseq };
-      amendments = omega (arith, w .amendments);
+      state = record { status = l .coded; cumqty = le-leb (o .state .cumqty) (10 ^ 12) (omega arith); avgpx = l .average; execseq = w .fits .state .execseq };
+      amendments = omega (arith, w .fits .links .amendments);
       pending = λ some. pending-parts i o qs some l .terms;
     }
 
