@@ -1,2 +1,3 @@
 pub mod Booking
 pub mod Rejection
+pub mod Tries

@@ -2,6 +2,7 @@
 // definition in machine's GatewayCancel. Rests on change.
 ghost use mathlib.Core.Path.{_≡_};
 ghost use Rattle.machine.specs.GatewayCancel.{outstandingCancel, gatewayCancelInFlight, begun, trySent, givenUp, sendGatewayCancel, cancelOrder, gatewayCancelWaiting, resumeGatewayCancel, stuck, retryGatewayCancel, saysGone, gatewayCancelRefused};
+use crate::tries::sent;
 use machine::Change;
 use machine::Facts;
 use machine::Note;
@@ -18,7 +19,6 @@ use orders::message::cancel_request;
 use orders::order::NO_TEXT;
 use orders::order::has_gateway;
 use orders::order::is_done;
-use orders::order::one_more_8;
 use store::GatewayCancel;
 use store::Order;
 
@@ -66,12 +66,8 @@ fn begun(o: Order) -> GatewayCancel
 fn try_sent(o: Order) -> GatewayCancel
     ensures { λ r. ⌜ r ≡ trySent o ⌝ }
 {
-    let tries = one_more_8(o.gateway.tries);
-    let mut g = o.gateway;
-    g.tries = tries;
-    g.unsent = false;
-    g.origdownstream = o.links.current;
-    g
+    let g = o.gateway;
+    sent(g, o.links.current)
 }
 
 // Given up.

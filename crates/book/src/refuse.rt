@@ -5,13 +5,14 @@ ghost use lib.Dec.{eqb};
 ghost use Rattle.prelude.specs.Cases.{if_then_else_};
 ghost use Rattle.machine.specs.Orders.{noPending};
 ghost use Rattle.machine.specs.Messages.{cancelReject};
-ghost use Rattle.machine.specs.Amend.{notPending, refusedOrder, refusedNote, refuseRequest, venueNote, venueCancelReject, sendRefused, firstFailed, sendFailed, resendable, unsent};
+ghost use Rattle.machine.specs.Amend.{notPending, refusedOrder, refusedNote, refuseRequest, venueNote, venueCancelReject, firstFailed, sendFailed, resendable, unsent};
 use crate::amend::OTHER;
 use crate::amend::OURS;
 use crate::amend::has;
 use crate::gateway_cancel::VENUES;
 use crate::gateway_cancel::gateway_cancel_refused;
 use crate::gateway_cancel::resume_gateway_cancel;
+use crate::tries::failed;
 use machine::Change;
 use machine::Facts;
 use machine::Note;
@@ -42,15 +43,12 @@ use orders::order::REJECTED;
 use orders::order::has_gateway;
 use orders::order::is_done;
 use orders::order::next_exec;
-use orders::order::one_less_8;
-use orders::order::one_more_32;
 use orders::order::pending_terms;
 use orders::order::pick_8;
 use orders::order::pick_32;
 use orders::order::record_venue_order_id;
 use orders::order::set_status;
 use records::Record;
-use store::GatewayCancel;
 use store::Order;
 use store::Pending;
 use store::Request;
@@ -197,21 +195,6 @@ pub fn venue_cancel_reject(f: Facts, k: u16, q: Request, o: Order, e: Record) ->
     resume_gateway_cancel(f, c)
 }
 
-// One try less, and it waits.
-fn send_refused(g: GatewayCancel) -> GatewayCancel
-    ensures { λ r. ⌜ r ≡ sendRefused g ⌝ }
-{
-    let tries = one_less_8(g.tries);
-    let refusedsends = one_more_32(g.refusedsends);
-    GatewayCancel {
-        tries,
-        unsent: true,
-        stuck: g.stuck,
-        origdownstream: g.origdownstream,
-        refusedsends,
-    }
-}
-
 // The first send failed: the order is rejected, for a reason of ours.
 fn first_failed(f: Facts, k: u16, n: Note, o: Order) -> Change
     ensures { λ r. ⌜ r ≡ firstFailed f k n o ⌝ }
@@ -242,7 +225,7 @@ pub fn send_failed(f: Facts, k: u16, q: Request, venue: u16, n: Note, o: Order) 
     }
     if gateway {
         let was = o.gateway;
-        let now = send_refused(was);
+        let now = failed(was);
         let mut order = o;
         order.gateway = now;
         return settled(k, f.place, order);

@@ -1,5 +1,5 @@
 // Events and messages: the record, read and written. Rests on format; the modules `fields`, `places`,
-// `scan`, `take` and `put` do the parts.
+// `reader`, `scan`, `take` and `put` do the parts.
 ghost use mathlib.Core.Path.{_≡_};
 ghost use mathlib.Core.List.{[]};
 ghost use Prim.Native.Nat.{_<_, _+_, _≤_};
@@ -16,6 +16,7 @@ use prelude::Text;
 mod fields;
 mod places;
 mod put;
+mod reader;
 mod scan;
 mod take;
 
@@ -124,7 +125,7 @@ fn shape_at(s: &[u8], o: usize) -> Shape
         map: 0,
         at: none,
     };
-    if s.len() < o + 5 {
+    if reader::left_at(s, o) < 5 {
         return no;
     }
     let map = fields::word(s, o + 1);

@@ -1,10 +1,11 @@
 // Where the fields of a record start, and their ranges. Rests on format's table.
 ghost use mathlib.Core.Path.{_≡_};
-ghost use Prim.Native.Nat.{ℕ, _<_, _+_, _≤_};
-ghost use lib.ListN.{getD};
+ghost use Prim.Native.Nat.{ℕ, _<_, _+_, _-_, _≤_};
+ghost use lib.ListN.{length, getD};
 ghost use Rattle.format.specs.Codes.{within};
 ghost use Rattle.format.specs.Format.{inRange, size, range};
 ghost use Rattle.format.specs.Places.{extent, next, start};
+use crate::reader::next_at;
 
 // Whether a code field's number is a code of its list.
 fn code_in_range(g: u8, v: u64) -> bool
@@ -205,6 +206,13 @@ pub(crate) fn after(s: &[u8], map: u32, b: usize, at: usize) -> usize
     }
 }
 
+// How many bytes stand from a position on.
+pub(crate) fn rest(s: &[u8], at: usize) -> usize
+    ensures { λ r. ⌜ r ≡ length (now (s .entry)) - at ⌝ }
+{
+    if at < s.len() { s.len() - at } else { 0 }
+}
+
 // Where each field starts, and at 32 where the record ends.
 pub(crate) fn starts(s: &[u8], map: u32, o: usize) -> [usize; 33]
     requires { ⌜ o < 65536 ⌝ }
@@ -215,7 +223,7 @@ pub(crate) fn starts(s: &[u8], map: u32, o: usize) -> [usize; 33]
     let mut b = 0;
     while b < 32 {
         out[b] = at;
-        at = after(s, map, b, at);
+        at = next_at(s, map, b, at);
         b += 1;
     }
     out[32] = at;

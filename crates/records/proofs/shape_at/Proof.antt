@@ -18,20 +18,28 @@ use Rattle.records.proofs.shape_at.Tie as tie
 abbrev src : tie.Start → List ℕ
 src s = now (s .args .s)
 
-long : (c : tie.Else1) → leb (c .before .before .args .o + 5) (length (src (c .before .before))) ≡ true
-long c = le-leb _ _ (c .if1 .left)
+-- what the reader has left tells the length
+long : (c : tie.Else1) → leb (c .before .before .before .args .o + 5) (length (src (c .before .before .before))) ≡ true
+long c =
+    let s = c .before .before .before in
+    le-leb (s .args .o + 5) (length (src s)) (omega (arith, c .before .left-at .ensures, c .if1 .left))
 
-right : (c : tie.After-bits-right) → let s = c .before .before .before .before .before in
+short : (c : tie.Then1) → leb (c .before .before .before .args .o + 5) (length (src (c .before .before .before))) ≡ false
+short c =
+    let s = c .before .before .before in
+    lt-leb (s .args .o + 5) (length (src s)) (omega (arith, c .before .left-at .ensures, c .if1 .taken))
+
+right : (c : tie.After-bits-right) → let s = c .before .before .before .before .before .before in
     c .bits-right .result ≡ bitsRight (kindAt (src s) (s .args .o)) (mapAt (src s) (s .args .o))
 right c = rw (← c .before .before .word .ensures) (c .bits-right .ensures)
 
-ends : (c : tie.After-starts) → let s = c .before .before .before .before .before .before .before in
+ends : (c : tie.After-starts) → let s = c .before .before .before .before .before .before .before .before in
     (k : ℕ) → k ≤ 32 → getD (c .starts .result) k 0 ≡ start (src s) (s .args .o) (mapAt (src s) (s .args .o)) k
 ends c = rw (← c .before .before .before .before .word .ensures) (c .starts .ensures)
 
 returns : tie.Need-returns
 unfolding shaped
-returns c = record { whole = rw (lt-leb _ _ (c .if1 .taken)) refl; map = λ e. clash false e refl; places = λ e. clash false e refl }
+returns c = record { whole = rw (short c) refl; map = λ e. clash false e refl; places = λ e. clash false e refl }
 
 returns-2 : tie.Need-returns-2
 unfolding shaped
@@ -73,11 +81,11 @@ pub shape-at-spec : {M : Type 1} → statement M
 shape-at-spec =
     tie.close
     (tie.spec
-    (λ c. search needs)
-    returns
-    (λ c. search needs)
     (λ c κs. search needs)
-    (λ c. search needs)
+    returns
+    (λ c. omega (arith, c .before .left-at .ensures, c .if1 .left))
+    (λ c κs. omega (arith, c .before .left-at .ensures, c .if1 .left))
+    (λ c. omega (arith, c .before .before .before .left-at .ensures, c .before .before .if1 .left))
     (λ c κs. search needs)
     returns-2
     (λ c κs. search needs)

@@ -1,15 +1,23 @@
 //! A library's `start`, `event` and `check` against the model: refusal, answer bytes, bytes past
-//! the length, nothing written by a refused event, `check` 0 after each event, hidden state by
-//! probes on copies, and demand 3 counted from the messages.
+//! the length, nothing written by a refused event, every field of the book by docs/LAYOUT.md and
+//! no other byte of it, `check` 0 after each event, events on copies of the book, and demand 3
+//! counted from the messages.
 
-use lists::List;
+use std::panic::{AssertUnwindSafe, catch_unwind};
+
 use lists::random::Random;
+use lists::{Generator, List, PROFILES};
 use model::Machine;
 use model::machine::BOOK_BYTES;
 use model::watch::Watched;
 
+use crate::books;
 use crate::entries::Entries;
+use crate::expected::{self, Lent};
+use crate::keeps::broken;
+use crate::layout::{Book, Header};
 use crate::minimize::minimize;
+use crate::mirror::{self, Sending};
 use crate::probes;
 use crate::show;
 use crate::tally::Tally;
@@ -36,43 +44,35 @@ pub struct Mismatch {
 }
 
 /// A library with its book in hand.
+#[derive(Clone)]
 struct Caller<'a> {
     entries: &'a Entries,
     book: Vec<u8>,
+    sending: Sending,
 }
 
 impl Caller<'_> {
-    /// Calls `event` and holds what it gives, and what it writes, against the model's outcome.
-    fn event(&mut self, record: &[u8], buffer: usize, model: &Result<Vec<u8>, u32>) -> Result<(), String> {
+    /// Calls `event` and holds what it gives, and every byte that it writes, against the model's
+    /// outcome and the model's book after it.
+    fn event(
+        &mut self,
+        item: (&[u8], usize),
+        model: &Result<Vec<u8>, u32>,
+        machine: &Machine,
+    ) -> Result<(), String> {
+        let (record, buffer) = item;
         let before = self.book.clone();
         let filled: Vec<u8> = (0..buffer + GUARD).map(|at| (at * 151 + record.len()) as u8).collect();
         let mut answer = filled.clone();
         let refusal = self.entries.event(&mut self.book, record, &mut answer[..buffer]);
-        let library = match refusal {
-            0 => Ok(told(&answer[..buffer])),
-            refusal => Err(refusal),
-        };
-        if library != *model {
-            return Err(format!("model: {}\nlibrary: {}", show::outcome(model), show::outcome(&library)));
-        }
-        let length = model.as_ref().map_or(0, Vec::len);
-        if answer[length..] != filled[length..] {
-            return Err(format!("answer bytes changed past length {length}"));
-        }
-        if refusal != 0 && self.book != before {
-            return Err(format!("refused with {refusal}, and yet the book changed"));
-        }
+        self.sending.follow(machine);
+        let right = model.clone().map(|answer| (answer, mirror::book(machine, &self.sending)));
+        expected::holds(&right, refusal, (&before, &self.book), (&filled, &answer))?;
         match self.entries.check(&self.book) {
             0 => Ok(()),
             check => Err(format!("check gives {check} after the event")),
         }
     }
-}
-
-/// The answer that stands in the buffer, by its own length.
-fn told(answer: &[u8]) -> Vec<u8> {
-    let length = answer.first_chunk().map_or(0, |length| usize::from(u16::from_le_bytes(*length)));
-    answer[..length.min(answer.len())].to_vec()
 }
 
 /// Runs the list through both; the first difference, if any.
@@ -83,16 +83,14 @@ pub fn compare(
     mut tally: Option<&mut Tally>,
 ) -> Result<(), Mismatch> {
     let found = |at: usize| move |what: String| Mismatch { at, what };
-    let mut caller = Caller { entries, book: vec![0xA5; BOOK_BYTES] };
     lengths(entries, list.setting).map_err(found(0))?;
-    if entries.start(&mut caller.book, list.setting) != 0 || entries.check(&caller.book) != 0 {
-        return Err(found(0)("start or the check after it does not give 0".into()));
-    }
+    let mut caller = started(entries, list.setting).map_err(found(0))?;
     let mut watched = Watched::start(list.setting);
     let mut random = Random::new(list.items.len() as u64);
     for (at, item) in list.items.iter().enumerate() {
         let outcome = watched.event(&item.record, item.answer_buffer).map_err(found(at))?;
-        caller.event(&item.record, item.answer_buffer, &outcome).map_err(found(at))?;
+        let machine = &watched.machine;
+        caller.event((&item.record, item.answer_buffer), &outcome, machine).map_err(found(at))?;
         if let Some(tally) = &mut tally {
             tally.add(&item.record, &outcome);
         }
@@ -107,6 +105,69 @@ pub fn compare(
     probe(&caller, &watched.machine, chains.into_iter()).map_err(found(last))
 }
 
+/// A book that keeps its rules, built field by field, whether any events lead there or not.
+pub struct Built {
+    bytes: Vec<u8>,
+    /// Events drawn for it.
+    pub list: List,
+}
+
+impl Built {
+    pub fn draw(seed: u64, events: usize) -> Self {
+        let bytes = books::random(&mut Random::new(seed));
+        let (machine, _) = mirror::machine(&Book::read(&bytes));
+        // Not the realistic profile and the like: here most events should meet something odd.
+        let profile = &PROFILES[1 + seed as usize % (PROFILES.len() - 1)];
+        let mut generator = Generator::on(machine, profile, seed);
+        let items = (0..events).map(|_| generator.next_item()).collect();
+        Self { bytes, list: List { setting: generator.setting(), items } }
+    }
+
+    /// The book with other events.
+    pub fn with(&self, list: List) -> Self {
+        Self { bytes: self.bytes.clone(), list }
+    }
+}
+
+/// Runs the events on a built book through both. Demand 3 is counted from a start, and the Rust's
+/// own `check()` asks more than document 01's rules: here the second decision of these stands alone.
+pub fn compare_built(
+    entries: &Entries,
+    built: &Built,
+    mut tally: Option<&mut Tally>,
+) -> Result<(), Mismatch> {
+    let found = |at: usize| move |what: String| Mismatch { at, what };
+    let (mut machine, sending) = mirror::machine(&Book::read(&built.bytes));
+    let mut caller = Caller { entries, book: built.bytes.clone(), sending };
+    for (at, item) in built.list.items.iter().enumerate() {
+        let handled = || machine.event(&item.record, item.answer_buffer);
+        let outcome =
+            catch_unwind(AssertUnwindSafe(handled)).map_err(|_| found(at)("the Rust panics".into()))?;
+        caller.event((&item.record, item.answer_buffer), &outcome, &machine).map_err(found(at))?;
+        if let Some(rule) = broken(&caller.book) {
+            return Err(found(at)(format!("the event breaks a rule: {rule}")));
+        }
+        if let Some(tally) = &mut tally {
+            tally.add(&item.record, &outcome);
+        }
+    }
+    Ok(())
+}
+
+/// A book that `start` has made where other bytes were: empty, with its setting, keeping its rules.
+fn started<'a>(entries: &'a Entries, setting: u32) -> Result<Caller<'a>, String> {
+    let mut book = vec![0xA5; BOOK_BYTES];
+    let (started, checked) = (entries.start(&mut book, setting), entries.check(&book));
+    if (started, checked) != (0, 0) {
+        return Err(format!("start gives {started}, the check after it {checked}"));
+    }
+    let empty = Header { orders: 0, requests: 0, setting: setting.into() };
+    match Header::read(&book) {
+        header if header == empty => Ok(Caller { entries, book, sending: Sending::default() }),
+        header => Err(format!("start with setting {setting} leaves {header:?}")),
+    }
+}
+
 /// Runs each chain on a copy of the book and of the model.
 fn probe(
     caller: &Caller<'_>,
@@ -115,10 +176,10 @@ fn probe(
 ) -> Result<(), String> {
     for chain in chains {
         let mut machine = machine.clone();
-        let mut copy = Caller { entries: caller.entries, book: caller.book.clone() };
+        let mut copy = caller.clone();
         for (at, record) in chain.iter().enumerate() {
             let outcome = machine.event(record, 1_024);
-            copy.event(record, 1_024, &outcome).map_err(|what| {
+            copy.event((record, 1_024), &outcome, &machine).map_err(|what| {
                 let events: Vec<String> = chain[..=at].iter().map(|record| show::event(record)).collect();
                 format!("hidden state, on a copy:\n  {}\n{what}", events.join("\n  "))
             })?;
@@ -145,25 +206,25 @@ fn lengths(entries: &Entries, setting: u32) -> Result<(), String> {
     Ok(())
 }
 
-/// On a copy with one byte changed, the event's first question is what check decides, and a taken
-/// event leaves a book that keeps its rules.
+/// On copies with one byte changed, `check` is what the second decision says, and `event` what it
+/// says and, where the book still keeps its rules, what the Rust does on that book.
 fn damaged(caller: &Caller<'_>, record: &[u8], random: &mut Random) -> Result<(), String> {
     let entries = caller.entries;
     for _ in 0..CHAINS {
         let mut book = caller.book.clone();
         let at = random.below(BOOK_BYTES as u64) as usize;
         book[at] ^= 1 << random.below(8);
-        let (before, mut answer) = (book.clone(), vec![0; 1_024]);
-        let keeps = entries.check(&book) == 0;
+        let lent = Lent::new(book);
+        let (mut book, mut answer) = (lent.bytes.clone(), vec![0; 1_024]);
+        let check = entries.check(&book);
         let refusal = entries.event(&mut book, record, &mut answer);
-        let fits = match (keeps, refusal) {
-            (false, refusal) => refusal == 1 && book == before && answer.iter().all(|&byte| byte == 0),
-            (true, 0) => entries.check(&book) == 0,
-            (true, refusal) => refusal != 1 && book == before,
-        };
-        if !fits {
-            return Err(format!("byte {at} changed: check {}, event {refusal}", u8::from(!keeps)));
+        let found = |what: String| format!("byte {at} of the book changed: {what}");
+        if check != u32::from(!lent.keeps()) {
+            return Err(found(format!("check gives {check}: {:?}", broken(&lent.bytes))));
         }
+        let right = lent.event(record, 1_024).map_err(found)?;
+        let filled = vec![0; 1_024];
+        expected::holds(&right, refusal, (&lent.bytes, &book), (&filled, &answer)).map_err(found)?;
     }
     Ok(())
 }
@@ -180,4 +241,15 @@ pub fn explain(entries: &Entries, list: &List, mismatch: &Mismatch) -> String {
     let small = minimize(&cut, |list| fails(list, probing));
     let again = compare(entries, &small, probing, None).expect_err("the short list fails");
     format!("{}event {}: {}", show::list(&small), again.at + 1, again.what)
+}
+
+/// The same of a built book.
+pub fn explain_built(entries: &Entries, built: &Built, mismatch: &Mismatch) -> String {
+    let items = built.list.items[..=mismatch.at].to_vec();
+    let cut = List { setting: built.list.setting, items };
+    let small = minimize(&cut, |list| compare_built(entries, &built.with(list.clone()), None).is_err());
+    let small = built.with(small);
+    let again = compare_built(entries, &small, None).expect_err("the short list fails");
+    let (book, list) = (Book::read(&small.bytes).show(), show::list(&small.list));
+    format!("on the book\n{book}{list}event {}: {}", again.at + 1, again.what)
 }

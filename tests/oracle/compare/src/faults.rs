@@ -4,10 +4,11 @@
 use gateway::book::Order;
 use model::Machine;
 use model::answer::latin1;
-use model::machine::MOST_REQUESTS;
+use model::machine::{ANSWER_BYTES, BOOK_BYTES, MOST_REQUESTS};
 use model::numbers::qty_count;
 use model::record::*;
 
+use crate::layout::{self, Book, Header};
 use crate::stand_in::names;
 
 #[derive(Debug, Clone, Copy, PartialEq, Eq)]
@@ -38,10 +39,53 @@ pub enum Fault {
     SequenceStands,
     /// A replace's time in force is not kept while it is pending.
     LosesPendingTimeInForce,
+    /// The link to the current request stays where it was.
+    StaleCurrentLink,
+    /// The link to the latest cancel stays where it was.
+    StaleCancelLink,
+    /// A pending replace stays when it is answered.
+    StalePending,
+    /// A gateway cancel that is sent has the byte of one that is stuck.
+    WrongStage,
+    /// A gateway cancel names the book's first request as what it cancels.
+    WrongOrigDownstream,
+    /// Refused sends are not counted.
+    RefusedSendsStand,
+    /// An answered request is not marked.
+    AnsweredNotSet,
+    /// A request keeps its own ClOrdID for the one that it amends.
+    OwnOrigClOrdId,
+    /// The average stays what it was.
+    OldAverage,
+    /// The last two requests stand in the wrong order.
+    RequestsSwapped,
+    /// An event moves the report sequence of the first order, whichever it names.
+    OtherOrderTouched,
+    /// The setting counts down.
+    SettingLost,
+    /// A spare byte of an order is written.
+    SpareWritten,
+    /// A byte of a request record that is not in use is written.
+    NextRecordWritten,
+    /// A byte behind both tables is written.
+    UnusedWritten,
+    /// A byte of the header behind the setting is written.
+    HeaderWritten,
+    /// A symbol has a byte behind its end.
+    TextNotFilled,
+    /// Question 2 is asked before question 1.
+    TwoBeforeOne,
+    /// Question 4 is asked before question 3, of records that are a byte too long.
+    FourBeforeThree,
+    /// A longer book is taken for the one that it starts with.
+    TakesLongerBooks,
+    /// Question 1 leaves a rule of keeps.rs out.
+    RuleLeftOut(usize),
 }
 
 impl Fault {
-    pub const ALL: [Self; 13] = [
+    /// Faults that the comparison finds.
+    pub const COMPARED: [Self; 30] = [
         Self::AddsLastQty,
         Self::AcknowledgesLater,
         Self::SevenEarly,
@@ -55,6 +99,33 @@ impl Fault {
         Self::LosesVenueOrderId,
         Self::SequenceStands,
         Self::LosesPendingTimeInForce,
+        Self::StaleCurrentLink,
+        Self::StaleCancelLink,
+        Self::StalePending,
+        Self::WrongStage,
+        Self::WrongOrigDownstream,
+        Self::RefusedSendsStand,
+        Self::AnsweredNotSet,
+        Self::OwnOrigClOrdId,
+        Self::OldAverage,
+        Self::RequestsSwapped,
+        Self::OtherOrderTouched,
+        Self::SettingLost,
+        Self::SpareWritten,
+        Self::NextRecordWritten,
+        Self::UnusedWritten,
+        Self::HeaderWritten,
+        Self::TextNotFilled,
+    ];
+
+    /// Faults that calls with bad input find.
+    pub const BAD_INPUT: [Self; 6] = [
+        Self::TwoBeforeOne,
+        Self::FourBeforeThree,
+        Self::TakesLongerBooks,
+        Self::RefusedWritesBook,
+        Self::RefusedWritesAnswer,
+        Self::WritesPastTheAnswer,
     ];
 }
 
@@ -65,6 +136,9 @@ const OVERFILL_ANSWER: [u8; 4] = [4, 0, 0, 2];
 pub fn event(fault: Fault, machine: &mut Machine, record: &[u8], buffer: usize) -> Result<Vec<u8>, u32> {
     let before = machine.clone();
     let outcome = machine.event(record, buffer);
+    if fault == Fault::FourBeforeThree && outcome == Err(3) {
+        return early_four(record);
+    }
     let Some(read) = Record::read_event(record).filter(Record::in_range) else { return outcome };
     let order = named_order(&before, &read);
     match fault {
@@ -99,6 +173,12 @@ pub fn event(fault: Fault, machine: &mut Machine, record: &[u8], buffer: usize) 
             outcome
         }
     }
+}
+
+/// The answer to a record that does not read: 4 where all but its last byte would be out of range.
+fn early_four(record: &[u8]) -> Result<Vec<u8>, u32> {
+    let short = record.split_last().and_then(|(_, short)| Record::read_event(short));
+    if short.is_some_and(|read| !read.in_range()) { Err(4) } else { Err(3) }
 }
 
 /// The order whose request a venue's event names.
@@ -163,5 +243,65 @@ fn spoil(fault: Fault, machine: &mut Machine) {
             }
             _ => {}
         }
+    }
+}
+
+/// Faults in how the fields of the book after an event are written.
+pub fn write(fault: Fault, before: &Book, after: &mut Book) {
+    for (was, order) in before.orders.iter().zip(&mut after.orders) {
+        write_order(fault, was, order);
+    }
+    for (was, request) in before.requests.iter().zip(&mut after.requests) {
+        if fault == Fault::AnsweredNotSet {
+            request.answered = was.answered;
+        }
+    }
+    match (fault, &mut after.requests[..]) {
+        (Fault::SettingLost, _) => after.header.setting = after.header.setting.saturating_sub(1),
+        (Fault::RequestsSwapped, [.., one, other]) => std::mem::swap(one, other),
+        (Fault::OwnOrigClOrdId, [.., last]) if last.orig_cl_ord_id.length > 0 => {
+            last.orig_cl_ord_id = last.cl_ord_id;
+        }
+        _ => {}
+    }
+    if let (Fault::OtherOrderTouched, Some(first)) = (fault, after.orders.first_mut()) {
+        first.exec_seq += 1;
+    }
+}
+
+fn write_order(fault: Fault, was: &layout::Order, order: &mut layout::Order) {
+    match fault {
+        Fault::StaleCurrentLink => order.current = was.current,
+        Fault::StaleCancelLink if was.cancel != 0 => order.cancel = was.cancel,
+        Fault::StalePending if order.pending == 0 && was.pending != 0 => {
+            order.pending = was.pending;
+            order.pending_qty = was.pending_qty;
+            order.pending_price = was.pending_price;
+            order.pending_ord_type = was.pending_ord_type;
+            order.pending_time_in_force = was.pending_time_in_force;
+        }
+        Fault::WrongStage if order.stage == layout::SENT => order.stage = layout::STUCK,
+        Fault::WrongOrigDownstream if order.orig_downstream != 0 => order.orig_downstream = 1,
+        Fault::RefusedSendsStand => order.refused_sends = was.refused_sends,
+        Fault::OldAverage => order.avg_px = was.avg_px,
+        _ => {}
+    }
+}
+
+/// Faults that write bytes which no event may write.
+pub fn scribble(fault: Fault, outcome: &Result<Vec<u8>, u32>, book: &mut [u8], answer: &mut [u8]) {
+    let Header { orders, requests, .. } = Header::read(book);
+    let order = layout::order_at((orders as usize).saturating_sub(1));
+    let free = layout::request_at(requests as usize);
+    match (fault, outcome) {
+        (Fault::WritesPastTheAnswer, Ok(told)) => answer[told.len()] ^= 1,
+        (Fault::RefusedWritesBook, Err(_)) => book[BOOK_BYTES - 1] ^= 1,
+        (Fault::RefusedWritesAnswer, Err(_)) if answer.len() >= ANSWER_BYTES => answer[0] ^= 1,
+        (Fault::SpareWritten, Ok(_)) => book[order.end - 1] = 1,
+        (Fault::NextRecordWritten, Ok(_)) if free.start < layout::UNUSED_AT => book[free.start] ^= 1,
+        (Fault::UnusedWritten, Ok(_)) => book[layout::UNUSED_AT + 5] ^= 1,
+        (Fault::HeaderWritten, Ok(_)) => book[100] ^= 1,
+        (Fault::TextNotFilled, Ok(_)) => book[order.start + 103 + 31] = b'x',
+        _ => {}
     }
 }

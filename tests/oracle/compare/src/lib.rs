@@ -1,11 +1,17 @@
 //! The comparison of a library with the model, and what the binaries share.
 
+pub mod books;
 pub mod comparison;
 pub mod coverage;
+pub mod damages;
 pub mod entries;
+pub mod expected;
 pub mod faults;
 pub mod fix;
+pub mod keeps;
+pub mod layout;
 pub mod minimize;
+pub mod mirror;
 pub mod probes;
 pub mod show;
 pub mod stand_in;

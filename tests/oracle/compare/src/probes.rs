@@ -68,7 +68,7 @@ fn of_order(order: &Order) -> Vec<Chain> {
     let chain = |drafts: &[Draft]| drafts.iter().map(Draft::bytes).collect();
     let gateway_cancel = events::gateway_cancel(&name);
     vec![
-        chain(&[status.clone()]),
+        chain(std::slice::from_ref(&status)),
         chain(&[cancel.clone(), gateway_cancel.clone(), refusals[1].clone()]),
         chain(&[replace.clone(), events::send_again(venue, &downstream(order, next))]),
         chain(&[replace, accept, status]),

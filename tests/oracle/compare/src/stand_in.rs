@@ -1,9 +1,8 @@
-//! Stands in for the ported library: a copy of the model behind the three C entries, with faults
-//! that can be planted in it. A book's bytes hold the number of a version of the model; each
-//! event that is taken makes a new version, so that copies of a book live on their own.
+//! Stands in for the ported library: the model behind the three C entries, its book written by
+//! docs/LAYOUT.md, with faults that can be planted in it. Each call reads the Rust's book from the
+//! bytes and writes it back, so that nothing is kept between calls.
 
-use std::cell::RefCell;
-use std::collections::VecDeque;
+use std::cell::Cell;
 
 use model::Machine;
 use model::answer::bytes;
@@ -11,63 +10,57 @@ use model::machine::{ANSWER_BYTES, BOOK_BYTES};
 
 use crate::entries::Entries;
 use crate::faults::{self, Fault};
+use crate::keeps::broken_but;
+use crate::layout::Book;
+use crate::mirror;
 
 pub const STAND_IN: Entries = Entries { start, event, check };
 
-/// Versions that are kept, the least recently used going first: a comparison has no more at hand.
-const KEPT: usize = 32;
-
 thread_local! {
-    static VERSIONS: RefCell<Versions> = RefCell::new(Versions::default());
-}
-
-#[derive(Default)]
-struct Versions {
-    fault: Option<Fault>,
-    latest: u64,
-    kept: VecDeque<(u64, Machine)>,
-}
-
-impl Versions {
-    fn find(&mut self, book: &[u8]) -> Option<&Machine> {
-        let number = u64::from_le_bytes(book.get(..8)?.try_into().ok()?);
-        let whole = book.len() == BOOK_BYTES;
-        let at = self.kept.iter().position(|(kept, _)| whole && *kept == number)?;
-        let found = self.kept.remove(at)?;
-        self.kept.push_back(found);
-        self.kept.back().map(|(_, machine)| machine)
-    }
-
-    fn keep(&mut self, machine: Machine, book: &mut [u8]) {
-        self.latest += 1;
-        self.kept.push_back((self.latest, machine));
-        if self.kept.len() > KEPT {
-            self.kept.pop_front();
-        }
-        book[..8].copy_from_slice(&self.latest.to_le_bytes());
-    }
+    static FAULT: Cell<Option<Fault>> = const { Cell::new(None) };
 }
 
 /// Plants `fault`, or none, in all that follows on this thread.
 pub fn plant(fault: Option<Fault>) {
-    VERSIONS.with_borrow_mut(|versions| versions.fault = fault);
+    FAULT.set(fault);
+}
+
+/// The bytes that a caller lends: none where the length is 0, whatever the pointer.
+///
+/// # Safety
+/// `length` bytes are at `start`, lent for the time of the call and to nobody else.
+unsafe fn lent<'a>(start: *mut u8, length: usize) -> &'a mut [u8] {
+    if length == 0 { &mut [] } else { unsafe { std::slice::from_raw_parts_mut(start, length) } }
 }
 
 unsafe extern "C" fn start(book: *mut u8, book_len: usize, setting: u32) -> u32 {
-    // SAFETY: the caller lends `book_len` bytes for the time of the call.
-    let book = unsafe { std::slice::from_raw_parts_mut(book, book_len) };
+    // SAFETY: what the caller lends.
+    let book = unsafe { lent(book, book_len) };
     if book.len() != BOOK_BYTES {
         return 1;
     }
     book.fill(0);
-    VERSIONS.with_borrow_mut(|versions| versions.keep(Machine::start(setting), book));
+    book[4..8].copy_from_slice(&setting.to_le_bytes());
     0
 }
 
 unsafe extern "C" fn check(book: *const u8, book_len: usize) -> u32 {
-    // SAFETY: as in `start`.
-    let book = unsafe { std::slice::from_raw_parts(book, book_len) };
-    VERSIONS.with_borrow_mut(|versions| versions.find(book).is_none().into())
+    // SAFETY: what the caller lends, and it is only read.
+    let book = unsafe { lent(book.cast_mut(), book_len) };
+    (!keeps(book)).into()
+}
+
+/// Question 1, as the planted fault asks it.
+fn keeps(book: &[u8]) -> bool {
+    let book = match FAULT.get() {
+        Some(Fault::TakesLongerBooks) if book.len() > BOOK_BYTES => &book[..BOOK_BYTES],
+        _ => book,
+    };
+    let left_out = match FAULT.get() {
+        Some(Fault::RuleLeftOut(rule)) => Some(rule),
+        _ => None,
+    };
+    broken_but(book, left_out).is_none()
 }
 
 unsafe extern "C" fn event(
@@ -78,43 +71,37 @@ unsafe extern "C" fn event(
     answer: *mut u8,
     answer_len: usize,
 ) -> u32 {
-    // SAFETY: as in `start`, for each of the three.
-    let (book, record, answer) = unsafe {
-        (
-            std::slice::from_raw_parts_mut(book, book_len),
-            std::slice::from_raw_parts(record, record_len),
-            std::slice::from_raw_parts_mut(answer, answer_len),
-        )
-    };
-    VERSIONS.with_borrow_mut(|versions| handle(versions, book, record, answer))
+    // SAFETY: what the caller lends, three times; the record is only read.
+    let (book, record, answer) =
+        unsafe { (lent(book, book_len), lent(record.cast_mut(), record_len), lent(answer, answer_len)) };
+    handle(book, record, answer)
 }
 
-fn handle(versions: &mut Versions, book: &mut [u8], record: &[u8], answer: &mut [u8]) -> u32 {
-    let Some(machine) = versions.find(book) else { return 1 };
-    let mut machine = machine.clone();
-    let outcome = match versions.fault {
+fn handle(book: &mut [u8], record: &[u8], answer: &mut [u8]) -> u32 {
+    let fault = FAULT.get();
+    if fault == Some(Fault::TwoBeforeOne) && answer.len() < ANSWER_BYTES {
+        return 2;
+    }
+    if !keeps(book) {
+        return 1;
+    }
+    let before = Book::read(book);
+    let (mut machine, mut sending) = mirror::machine(&before);
+    let outcome = match fault {
         Some(fault) => faults::event(fault, &mut machine, record, answer.len()),
         None => machine.event(record, answer.len()),
     };
-    match outcome {
-        Ok(told) => {
-            answer[..told.len()].copy_from_slice(&told);
-            if versions.fault == Some(Fault::WritesPastTheAnswer) {
-                answer[told.len()] ^= 1;
-            }
-            versions.keep(machine, book);
-            0
-        }
-        Err(refusal) => {
-            match versions.fault {
-                Some(Fault::RefusedWritesBook) => book[BOOK_BYTES - 1] ^= 1,
-                Some(Fault::RefusedWritesAnswer) if answer.len() >= ANSWER_BYTES => answer[0] ^= 1,
-                Some(Fault::RefusedTakes) => versions.keep(machine, book),
-                _ => {}
-            }
-            refusal
-        }
+    if let Ok(told) = &outcome {
+        answer[..told.len()].copy_from_slice(told);
     }
+    if outcome.is_ok() || fault == Some(Fault::RefusedTakes) {
+        sending.follow(&machine);
+        let mut after = mirror::book(&machine, &sending);
+        fault.inspect(|&fault| faults::write(fault, &before, &mut after));
+        after.write(book);
+    }
+    fault.inspect(|&fault| faults::scribble(fault, &outcome, book, answer));
+    outcome.err().unwrap_or(0)
 }
 
 /// The names of all booked orders, as they were booked.

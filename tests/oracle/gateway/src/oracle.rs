@@ -13,6 +13,9 @@ pub struct Tables {
     unknown_at_venue: HashSet<OrderId>,
 }
 
+/// The only time there is: times are left out.
+pub const NO_TIME: DateTime<Utc> = DateTime::UNIX_EPOCH;
+
 /// The client with this number.
 pub fn client(number: u16) -> ClientId {
     let text = format_compact!("{number}");
@@ -88,6 +91,21 @@ impl Book {
         self.used = tables.used;
         self.downstream = tables.downstream;
         self.unknown_at_venue = tables.unknown_at_venue;
+    }
+
+    /// Fills an empty book as a store would: orders, and requests by their downstream ClOrdIDs. What
+    /// the Rust derives from them, the index of ClOrdIDs and their counts, is made anew.
+    pub fn restore_tables(&mut self, orders: Vec<Order>, requests: Vec<(CompactString, Sent)>) {
+        self.next_id = orders.len() as u64 + 1;
+        self.orders = orders.into_iter().map(|order| (order.id, order)).collect();
+        for (downstream, sent) in requests {
+            if sent.origin == Origin::Client {
+                let client = self.orders[&sent.order].client.clone();
+                self.remember(&client, sent.cl_ord_id.clone(), sent.order);
+            }
+            self.downstream.insert(downstream, sent);
+        }
+        self.discard_changes();
     }
 
     pub fn order_table(&self) -> &HashMap<OrderId, Order> {

@@ -44,6 +44,11 @@ impl Generator {
         Self { profile, random, machine, drawn: Vec::new(), fresh: 0 }
     }
 
+    /// A generator whose lists go on from a book that is there.
+    pub fn on(machine: Machine, profile: &'static Profile, seed: u64) -> Self {
+        Self { profile, random: Random::new(seed), machine, drawn: Vec::new(), fresh: 0 }
+    }
+
     pub fn setting(&self) -> u32 {
         self.machine.setting()
     }

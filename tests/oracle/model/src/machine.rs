@@ -44,6 +44,19 @@ impl Machine {
         Self { book, setting, clients: HashMap::new(), at_last_sequence: HashSet::new() }
     }
 
+    /// A machine whose book has these orders and requests, as a store would give them back.
+    pub fn restored(
+        setting: u32,
+        orders: Vec<book::Order>,
+        requests: Vec<(CompactString, book::Sent)>,
+    ) -> Self {
+        let mut machine = Self::start(setting);
+        let last = orders.iter().filter(|order| order.exec_seq == u64::MAX).map(|order| order.id);
+        machine.at_last_sequence = last.collect();
+        machine.book.restore_tables(orders, requests);
+        machine
+    }
+
     pub fn book(&self) -> &Book {
         &self.book
     }
@@ -67,13 +80,7 @@ impl Machine {
 
     /// The answer to the event in `bytes`, or the number of the first question it fails.
     pub fn event(&mut self, bytes: &[u8], answer_buffer: usize) -> Result<Vec<u8>, u32> {
-        if answer_buffer < ANSWER_BYTES {
-            return Err(2);
-        }
-        let record = Record::read_event(bytes).ok_or(3_u32)?;
-        if !record.in_range() {
-            return Err(4);
-        }
+        let record = readable(bytes, answer_buffer)?;
         if record.kind == BOOK { self.booking(&record) } else { self.handle(&record) }
     }
 
@@ -224,6 +231,15 @@ impl Machine {
             redelivered: record.has(REDELIVERED),
         }
     }
+}
+
+/// Questions 2 to 4, which need no book: the record, or the number of the first no.
+pub fn readable(bytes: &[u8], answer_buffer: usize) -> Result<Record<'_>, u32> {
+    if answer_buffer < ANSWER_BYTES {
+        return Err(2);
+    }
+    let record = Record::read_event(bytes).ok_or(3_u32)?;
+    if record.in_range() { Ok(record) } else { Err(4) }
 }
 
 /// The Rust's order request of a booking.

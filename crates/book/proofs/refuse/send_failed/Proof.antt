@@ -45,7 +45,7 @@ returns-4 c =
     let c6 = c5 .before in
     let c7 = c6 .before .before in
     let c8 = c7 .before in
-    rw (← c8 .is-gateway .ensures, ← c7 .is-answered .ensures, eq-eqb _ _ (c6 .if1 .left), c5 .if2 .left, ← c4 .has-gateway .ensures, c3 .if3 .left, c2 .if4 .taken, ← c1 .send-refused .ensures, ← c .settled2 .ensures)
+    rw (← c8 .is-gateway .ensures, ← c7 .is-answered .ensures, eq-eqb _ _ (c6 .if1 .left), c5 .if2 .left, ← c4 .has-gateway .ensures, c3 .if3 .left, c2 .if4 .taken, ← c1 .failed .ensures, ← c .settled2 .ensures)
 
 returns-5 : tie.Need-returns-5
 unfolding sendFailed if_then_else_

@@ -34,7 +34,7 @@ loop-again c =
       omega arith,
       omega arith,
       simp length-set (l .inv .2),
-      rw add-one (c .after .ensures .0 ∙ ap (next (now (a .s)) (a .map) (l .b)) q),
+      rw add-one (c .next-at .ensures .0 ∙ ap (next (now (a .s)) (a .map) (l .b)) q),
       fill f (l .out) (l .b) (l .at) (omega arith) q (l .inv .4),
     )
 

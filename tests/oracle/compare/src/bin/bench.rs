@@ -1,6 +1,7 @@
-//! Times, on the same realistic lists and in one process, the Rust's own handling, the Rust with
-//! its own `check()` after each event, and the library where one is linked. The Rust is given its
-//! inputs ready made; the library reads records and writes answers. Times are the thread's own.
+//! Times, on the same events and in one process, the Rust's own handling, the Rust with its own
+//! `check()` after each event, and the library where one is linked: on realistic lists, and by the
+//! size of the book. The Rust is given its inputs ready made; the library reads records and writes
+//! answers. Times are the thread's own, the best of all rounds. `bench [ROUNDS]`.
 
 use std::hint::black_box;
 
@@ -8,17 +9,23 @@ use compare::entries::{Entries, library};
 use gateway::CompactString;
 use gateway::book::{Book, ClientId, Input, OrderRequest, Output};
 use gateway::risk::RiskReject;
-use lists::{List, PROFILES, list};
+use lists::{Item, List, PROFILES, list};
 use model::Machine;
 use model::answer::latin1;
 use model::codes;
+use model::events::{self, Named};
 use model::machine::{BOOK_BYTES, order_request, venue};
 use model::record::*;
 
 const LISTS: u64 = 20;
 const EVENTS: usize = 400;
-const ROUNDS: usize = 60;
 const SEED: u64 = 900_000;
+
+/// Calls in a round of one event on one book.
+const CALLS: usize = 200;
+
+/// Orders and requests of the books by size.
+const SIZES: [(usize, usize); 4] = [(0, 0), (10, 40), (30, 160), (64, 256)];
 
 /// What the Rust's book is asked for one event.
 #[derive(Clone)]
@@ -27,30 +34,107 @@ enum Call {
     Handle(bool, Option<RiskReject>, Input),
 }
 
+struct Bench {
+    entries: Option<Entries>,
+    rounds: usize,
+}
+
 fn main() {
-    let lists: Vec<List> =
-        (SEED..SEED + LISTS).map(|seed| taken(&list(&PROFILES[0], seed, EVENTS))).collect();
-    let calls: Vec<Vec<Call>> = lists.iter().map(calls).collect();
-    let events: usize = lists.iter().map(|list| list.items.len()).sum();
-    println!("bench: {LISTS} realistic lists, {events} events that are taken, best of {ROUNDS} rounds");
-    let handling =
-        best(events, || calls.clone(), |calls| calls.into_iter().for_each(|calls| rust(calls, false)));
-    let checked =
-        best(events, || calls.clone(), |calls| calls.into_iter().for_each(|calls| rust(calls, true)));
-    println!("  the Rust's handling               {handling:.3} us an event");
-    println!("  the Rust with its own check()     {checked:.3} us an event");
-    match library() {
-        Some(entries) => {
-            let ported = best(events, || (), |()| lists.iter().for_each(|list| run(&entries, list)));
-            println!("  the library                       {ported:.3} us an event");
-            println!(
-                "  library / Rust with check() {:.2}, library / Rust {:.2}",
-                ported / checked,
-                ported / handling
+    let rounds = std::env::args().nth(1).map_or(60, |arg| arg.parse().expect("a number"));
+    let bench = Bench { entries: library(), rounds };
+    bench.realistic();
+    println!("bench: ns by size of the book, best of {rounds} rounds of {CALLS} calls");
+    for (orders, requests) in SIZES {
+        let what = format!("{orders} orders, {requests} requests");
+        bench.by_size(&what, &sized(orders, requests, usual_id));
+    }
+    bench.by_size("64 orders, 256 requests, ids that collide", &sized(64, 256, colliding_id));
+    if bench.entries.is_none() {
+        println!("  no library is linked");
+    }
+}
+
+impl Bench {
+    fn realistic(&self) {
+        let lists: Vec<List> =
+            (SEED..SEED + LISTS).map(|seed| taken(&list(&PROFILES[0], seed, EVENTS))).collect();
+        let calls: Vec<Vec<Call>> = lists.iter().map(calls).collect();
+        let events: usize = lists.iter().map(|list| list.items.len()).sum();
+        let rounds = self.rounds;
+        println!("bench: {LISTS} realistic lists, {events} events that are taken, best of {rounds} rounds");
+        let timed = |check: bool| {
+            let round = |calls: Vec<Vec<Call>>| calls.into_iter().for_each(|calls| rust(calls, check));
+            self.best(events, || calls.clone(), round)
+        };
+        let (handling, checked) = (timed(false), timed(true));
+        println!("  the Rust's handling            {handling:8.0} ns an event");
+        println!("  the Rust with its own check()  {checked:8.0} ns an event");
+        let Some(entries) = &self.entries else { return };
+        let ported = self.best(events, || (), |()| lists.iter().for_each(|list| run(entries, list)));
+        println!("  the library                    {ported:8.0} ns an event");
+        let (of_checked, of_handling) = (ported / checked, ported / handling);
+        println!("  library / Rust with check() {of_checked:.2}, library / Rust {of_handling:.2}");
+    }
+
+    /// Two events that change little, and the rules alone, on the book that the list leaves.
+    fn by_size(&self, what: &str, list: &List) {
+        println!("  {what}");
+        let mut machine = Machine::start(list.setting);
+        for item in &list.items {
+            machine.event(&item.record, 1_024).expect("a taken event");
+        }
+        let mut book = vec![0; BOOK_BYTES];
+        if let Some(entries) = &self.entries {
+            entries.start(&mut book, list.setting);
+            run_on(entries, &mut book, &list.items);
+        }
+        for (what, draft) in little(list) {
+            let calls = vec![call(&mut machine, &draft.bytes()); CALLS];
+            let items = vec![item(draft); CALLS];
+            let mut handled = restored(list);
+            let mut timed =
+                |check: bool| self.best(CALLS, || calls.clone(), |calls| rust_on(&mut handled, calls, check));
+            let (handling, checked) = (timed(false), timed(true));
+            let ported = self.ported(|entries| run_on(entries, &mut book, &items));
+            line(
+                what,
+                &[("Rust", Some(handling)), ("Rust with check()", Some(checked)), ("library", ported)],
             );
         }
-        None => println!("  no library is linked"),
+        let round = |()| (0..CALLS).for_each(|_| machine.book().check_invariants());
+        let checked = self.best(CALLS, || (), round);
+        let ported = self.ported(|entries| {
+            (0..CALLS).for_each(|_| assert_eq!(entries.check(black_box(&book)), 0));
+        });
+        line("the rules alone", &[("Rust's check()", Some(checked)), ("library's check", ported)]);
     }
+
+    /// The library's time for a call, where one is linked.
+    fn ported(&self, mut round: impl FnMut(&Entries)) -> Option<f64> {
+        let entries = self.entries.as_ref()?;
+        Some(self.best(CALLS, || (), |()| round(entries)))
+    }
+
+    /// The best round's nanoseconds an event; what a round consumes is made before it.
+    fn best<T>(&self, events: usize, prepare: impl Fn() -> T, mut round: impl FnMut(T)) -> f64 {
+        let times = (0..self.rounds).map(|_| {
+            let prepared = prepare();
+            let start = thread_seconds();
+            round(prepared);
+            (thread_seconds() - start) * 1e9 / events as f64
+        });
+        times.fold(f64::MAX, f64::min)
+    }
+}
+
+/// Events that change little: one for no order, and one that asks for the first order's status.
+fn little(list: &List) -> Vec<(&'static str, Draft)> {
+    let mut little = vec![("an event for no order", events::gateway_cancel(b"NOBODY"))];
+    if let Some(first) = list.items.first() {
+        let id = Record::read_event(&first.record).expect("a booking").text(CL_ORD_ID).to_vec();
+        little.push(("an order's status", events::cancel(&named(), &id, &id).mark(REDELIVERED)));
+    }
+    little
 }
 
 /// The events of the list that are taken: the Rust alone would go on where document 01 refuses.
@@ -63,28 +147,31 @@ fn taken(list: &List) -> List {
 fn calls(list: &List) -> Vec<Call> {
     let mut machine = Machine::start(list.setting);
     let calls = list.items.iter().map(|item| {
-        let record = Record::read_event(&item.record).expect("a taken event");
-        let call = match record.kind {
-            BOOK => Call::Enter(
-                latin1(record.text(NAME)),
-                machine.client(&record),
-                venue(&record),
-                order_request(&record),
-            ),
-            _ => Call::Handle(
-                record.has(BLOCKED),
-                codes::verdict(record.code(VERDICT)),
-                machine.input(&record),
-            ),
-        };
+        let call = call(&mut machine, &item.record);
         machine.event(&item.record, item.answer_buffer).expect("a taken event");
         call
     });
     calls.collect()
 }
 
+fn call(machine: &mut Machine, record: &[u8]) -> Call {
+    let record = Record::read_event(record).expect("a taken event");
+    match record.kind {
+        BOOK => Call::Enter(
+            latin1(record.text(NAME)),
+            machine.client(&record),
+            venue(&record),
+            order_request(&record),
+        ),
+        _ => Call::Handle(record.has(BLOCKED), codes::verdict(record.code(VERDICT)), machine.input(&record)),
+    }
+}
+
 fn rust(calls: Vec<Call>, check: bool) {
-    let mut book = Book::with_setting(10_000);
+    rust_on(&mut Book::with_setting(10_000), calls, check);
+}
+
+fn rust_on(book: &mut Book, calls: Vec<Call>, check: bool) {
     let mut out: Vec<Output> = Vec::new();
     for call in calls {
         match call {
@@ -107,23 +194,80 @@ fn rust(calls: Vec<Call>, check: bool) {
 }
 
 fn run(entries: &Entries, list: &List) {
-    let (mut book, mut answer) = (vec![0; BOOK_BYTES], vec![0; 1_024]);
+    let mut book = vec![0; BOOK_BYTES];
     entries.start(&mut book, list.setting);
-    for item in &list.items {
-        assert_eq!(entries.event(&mut book, &item.record, &mut answer), 0, "a taken event");
+    run_on(entries, &mut book, &list.items);
+}
+
+fn run_on(entries: &Entries, book: &mut [u8], items: &[Item]) {
+    let mut answer = vec![0; 1_024];
+    for item in items {
+        assert_eq!(entries.event(book, &item.record, &mut answer), 0, "a taken event");
         black_box(&answer);
     }
 }
 
-/// The best round's microseconds an event; what a round consumes is made before it.
-fn best<T>(events: usize, prepare: impl Fn() -> T, round: impl Fn(T)) -> f64 {
-    let times = (0..ROUNDS).map(|_| {
-        let prepared = prepare();
-        let start = thread_seconds();
-        round(prepared);
-        (thread_seconds() - start) * 1e6 / events as f64
-    });
-    times.fold(f64::MAX, f64::min)
+/// A ClOrdID as a client counts them.
+fn usual_id(number: usize) -> Vec<u8> {
+    format!("CLIENT-{:08}", number * 13).into_bytes()
+}
+
+/// A ClOrdID of 16 bytes whose two halves add up to the same number for every `number`: all of them
+/// fall into one cell of the port's local marks.
+fn colliding_id(number: usize) -> Vec<u8> {
+    let digits: Vec<u8> = format!("{number:08}").into_bytes();
+    let rest = digits.iter().map(|digit| b'0' + b'9' - digit);
+    digits.iter().copied().chain(rest).collect()
+}
+
+fn named() -> Named {
+    Named { client: 1, symbol: b"ESZ6".to_vec(), side: b'1' }
+}
+
+fn item(draft: Draft) -> Item {
+    Item { record: draft.bytes(), answer_buffer: 1_024 }
+}
+
+/// A list that leaves so many orders, acknowledged, and requests: cancels that the venue refused.
+fn sized(orders: usize, requests: usize, id: fn(usize) -> Vec<u8>) -> List {
+    let mut items = Vec::new();
+    let name = |order: usize| format!("0A1B2C{order}").into_bytes();
+    for order in 0..orders {
+        items.push(item(events::book(1, &named(), &name(order), &id(order), 1_000_000, Some(10))));
+        items.push(item(events::report(1, &name(order), b'0', Some(b'0'), Default::default())));
+    }
+    for request in orders..requests {
+        let (order, number) = (request % orders, (request - orders) / orders + 1);
+        let downstream = [&name(order)[..], format!("-{number}").as_bytes()].concat();
+        items.push(item(events::cancel(&named(), &id(request), &id(order))));
+        items.push(item(events::cancel_reject(1, &downstream, None, Some(0))));
+    }
+    List { setting: 10_000, items }
+}
+
+/// The Rust's book after the list.
+fn restored(list: &List) -> Book {
+    let mut book = Book::with_setting(list.setting);
+    rust_on(&mut book, calls(list), false);
+    book
+}
+
+/// The times that there are, and the last as a multiple of each before it.
+fn line(what: &str, times: &[(&str, Option<f64>)]) {
+    let times: Vec<(&str, f64)> = times.iter().filter_map(|(who, time)| Some((*who, (*time)?))).collect();
+    let shown: Vec<String> = times.iter().map(|(who, time)| format!("{who} {time:.0}")).collect();
+    let ratios: Vec<String> = match times.split_last() {
+        Some(((last, time), before)) if last.starts_with("library") => {
+            before.iter().map(|(who, other)| format!("{:.2} of {who}", time / other)).collect()
+        }
+        _ => Vec::new(),
+    };
+    println!(
+        "    {what:30} {}{}{}",
+        shown.join(", "),
+        if ratios.is_empty() { "" } else { ": " },
+        ratios.join(", ")
+    );
 }
 
 #[repr(C)]
