@@ -1,36 +1,22 @@
--- Laws of the places of fields, and of a list that a loop fills. Rests on Places.
+-- Laws of the places of fields. Rests on Places.
 use Prim.Native.Nat.{ℕ, zero, suc, _+_, _-_, _≤_, _<_, zero-le}
 use mathlib.Core.Path.{_≡_, refl, sym, ap, _∙_}
-use mathlib.Core.List.{List, [], _++_}
+use mathlib.Core.List.{List, []}
 use mathlib.Core.Bool.{Bool, true, false}
 use native.Mathlib.Nat.{le-refl}
 use native.Mathlib.Numerals.{add-one}
 use native.Mathlib.Decide.{le-ind}
 use native.Mathlib.Omega.{arith}
-use borrow.Author.Count.{below-more}
 use borrow.Author.Tests.{ne-eqb, eq-eqb}
 use lib.Dec.{eqb}
-use lib.ListN.{length, getD, set, take, drop}
-use lib.Seq.{getD-set-same, getD-set-other, take-add, drop-drop}
+use lib.ListN.{length, getD}
 use Rattle.prelude.specs.Cases.{if_then_else_, split-if, if-true, if-false}
 use Rattle.prelude.specs.Below.{allBelow, all-ext}
-use Rattle.prelude.specs.Span.{span, span-none, length-span}
+use Rattle.prelude.specs.Span.{span-none, length-span}
 use Rattle.prelude.specs.Number.{number}
 use Rattle.bits.specs.Map.{bit}
 use Rattle.format.specs.Format.{size, range, isTextBit, inRange}
 use Rattle.format.specs.Places.{extent, next, start, strip, part, content, value, between, Rising, heldAt, rightIn, rightAt}
-
--- a list that a loop fills by a rule, one store a turn
-pub fill : (f : ℕ → ℕ) (l : List ℕ) (b v : ℕ) → b < length l → v ≡ f b → ((k : ℕ) → k < b → getD l k 0 ≡ f k)
-    → (k : ℕ) → k < b + 1 → getD (set l b v) k 0 ≡ f k
-fill f l b v h e below =
-    below-more (λ k. getD (set l b v) k 0 ≡ f k) b
-    (λ k j. getD-set-other l b k v 0 (λ q. absurd (omega (arith, q))) ∙ below k j)
-    (getD-set-same l b v 0 h ∙ e)
-
-pub span-join : (s : List ℕ) (a n k : ℕ) → span s a n ++ span s (a + n) k ≡ span s a (n + k)
-unfolding span
-span-join s a n k = ap (λ (r : List ℕ). take n (drop a s) ++ take k r) (sym (drop-drop n a s)) ∙ sym (take-add n k (drop a s))
 
 -- ---- places rise
 

@@ -9,12 +9,12 @@ use lib.Seq.{getD-append-seam, drop-append-seam, take-append-seam}
 use native.Mathlib.Omega.{arith}
 use native.Mathlib.Decide.{le-ind}
 use Rattle.prelude.specs.Cases.{if_then_else_, split-if, if-true, if-false}
-use Rattle.prelude.specs.Span.{span, span-none}
+use Rattle.prelude.specs.Span.{span, span-none, span-join}
 use Rattle.bits.specs.Map.{bit}
 use Rattle.format.specs.Format.{size, isTextBit}
 use Rattle.format.specs.Places.{extent, next, start, strip, part, content}
 use Rattle.format.specs.Wire.{encode, fieldBytes, body}
-use Rattle.format.specs.Laws.{span-join, start-up}
+use Rattle.format.specs.Laws.{start-up}
 
 -- a number has the length that the table says
 abbrev pub Fits : ℕ → List ℕ → Type 0

@@ -2,5 +2,3 @@ pub mod Entries
 pub mod Steps
 pub mod Found
 pub mod Entered
-pub mod Questions
-pub mod Claims

@@ -4,10 +4,10 @@ use mathlib.Core.Path.{_≡_, refl, sym, ap, _∙_}
 use mathlib.Core.Bool.{Bool, true, false, _&&_, _||_}
 use native.Mathlib.Decide.{decLt}
 use native.Mathlib.Omega.{arith}
-use borrow.Author.Tests.{eqb-true, eqb-false, eq-eqb, ne-eqb, lt-ltb, le-ltb}
+use borrow.Author.Tests.{eqb-true, eqb-false, eq-eqb, lt-ltb, le-ltb}
 use lib.Dec.{eqb, leb, ltb}
 use lib.ListN.{length}
-use Rattle.prelude.specs.Cases.{if_then_else_, if-false}
+use Rattle.prelude.specs.Cases.{if_then_else_}
 use Rattle.store.specs.declared.Order.{Order}
 use Rattle.store.specs.declared.Request.{Request}
 use Rattle.store.specs.Book.{Book, orderIn, requestIn}
@@ -20,6 +20,7 @@ use Rattle.machine.specs.Amend.{cancel, replace, venueCancelReject, sendFailed,
 use Rattle.machine.specs.GatewayCancel.{cancelOrder}
 use Rattle.machine.specs.Report.{unknownAtVenue}
 use Rattle.machine.specs.Machine.{orderLink, orderOf, orderAtLink, latestCancel, factsOf, Amending, amending, onRequest, onReport, onName, nothing, unknownReport, textNote, bookOrder, changeOf, hasRoom, stepOf}
+use Rattle.machine.proofs.Kept.Tables.{at-link}
 
 -- ---- what an event finds
 
@@ -34,14 +35,8 @@ pub facts-at : (b : Book) (place : ℕ) → factsAt b place (orderAtLink b place
 unfolding factsAt factsOf requestAtLink latestCancel
 facts-at b place = refl
 
-pub order-at : (b : Book) (i : ℕ) → orderAtLink b (i + 1) ≡ orderIn b i
-unfolding orderAtLink
-order-at b i =
-    let s : (i + 1) - 1 ≡ i = omega arith in
-    if-false (eqb (i + 1) 0) _ (orderIn b ((i + 1) - 1)) (ne-eqb (i + 1) 0 (λ z. absurd (omega arith))) ∙ ap (orderIn b) s
-
 pub facts-of : (b : Book) (i : ℕ) → factsAt b (i + 1) (orderIn b i) ≡ factsOf b (i + 1)
-facts-of b i = ap (factsAt b (i + 1)) (sym (order-at b i)) ∙ facts-at b (i + 1)
+facts-of b i = ap (factsAt b (i + 1)) (sym (at-link b i)) ∙ facts-at b (i + 1)
 
 -- the client has used as many ClOrdIDs as it may
 unfoldable pub isFull : Book → (client : ℕ) → Bool

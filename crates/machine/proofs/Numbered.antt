@@ -5,14 +5,14 @@ use native.Mathlib.Decide.{decLt}
 use native.Mathlib.Omega.{arith}
 use mathlib.Core.Path.{_≡_, refl, sym, ap, subst, _∙_}
 use mathlib.Core.Logic.{_⊎_, inl, inr}
-use mathlib.Core.Bool.{Bool, true, false, _&&_}
+use mathlib.Core.Bool.{true, false, _&&_}
 use mathlib.Core.List.{List, [], _∷_, _++_}
 use lib.Dec.{eqb, leb, ltb}
 use lib.ListN.{length, getD, take, replicate, length-take, List·getD-eq-default}
 use lib.Seq.{ext-getD, getD-take, length-take-le}
 use borrow.Author.Tests.{eqb-true, eq-eqb, leb-true, le-leb, le-ltb, ltb-true, ltb-false}
 use Rattle.prelude.specs.Below.{allBelow, all-elim, all-intro}
-use Rattle.prelude.specs.Cases.{if_then_else_, split-if, clash, both-true, both-hold, either-true}
+use Rattle.prelude.specs.Cases.{if_then_else_, split-if, clash, both-true, both-hold, either-true, true-or-false}
 use Rattle.prelude.specs.Texts.{contents, textOf, isText, filledAt, agreeAt, sameText, same-text, WholeText}
 use Rattle.prelude.specs.declared.Text.{Text}
 use Rattle.format.specs.Codes.{isAlnum, alnumAt, isName, within}
@@ -28,10 +28,6 @@ pub record NumberedLaws : Type 0 where
       → sameText (numberedText a m) (numberedText b n) ≡ true → (sameText a b ≡ true) × (m ≡ n)
   -- and no name itself
   pub dashed : (a b : Text) (n : ℕ) → nameRange a ≡ true → nameRange b ≡ true → 0 < n → n ≤ 255 → sameText (numberedText a n) b ≡ false
-
-decide : (b : Bool) → (b ≡ true) ⊎ (b ≡ false)
-decide true = inl refl
-decide false = inr refl
 
 -- ---- what a name is
 
@@ -205,7 +201,7 @@ numbered-laws = record {
 }
   where
     no-name : (a b : Text) (n : ℕ) → Name a → Name b → n ≤ 255 → sameText (numberedText a n) b ≡ false
-    no-name a b n na nb l = go (decide (sameText (numberedText a n) b))
+    no-name a b n na nb l = go (true-or-false (sameText (numberedText a n) b))
       where
         go : (sameText (numberedText a n) b ≡ true) ⊎ (sameText (numberedText a n) b ≡ false) → sameText (numberedText a n) b ≡ false
         go (inl e) = absurd (numbered-no-name a (numberedText a n) n (fits a na n l) (subst NoDash (sym (same-bytes a b n nb (fits a na n l) e)) (undashed b nb)) refl)

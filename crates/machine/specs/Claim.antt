@@ -3,13 +3,14 @@
 -- is spoken of is read. What stands in quotes is document 01's. An order is known by its name: names are distinct.
 use Prim.Native.Nat.{ℕ, _+_, _≤_, _<_}
 use mathlib.Core.Path.{_≡_}
-use mathlib.Core.Bool.{Bool, true, false, not, _&&_, _||_}
+use mathlib.Core.Bool.{Bool, true, false, not, _&&_}
 use mathlib.Core.Option.{Option, none, some}
 use mathlib.Core.List.{List, [], _∷_, _++_}
 use lib.Dec.{eqb}
 use lib.ListN.{length}
 use Rattle.prelude.specs.Cases.{if_then_else_, maybe}
 use Rattle.prelude.specs.Texts.{sameText}
+use Rattle.prelude.specs.Totals.{totalOf, someOf, howMany, those, Every}
 use Rattle.prelude.specs.declared.Text.{Text}
 use Rattle.store.specs.declared.Order.{Order}
 use Rattle.store.specs.Book.{Book, orderIn, requestIn}
@@ -21,30 +22,6 @@ use Rattle.store.specs.Finds.{bearsName, findName, findDownstream}
 use Rattle.machine.specs.Machine.{factsOf}
 use Rattle.machine.specs.History.{Decoded, unread, readAs, comesTo, Entry, lineOf, State, start, run, Kinds}
 
--- ---- lists
-
-module _ {A : Type 0} where
-  abbrev pub sum : (A → ℕ) → List A → ℕ
-  sum f [] = 0
-  sum f (x ∷ xs) = f x + sum f xs
-
-  abbrev pub any : (A → Bool) → List A → Bool
-  any f [] = false
-  any f (x ∷ xs) = f x || any f xs
-
-  -- how many pass the test, and which
-  abbrev pub count : (A → Bool) → List A → ℕ
-  count f [] = 0
-  count f (x ∷ xs) = (if f x then 1 else 0) + count f xs
-
-  abbrev pub keep : (A → Bool) → List A → List A
-  keep f [] = []
-  keep f (x ∷ xs) = if f x then x ∷ keep f xs else keep f xs
-
-  pub data All (P : A → Type 0) : List A → Type 0 where
-    all[] : All P []
-    all∷ : {x : A} {xs : List A} → P x → All P xs → All P (x ∷ xs)
-
 -- ---- the reports
 
 -- "An order's reports are the messages 16 with its client and name": the LastQty of such a message
@@ -53,7 +30,7 @@ lastQty client name m = if eqb (m .kind) reportKind && (eqb (m .client) client &
 
 -- the LastQty of all reports sent, added up
 abbrev pub toldOf : (client : ℕ) (name : Text) → List Entry → ℕ
-toldOf client name = sum (λ e. sum (lastQty client name) (e .messages))
+toldOf client name = totalOf (λ e. totalOf (lastQty client name) (e .messages))
 
 -- ---- the status
 
@@ -84,7 +61,7 @@ begins name e = eqb (e .refusal) 0 && asks name (e .before) (e .input)
 
 -- the ClOrdID is among them
 abbrev pub holds : Text → List Text → Bool
-holds d = any (sameText d)
+holds d = someOf (sameText d)
 
 -- the downstream ClOrdIDs of the messages 19
 unfoldable pub cancelsIn : List Message → List Text
@@ -98,7 +75,7 @@ once (d ∷ ds) = if holds d ds then once ds else d ∷ once ds
 
 -- a message 19 with that ClOrdID has been sent
 abbrev pub sent : Text → List Entry → Bool
-sent d = any (λ e. holds d (cancelsIn (e .messages)))
+sent d = someOf (λ e. holds d (cancelsIn (e .messages)))
 
 -- "It is for the order whose request record bears that ClOrdID"
 abbrev pub isFor : Text → Book → Text → Bool
@@ -107,7 +84,7 @@ isFor name b d = maybe false (λ k. bearsName name (orderIn b (requestIn b k .or
 -- the gateway's for that order that the line puts out: "put out by the first of them: the client's if that message answers an event 2, else
 -- the gateway's"
 unfoldable pub putOutBy : Text → Entry → (earlier : List Entry) → List Text
-putOutBy name e earlier = if isEvent 2 (e .input) then [] else keep (λ d. isFor name (e .left) d && not (sent d earlier)) (once (cancelsIn (e .messages)))
+putOutBy name e earlier = if isEvent 2 (e .input) then [] else those (λ d. isFor name (e .left) d && not (sent d earlier)) (once (cancelsIn (e .messages)))
 
 -- those put out since the gateway cancel last began: "one in the answer to the event where a gateway cancel begins counts as put out since then"
 abbrev pub putOut : Text → List Entry → List Text
@@ -123,7 +100,7 @@ abbrev pub fails : Entry → Text → Bool
 fails e d = isEvent 7 (e .input) && (not (answeredIn (e .before) d) && answeredIn (e .left) d)
 
 abbrev pub failed : List Entry → Text → Bool
-failed past d = any (λ e. fails e d) past
+failed past d = someOf (λ e. fails e d) past
 
 -- ---- the claim
 
@@ -137,11 +114,11 @@ pub record Demand3 (s : State) : Type 0 where
   -- which is at most the quantity then ordered
   pub ordered : Each s (λ o. o .state .cumqty ≤ o .terms .qty)
   -- a done status that an order had after some call, it has still
-  pub done : All (λ e. (name : Text) (st : ℕ) → statusOf name (e .left) ≡ some st → isDone st ≡ true → statusOf name (s .book) ≡ some st) (s .past)
+  pub done : Every (λ e. (name : Text) (st : ℕ) → statusOf name (e .left) ≡ some st → isDone st ≡ true → statusOf name (s .book) ≡ some st) (s .past)
   -- while a gateway cancel stands, and it "stands while the Rust keeps its record", its tries are the gateway's cancel requests put out since it
   -- last began, less those whose send failed
   pub tries : Each s (λ o. hasGateway o ≡ true
-      → o .gateway .tries + count (failed (s .past)) (putOut (o .names .name) (s .past)) ≡ length (putOut (o .names .name) (s .past)))
+      → o .gateway .tries + howMany (failed (s .past)) (putOut (o .names .name) (s .past)) ≡ length (putOut (o .names .name) (s .past)))
   -- and are at most three
   pub few : Each s (λ o. hasGateway o ≡ true → o .gateway .tries ≤ 3)
 
@@ -159,7 +136,7 @@ pub record OneOrder (b : Book) (i : ℕ) (e : Entry) : Type 0 where
   pub added : (k : ℕ) → length (b .requests) ≤ k → k < length (e .left .requests) → requestIn (e .left) k .order ≡ i
   pub same-client : orderIn (e .left) i .client ≡ orderIn b i .client
   pub same-name : orderIn (e .left) i .names .name ≡ orderIn b i .names .name
-  pub silent : (client : ℕ) (name : Text) → sameText (orderIn b i .names .name) name ≡ false → sum (lastQty client name) (e .messages) ≡ 0
+  pub silent : (client : ℕ) (name : Text) → sameText (orderIn b i .names .name) name ≡ false → totalOf (lastQty client name) (e .messages) ≡ 0
 
 -- whatever downstream ClOrdID of an order an event 4 to 8 names (its name, a superseded or a pending replace's, a cancel's): the event changes that order alone
 abbrev pub StaysOne : Type 0

@@ -6,6 +6,7 @@ use mathlib.Core.List.{List, [], _∷_, map}
 use Rattle.prelude.specs.Below.{allBelow, firstBelow, countBelow}
 use Rattle.prelude.specs.Cases.{if_then_else_, maybe}
 use Rattle.prelude.specs.Texts.{textOf, contents, sameText, isText}
+use Rattle.prelude.specs.Totals.{howMany}
 use Rattle.prelude.specs.declared.Text.{Text}
 use Rattle.text.specs.Numbered.{numberedText, decimal, digitsOf}
 use Rattle.wide.specs.Wide.{fillPrice, implied, told, nearest, up, atHalf}
@@ -24,7 +25,7 @@ use Rattle.format.specs.Codes.{sides, ordtypes, timesinforce, statuses, isSide,
 use Rattle.machine.specs.Ranges.{isQty, isPrice, textWithin, nameRange}
 use Rattle.machine.specs.Rules.{rules, namesRange, forceRange, pricedRange, termsRange, pendingRange, gatewayRange, orderRange, requestRange, linked, currentRule, cancelRule, pendingRule, filledRule, statusRule, doneRule, triesRule, amendmentsRule, orderRule, numberIn, nameNumber, numberRule, inFlightRule, requestRule, sameKey}
 use Rattle.machine.specs.History.{Decoded, unread, readAs, comesTo, spoken, messagesOf, leftBy, State, start, run}
-use Rattle.machine.specs.Claim.{count, toldOf, starts, cancelsIn, once, putOutBy, putOut, failed}
+use Rattle.machine.specs.Claim.{toldOf, starts, cancelsIn, once, putOutBy, putOut, failed}
 
 -- ---- order X of client 7 at venue 3, 100 of symbol W; the client's ClOrdIDs are C and then D
 
@@ -107,7 +108,7 @@ countsOf is =
     let out : List Text = putOut (textOf (88 ∷ [])) (s .past) in
     record {
       putout = map contents out;
-      failures = count (failed (s .past)) out;
+      failures = howMany (failed (s .past)) out;
       tries = orderIn (s .book) 0 .gateway .tries;
       stands = hasGateway (orderIn (s .book) 0);
       told = toldOf 7 (textOf (88 ∷ [])) (s .past);

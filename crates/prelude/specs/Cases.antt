@@ -86,9 +86,25 @@ pub either-true : (a b : Bool) → a || b ≡ true → (a ≡ true) ⊎ (b ≡ t
 either-true true b e = inl refl
 either-true false b e = inr e
 
+pub or-both : (a b : Bool) → a ≡ false → b ≡ false → a || b ≡ false
+or-both true b p q = p
+or-both false b p q = q
+
+pub true-or-false : (b : Bool) → (b ≡ true) ⊎ (b ≡ false)
+true-or-false true = inl refl
+true-or-false false = inr refl
+
 -- two tests that hold together
 pub test-same : (a b : Bool) → (a ≡ true → b ≡ true) → (b ≡ true → a ≡ true) → a ≡ b
 test-same true true f g = refl
 test-same true false f g = clash false (f refl) refl
 test-same false true f g = clash false (g refl) refl
 test-same false false f g = refl
+
+-- ---- options
+
+pub none-some : {A B : Type 0} {x : Option A} {a : A} → x ≡ none → x ≡ some a → B
+none-some p q = let z : _≡_ {A = ℕ} 0 1 = cc in absurd (omega arith)
+
+pub same-some : {A : Type 0} {x : Option A} {a b : A} → x ≡ some a → x ≡ some b → a ≡ b
+same-some p q = cc

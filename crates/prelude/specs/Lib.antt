@@ -1,8 +1,10 @@
 pub mod Cases
 pub mod Below
 pub mod Lists
+pub mod Totals
 pub mod Span
 pub mod Number
 pub mod Pieces
+pub mod Bytes
 pub mod Table
 pub mod Texts

@@ -6,11 +6,12 @@ use mathlib.Core.Logic.{⊎-elim}
 use mathlib.Core.List.{List, [], _∷_, _++_}
 use Prim.Native.Nat.{ℕ, zero, suc, _+_, _≤_, _<_}
 use native.Mathlib.Nat.{not-suc-le-zero, eq-or-lt-of-le, le-of-suc-le-suc}
-use native.Mathlib.Decide.{ℕ-discrete}
+use native.Mathlib.Decide.{ℕ-discrete, decLt}
 use native.Mathlib.Numerals.{add-one}
 use native.Mathlib.Omega.{arith}
+use borrow.Author.Count.{below-more}
 use lib.ListN.{length, getD, set, length-append, length-set, List·getD-append}
-use lib.Seq.{getD-at, ext-getD, getD-set-same, getD-set-other}
+use lib.Seq.{getD-at, ext-getD, getD-set-same, getD-set-other, set-out}
 use Rattle.prelude.specs.Below.{allBelow, firstBelow, countBelow, all-ext, first-ext, count-ext}
 
 module _ {A : Type 0} where
@@ -66,6 +67,20 @@ module _ {A : Type 0} where
           (e ∙ sym (getD-set-same (listBelow f n) i x x (let l : length (listBelow f n) ≡ n = length-list f n in omega arith)))
       go k j (no q) = o k q j ∙ sym (getD-set-other (listBelow f n) i k x x (λ z. q (sym z)) ∙ get-list f x n k j)
 
+  -- one value changed, or none where the place is past the end
+  pub list-set-any : (f g : ℕ → A) (n i : ℕ) (x : A) → (i < n → g i ≡ x) → ((k : ℕ) → (i ≡ k → ⊥) → k < n → g k ≡ f k)
+      → listBelow g n ≡ set (listBelow f n) i x
+  list-set-any f g n i x e o = go (decLt i n)
+    where
+      out : n ≤ i → length (listBelow f n) ≤ i
+      out h = let l : length (listBelow f n) ≡ n = length-list f n in omega arith
+
+      go : Dec (i < n) → listBelow g n ≡ set (listBelow f n) i x
+      go (yes h) = list-set f g n i x h (e h) o
+      go (no h) =
+          let m : n ≤ i = omega arith in
+          list-ext g f n (λ k l. o k (λ z. omega arith) l) ∙ sym (set-out (listBelow f n) i x (out m))
+
   -- what a loop over a table answers is what the list of its records answers
   pub all-list : (d : A) (p : A → Bool) (f : ℕ → A) (n : ℕ) → allIn d p (listBelow f n) ≡ allBelow (λ k. p (f k)) n
   all-list d p f n =
@@ -81,3 +96,11 @@ module _ {A : Type 0} where
   count-list d p f n =
       ap (countBelow (λ k. p (getD (listBelow f n) k d))) (length-list f n)
       ∙ count-ext (λ k. p (getD (listBelow f n) k d)) (λ k. p (f k)) n (λ k h. ap p (get-list f d n k h))
+
+-- a list that a loop fills by a rule, one store a turn
+pub fill : (f : ℕ → ℕ) (l : List ℕ) (b v : ℕ) → b < length l → v ≡ f b → ((k : ℕ) → k < b → getD l k 0 ≡ f k)
+    → (k : ℕ) → k < b + 1 → getD (set l b v) k 0 ≡ f k
+fill f l b v h e below =
+    below-more (λ k. getD (set l b v) k 0 ≡ f k) b
+    (λ k j. getD-set-other l b k v 0 (λ q. absurd (omega (arith, q))) ∙ below k j)
+    (getD-set-same l b v 0 h ∙ e)

@@ -1,10 +1,11 @@
 -- Little-endian numbers: what bytes stand for, and the bytes of a number. Rests on Span.
 use mathlib.Core.Path.{_≡_, refl, sym, ap, _∙_}
 use mathlib.Core.List.{List, [], _∷_}
-use Prim.Native.Nat.{ℕ, zero, suc, _+_, _*_, _/_, _%_, _^_, _≤_, _<_}
+use Prim.Native.Nat.{ℕ, zero, suc, _+_, _*_, _-_, _/_, _%_, _^_, _≤_, _<_}
 use native.Mathlib.Numerals.{towards-suc}
 use native.Mathlib.Omega.{arith}
-use lib.ListN.{length, getD}
+use lib.ListN.{length, getD, drop}
+use lib.Seq.{drop-cons}
 use Rattle.prelude.specs.Span.{span, span-cons, span-none}
 
 -- the number that the bytes are, the lowest first
@@ -90,3 +91,33 @@ word64-number s at h =
       span-cons s (suc (suc (suc (suc (suc (suc (suc at))))))) 0 (omega arith),
       span-none,
     ) (omega arith)
+
+-- ---- read from the highest byte down, written from the lowest up
+
+pub bound-le : (j k : ℕ) → j ≤ k → bound j ≤ bound k
+bound-le zero zero h = omega arith
+bound-le zero (suc k) h = omega (arith, bound-le zero k (omega arith))
+bound-le (suc j) zero h = absurd (omega arith)
+bound-le (suc j) (suc k) h = omega (arith, bound-le j k (omega arith))
+
+pub fits-more : {v k : ℕ} (n : ℕ) → v < bound k → k ≤ n → v < bound n
+fits-more {v} {k} n h l = omega (arith, bound-le k n l)
+
+-- one more byte below
+byte-more : (s : List ℕ) (p k v x : ℕ) → p < length s → x ≡ getD s p 0 → x < 256 → v < bound k → v ≡ number (span s (suc p) k)
+    → (v * 256 + x < bound (suc k)) × (v * 256 + x ≡ number (span s p (suc k)))
+byte-more s p k v x h e b l q = (omega arith, rw (span-cons s p k h) (omega arith))
+
+pub byte-below : (s : List ℕ) (at n i v x : ℕ) → 0 < i → i ≤ n → at + n ≤ length s → x ≡ getD s (at + (i - 1)) 0 → x < 256
+    → v < bound (n - i) → v ≡ number (span s (at + i) (n - i))
+    → (v * 256 + x < bound (n - (i - 1))) × (v * 256 + x ≡ number (span s (at + (i - 1)) (n - (i - 1))))
+byte-below s at n i v x p hi hn e b l q =
+    let a : n - (i - 1) ≡ suc (n - i) = omega arith in
+    let d : at + i ≡ suc (at + (i - 1)) = omega arith in
+    rw a (byte-more s (at + (i - 1)) (n - i) v x (omega arith) e b l (rw d at q))
+
+-- one more byte of a number
+pub next-byte : (l : List ℕ) (i k v : ℕ) → i < length l → drop i l ≡ bytesOf (suc k) v → (getD l i 0 ≡ v % 256) × (drop (suc i) l ≡ bytesOf k (v / 256))
+next-byte l i k v h q =
+    let e : getD l i 0 ∷ drop (suc i) l ≡ v % 256 ∷ bytesOf k (v / 256) = sym (drop-cons l i 0 h) ∙ q in
+    ((cc), (cc))

@@ -4,9 +4,10 @@ use mathlib.Core.List.{List, [], _∷_, _++_, append-assoc, append-nil}
 use Prim.Native.Nat.{ℕ, zero, suc, _+_, _-_, _≤_, _<_}
 use native.Mathlib.Nat.{add-zero}
 use native.Mathlib.Numerals.{add-one}
+use native.Mathlib.Decide.{decLt}
 use native.Mathlib.Omega.{arith}
-use lib.ListN.{length, take, drop, getD, set, length-append, length-take, length-drop, take-append-drop, drop-of-length-le}
-use lib.Seq.{take-append-le, drop-append-le, drop-append-add, take-at, drop-at, drop-drop, length-take-le, take-all, drop-cons, paste, paste-suc, getD-drop, getD-take, take-suc, take-suc-set, take-take, set-split, append-snoc}
+use lib.ListN.{length, take, drop, getD, set, length-append, length-take, length-drop, take-append-drop, drop-of-length-le, replicate, length-replicate, getD-replicate, List·getD-append}
+use lib.Seq.{take-append-le, drop-append-le, drop-append-add, take-at, drop-at, drop-drop, length-take-le, take-all, drop-cons, paste, paste-suc, getD-drop, getD-take, take-suc, take-suc-set, take-take, set-split, append-snoc, take-add, ext-getD, getD-append-add}
 
 -- the n elements of s from index at
 unfoldable pub span : List ℕ → ℕ → ℕ → List ℕ
@@ -54,6 +55,26 @@ take-drop-take (suc j) n (suc at) (x ∷ s) h = take-drop-take j n at s (omega a
 pub span-span : (s : List ℕ) (at m k n : ℕ) → k + n ≤ m → span (span s at m) k n ≡ span s (at + k) n
 unfolding span
 span-span s at m k n h = take-drop-take k n m (drop at s) h ∙ ap (take n) (drop-drop k at s)
+
+-- one span behind the other
+pub span-join : (s : List ℕ) (a n k : ℕ) → span s a n ++ span s (a + n) k ≡ span s a (n + k)
+unfolding span
+span-join s a n k = ap (λ (r : List ℕ). take n (drop a s) ++ take k r) (sym (drop-drop n a s)) ∙ sym (take-add n k (drop a s))
+
+drop-take : (k n : ℕ) (l : List ℕ) → drop k (take n l) ≡ take (n - k) (drop k l)
+drop-take zero n l = let e : n - 0 ≡ n = omega arith in rw e refl
+drop-take (suc k) zero l = let e : 0 - suc k ≡ 0 = omega arith in rw e refl
+drop-take (suc k) (suc n) [] = nil (suc n - suc k)
+  where
+    nil : (j : ℕ) → _≡_ {A = List ℕ} [] (take j [])
+    nil zero = refl
+    nil (suc j) = refl
+drop-take (suc k) (suc n) (x ∷ l) = let e : suc n - suc k ≡ n - k = omega arith in rw e (drop-take k n l)
+
+-- what is left of a span
+pub span-drop : (s : List ℕ) (at n k : ℕ) → drop k (span s at n) ≡ span s (at + k) (n - k)
+unfolding span
+span-drop s at n k = drop-take k n (drop at s) ∙ ap (take (n - k)) (drop-drop k at s)
 
 -- ---- splices
 
@@ -132,6 +153,30 @@ splice-before s at h x k =
     ∙ ap (λ (m : ℕ). drop m s) (let z : n + length x ≡ at + length (h ++ x) = rw length-append (omega arith) in z)
     ∙ sym (drop-drop (length (h ++ x)) at s) in
     rw (t, d, e) (ap (λ (y : List ℕ). take at s ++ y) (sym (append-assoc h x (drop (length (h ++ x)) (drop at s)))))
+
+-- the bytes written over zeros are the bytes with zeros behind them
+pub padded : (n : ℕ) (w : List ℕ) → length w ≤ n → splice (replicate n 0) 0 w ≡ take n (w ++ replicate n 0)
+unfolding splice
+padded n w h =
+    ext-getD 0 (w ++ drop (length w) (replicate n 0)) (take n (w ++ replicate n 0))
+    (simp (length-append, length-take, length-drop, length-append, length-replicate) (omega arith))
+    (λ k j. let l : k < n = omega (arith, simp (length-append, length-drop, length-replicate) at j) in at k l (decLt k (length w)))
+  where
+    at : (k : ℕ) → k < n → Dec (k < length w) → getD (w ++ drop (length w) (replicate n 0)) k 0 ≡ getD (take n (w ++ replicate n 0)) k 0
+    at k l (yes p) =
+        List·getD-append w (drop (length w) (replicate n 0)) 0 k p
+        ∙ sym (getD-take n (w ++ replicate n 0) k 0 l ∙ List·getD-append w (replicate n 0) 0 k p)
+    at k l (no p) =
+        let d : ℕ = k - length w in
+        let e : k ≡ length w + d = omega arith in
+        ap (λ (i : ℕ). getD (w ++ drop (length w) (replicate n 0)) i 0) e
+        ∙ getD-append-add w (drop (length w) (replicate n 0)) d 0
+        ∙ getD-drop (length w) (replicate n 0) d 0
+        ∙ getD-replicate n (length w + d) 0 0 (omega arith)
+        ∙ sym (getD-take n (w ++ replicate n 0) k 0 l
+        ∙ ap (λ (i : ℕ). getD (w ++ replicate n 0) i 0) e
+        ∙ getD-append-add w (replicate n 0) d 0
+        ∙ getD-replicate n d 0 0 (omega arith))
 
 -- ---- how code writes: a byte set, a loop that copies, a part that was lent
 

@@ -11,7 +11,7 @@ use lib.Dec.{eqb, leb, ltb}
 use lib.ListN.{length, getD, take, drop, replicate, length-append, length-take, length-replicate, getD-replicate, List·getD-append}
 use lib.Seq.{ext-getD, getD-take, getD-append-add, take-append-le, take-all, take-take, length-take-le}
 use Rattle.prelude.specs.Below.{allBelow, all-elim, all-intro}
-use Rattle.prelude.specs.Cases.{both-true, both-hold, either-true}
+use Rattle.prelude.specs.Cases.{both-true, both-hold, either-true, test-same}
 use Rattle.prelude.specs.Span.{span}
 use Rattle.prelude.specs.declared.Text.{Text}
 
@@ -65,6 +65,43 @@ unfolding sameText
 same-self a =
     rw (eq-eqb (a .len) (a .len) refl)
     (all-intro (agreeAt (a .bytes) (a .bytes)) 32 (λ k h. eq-eqb (getD (a .bytes) k 0) (getD (a .bytes) k 0) refl))
+
+agree-sym : (a b : List ℕ) (k : ℕ) → agreeAt a b k ≡ true → agreeAt b a k ≡ true
+agree-sym a b k e = eq-eqb (getD b k 0) (getD a k 0) (sym (eqb-true (getD a k 0) (getD b k 0) e))
+
+agree-trans : (a b c : List ℕ) (k : ℕ) → agreeAt a b k ≡ true → agreeAt b c k ≡ true → agreeAt a c k ≡ true
+agree-trans a b c k e f = eq-eqb (getD a k 0) (getD c k 0) (eqb-true (getD a k 0) (getD b k 0) e ∙ eqb-true (getD b k 0) (getD c k 0) f)
+
+pub same-back : (a b : Text) → sameText a b ≡ true → sameText b a ≡ true
+unfolding sameText
+same-back a b e =
+    let s = both-true (eqb (a .len) (b .len)) (allBelow (agreeAt (a .bytes) (b .bytes)) 32) e in
+    both-hold _ _ (eq-eqb (b .len) (a .len) (sym (eqb-true (a .len) (b .len) (s .0))))
+    (all-intro (agreeAt (b .bytes) (a .bytes)) 32 (λ k h. agree-sym (a .bytes) (b .bytes) k (all-elim (agreeAt (a .bytes) (b .bytes)) 32 (s .1) k h)))
+
+pub same-trans : (a b c : Text) → sameText a b ≡ true → sameText b c ≡ true → sameText a c ≡ true
+unfolding sameText
+same-trans a b c e f =
+    let s = both-true (eqb (a .len) (b .len)) (allBelow (agreeAt (a .bytes) (b .bytes)) 32) e in
+    let t = both-true (eqb (b .len) (c .len)) (allBelow (agreeAt (b .bytes) (c .bytes)) 32) f in
+    both-hold _ _ (eq-eqb (a .len) (c .len) (eqb-true (a .len) (b .len) (s .0) ∙ eqb-true (b .len) (c .len) (t .0)))
+    (all-intro (agreeAt (a .bytes) (c .bytes)) 32
+    (λ k h. agree-trans (a .bytes) (b .bytes) (c .bytes) k
+    (all-elim (agreeAt (a .bytes) (b .bytes)) 32 (s .1) k h) (all-elim (agreeAt (b .bytes) (c .bytes)) 32 (t .1) k h)))
+
+pub same-sym : (a b : Text) → sameText a b ≡ sameText b a
+same-sym a b = test-same (sameText a b) (sameText b a) (same-back a b) (same-back b a)
+
+-- a text may stand for its equal
+pub same-right : (a b c : Text) → sameText b c ≡ true → sameText a b ≡ sameText a c
+same-right a b c e = test-same (sameText a b) (sameText a c) (λ h. same-trans a b c h e) (λ h. same-trans a c b h (same-back b c e))
+
+pub same-left : (a b c : Text) → sameText a b ≡ true → sameText a c ≡ sameText b c
+same-left a b c e = same-sym a c ∙ same-right c a b e ∙ same-sym c b
+
+pub same-length : (a b : Text) → sameText a b ≡ true → a .len ≡ b .len
+unfolding sameText
+same-length a b e = eqb-true (a .len) (b .len) (both-true (eqb (a .len) (b .len)) (allBelow (agreeAt (a .bytes) (b .bytes)) 32) e .0)
 
 -- ---- a text and the bytes that it holds
 

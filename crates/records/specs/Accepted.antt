@@ -16,19 +16,20 @@ use lib.Seq.{take-all, take-take, take-append-le, getD-take, getD-append-add}
 use Rattle.prelude.specs.Cases.{if_then_else_, if-true, if-false, clash, both-true, both-hold, either-true}
 use Rattle.prelude.specs.Below.{allBelow, all-elim, all-intro}
 use Rattle.prelude.specs.Lists.{listBelow, get-list}
-use Rattle.prelude.specs.Span.{span, span-cons, length-span}
+use Rattle.prelude.specs.Span.{span, span-cons, length-span, span-join}
 use Rattle.prelude.specs.Number.{number, bytesOf, bound, Bytes, bytes-number, number-bound, word32, word32-number}
 use Rattle.prelude.specs.Texts.{contents, textOf, isText, long-text, contents-text, is-text}
+use Rattle.prelude.specs.Bytes.{bytes-span, bytes-take, bytes-drop}
 use Rattle.bits.specs.Map.{bit}
 use Rattle.format.specs.Format.{size, range, fields, isTextBit, inRange, bitsRight}
 use Rattle.format.specs.Places.{extent, start, strip, part, content, value, kindAt, mapAt, endOf, shaped, rightAt}
-use Rattle.format.specs.Laws.{span-join, start-up, start-on, part-off, length-part, content-off, length-number, value-none}
+use Rattle.format.specs.Laws.{start-up, start-on, part-off, length-part, content-off, length-number, value-none}
 use Rattle.format.specs.Wire.{encode, fieldBytes, body, bytes}
 use Rattle.format.specs.Trip.{body-part}
 use Rattle.records.specs.declared.Record.{Record}
 use Rattle.records.specs.Fields.{numbersOf, highOf, textBy, shortBytes, longBytes, longOf, spelled, words, heldBy, held, idsOf, recordOf}
 use Rattle.records.specs.Record.{recordBytes, recordAt, nameIn, ranged, fieldRight, isShort, isLong, textsRight, priceRight, isRecord, isEvent, isMessage, eventRefusal, eventIn, messageShaped, messageRefusal, messageOf}
-use Rattle.records.specs.Reading.{bytes-span, bytes-take, bytes-drop, within-most, text-short, number-narrow, bytes-content, in-field, Whole, whole-of}
+use Rattle.records.specs.Reading.{within-most, text-short, number-narrow, bytes-content, in-field, Whole, whole-of}
 use Rattle.records.specs.Back.{text-bits}
 
 -- ---- texts and numbers

@@ -1,4 +1,3 @@
-pub mod FieldLaws
 pub mod Scan
 pub mod Fields
 pub mod Record

@@ -9,10 +9,9 @@ use lib.Dec.{eqb, leb, ltb, lit<}
 use lib.ListN.{length, getD}
 use Rattle.prelude.specs.Cases.{if_then_else_, if-true, if-false, clash, both-true, both-hold}
 use Rattle.prelude.specs.Below.{allBelow, all-intro}
-use Rattle.prelude.specs.Number.{bound, Bytes}
+use Rattle.prelude.specs.Number.{bound, Bytes, bound-le}
 use Rattle.prelude.specs.declared.Text.{Text}
 use Rattle.bits.specs.Map.{bit, contains, contains-bit}
-use Rattle.records.specs.FieldLaws.{bound-le}
 use Rattle.format.specs.Codes.{isSide, isOrdtype, isTimeinforce, isStatus, isExectype}
 use Rattle.format.specs.Format.{size, range, fields, inRange, isKind, required, allowed, joined, bitsRight}
 use Rattle.records.specs.declared.LongText.{LongText}

@@ -1,24 +1,22 @@
 -- Laws by which what code reads is what the definitions say. Rests on Record and format's laws.
-use Prim.Native.Nat.{ℕ, zero, suc, _+_, _-_, _≤_, _<_, min}
-use mathlib.Core.Path.{_≡_, refl, sym, ap, _∙_}
+use Prim.Native.Nat.{ℕ, suc, _+_, _-_, _≤_, _<_, min}
+use mathlib.Core.Path.{_≡_, refl, sym, _∙_}
 use mathlib.Core.List.{List, [], _∷_}
 use mathlib.Core.Bool.{Bool, true, false}
 use mathlib.Core.Logic.{⊎-elim}
-use native.Mathlib.Decide.{decLt}
 use native.Mathlib.Omega.{arith}
 use borrow.Author.Tests.{leb-true, le-leb, lt-leb, eq-eqb, ne-eqb}
 use lib.Dec.{leb, eqb, lit<, lit≤}
 use Rattle.records.specs.declared.Numbers.{Numbers}
 use Rattle.records.specs.Scan.{Scanned}
-use lib.ListN.{length, getD, take, drop, length-take, length-drop, List·getD-eq-default}
-use lib.Seq.{drop-drop, getD-take}
+use lib.ListN.{length, getD, take, drop, length-take, length-drop}
+use lib.Seq.{getD-take}
 use Rattle.prelude.specs.Cases.{if_then_else_, split-if, if-true, if-false, clash, both-true, both-false}
 use Rattle.prelude.specs.Below.{allBelow, all-elim, all-ext}
-use Rattle.prelude.specs.Span.{span, get-span}
-use Rattle.prelude.specs.Number.{number, bound, Bytes, number-bound}
+use Rattle.prelude.specs.Number.{number, bound, Bytes, number-bound, bound-le}
 use Rattle.prelude.specs.Texts.{textOf}
+use Rattle.prelude.specs.Bytes.{bytes-span, bytes-take}
 use Rattle.bits.specs.Map.{bit}
-use Rattle.records.specs.FieldLaws.{bound-le}
 use Rattle.format.specs.Codes.{within}
 use Rattle.format.specs.Format.{size, range, fields, isTextBit, inRange, bitsRight}
 use Rattle.format.specs.Places.{extent, start, strip, part, content, value, kindAt, mapAt, endOf, shaped, between, rightIn, rightAt}
@@ -27,38 +25,6 @@ use Rattle.records.specs.declared.Record.{Record}
 use Rattle.records.specs.declared.Got.{Got}
 use Rattle.records.specs.Fields.{longOf, recordOf, blank, Short, Narrow, builtFrom}
 use Rattle.records.specs.Record.{recordAt, nameIn, ranged, recordRefusal, eventRefusal, eventIn, Reads}
-
-drop-take : (k n : ℕ) (l : List ℕ) → drop k (take n l) ≡ take (n - k) (drop k l)
-drop-take zero n l = let e : n - 0 ≡ n = omega arith in rw e refl
-drop-take (suc k) zero l = let e : 0 - suc k ≡ 0 = omega arith in rw e refl
-drop-take (suc k) (suc n) [] = nil (suc n - suc k)
-  where
-    nil : (j : ℕ) → _≡_ {A = List ℕ} [] (take j [])
-    nil zero = refl
-    nil (suc j) = refl
-drop-take (suc k) (suc n) (x ∷ l) = let e : suc n - suc k ≡ n - k = omega arith in rw e (drop-take k n l)
-
--- what is left of a span
-pub span-drop : (s : List ℕ) (at n k : ℕ) → drop k (span s at n) ≡ span s (at + k) (n - k)
-unfolding span
-span-drop s at n k = drop-take k n (drop at s) ∙ ap (take (n - k)) (drop-drop k at s)
-
-pub bytes-span : (s : List ℕ) (at n : ℕ) → Bytes s → Bytes (span s at n)
-unfolding span
-bytes-span s at n h k = go (decLt k n)
-  where
-    go : Dec (k < n) → getD (take n (drop at s)) k 0 < 256
-    go (yes p) = rw (get-span s at n k p) (h (at + k))
-    go (no p) = rw (List·getD-eq-default (take n (drop at s)) 0 {n = k} (simp length-take (omega arith))) (lit< tt)
-
-pub bytes-drop : (s : List ℕ) (n : ℕ) → Bytes s → Bytes (drop n s)
-bytes-drop s zero h k = h k
-bytes-drop [] (suc n) h k = h k
-bytes-drop (x ∷ s) (suc n) h k = bytes-drop s n (λ i. h (suc i)) k
-
-pub bytes-take : (s : List ℕ) (n : ℕ) → Bytes s → Bytes (take n s)
-unfolding span
-bytes-take s n h = bytes-span s 0 n h
 
 pub within-most : (a b v : ℕ) → within a b v ≡ true → v ≤ b
 within-most a b v e = leb-true v b (both-true (leb a v) (leb v b) e .1)

@@ -7,14 +7,13 @@ use native.Mathlib.Omega.{arith}
 use borrow.Author.Tests.{eqb-true, leb-true, eq-eqb, le-leb}
 use lib.Dec.{leb}
 use lib.ListN.{length}
-use Rattle.prelude.specs.Below.{allBelow, all-ext}
+use Rattle.prelude.specs.Below.{allBelow, all-ext, all-both}
 use Rattle.prelude.specs.Cases.{if-true, both-true}
 use Rattle.prelude.specs.Number.{word16}
 use Rattle.store.specs.Layout.{bookSize}
 use Rattle.store.specs.Book.{isBook, bookOf, countAt, orderCount, requestCount}
 use Rattle.store.specs.Laws.{length-orders, length-requests, count-most}
 use Rattle.machine.specs.Rules.{orderRule, requestRule, nameRule, keyRule, rules}
-use Rattle.rules.specs.More.{all-both}
 use Rattle.rules.specs.Here.{rangeAt, linksOf, requestRuleAt, order-here, request-here, name-here, key-here}
 use Rattle.rules.specs.Things.{clearAt, same-keyed, same-named}
 

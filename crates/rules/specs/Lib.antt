@@ -1,4 +1,3 @@
-pub mod More
 pub mod Places
 pub mod Here
 pub mod Spread

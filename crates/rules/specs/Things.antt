@@ -41,6 +41,15 @@ loneAt b keyed i = keyed && isEmpty (requestAt b i .clordid)
 unfoldable pub sameAt : List ℕ → Bool → ℕ → ℕ → Bool
 sameAt b keyed i j = not (loneAt b keyed i) && eqb (clientIn b keyed i) (clientIn b keyed j) && sameText (textIn b keyed i) (textIn b keyed j)
 
+-- thing j has this client and this text; so it is the same as thing i, if i has them and is not lone
+unfoldable pub sameWith : List ℕ → Bool → ℕ → Text → ℕ → Bool
+sameWith b keyed c t j = eqb c (clientIn b keyed j) && sameText t (textIn b keyed j)
+
+pub same-with : (b : List ℕ) (keyed : Bool) (i j c : ℕ) (t : Text) → loneAt b keyed i ≡ false → c ≡ clientIn b keyed i → t ≡ textIn b keyed i
+    → sameWith b keyed c t j ≡ sameAt b keyed i j
+unfolding sameWith sameAt
+same-with b keyed i j c t e f g = rw (e, f, g)
+
 abbrev pub apartAt : List ℕ → Bool → ℕ → ℕ → Bool
 apartAt b keyed i j = not (sameAt b keyed i j)
 

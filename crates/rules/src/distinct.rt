@@ -1,12 +1,13 @@
-// Names are distinct, and ClOrdIDs within a client, in one pass with local marks: a thing in an
+// Names are distinct, and ClOrdIDs within a client, in one pass with local marks, a bit for a cell: a thing in an
 // unmarked cell is new, and another is compared with the earlier things of its cell alone.
-// Rests on words. The things are the requests with their ClOrdIDs where `keyed`, else the orders.
+// Rests on words and bits. The things are the requests with their ClOrdIDs where `keyed`, else the orders.
 ghost use mathlib.Core.Path.{_≡_};
-ghost use mathlib.Core.Bool.{true};
+ghost use mathlib.Core.Bool.{true, false};
 ghost use Prim.Native.Nat.{ℕ, _+_, _≤_, _<_};
 ghost use lib.ListN.{length, getD};
 ghost use Rattle.prelude.specs.Below.{allBelow};
-ghost use Rattle.rules.specs.Things.{placed, placeOf, clientIn, loneAt, cellOf, sameAt, clearAt};
+ghost use Rattle.prelude.specs.Texts.{textAt};
+ghost use Rattle.rules.specs.Things.{placed, placeOf, clientIn, loneAt, cellOf, sameWith, clearAt};
 use crate::words::ORDER;
 use crate::words::ORDERS;
 use crate::words::REQUEST;
@@ -14,6 +15,7 @@ use crate::words::REQUESTS;
 use crate::words::cell_at;
 use crate::words::get16;
 use crate::words::same_at;
+use crate::words::same_word;
 
 const NAME: usize = 4;
 
@@ -65,29 +67,33 @@ fn cell_of(book: &[u8], keyed: bool, i: usize) -> u16
     cell_at(book, at, client)
 }
 
-// Whether two things are the same.
-fn same(book: &[u8], keyed: bool, i: usize, j: usize) -> bool
-    requires { ⌜ (length (now book) ≡ 65536) × (i < 256) × (j < 256) × (placed (now book) keyed i ≡ true) × (placed (now book) keyed j ≡ true) ⌝ }
-    ensures { λ r. ⌜ r ≡ sameAt (now (book .entry)) keyed i j ⌝ }
+// Whether thing j has this client, and the text at x; most differ in the first word.
+fn same(book: &[u8], keyed: bool, client: u16, x: usize, j: usize) -> bool
+    requires { ⌜ (length (now book) ≡ 65536) × (x + 33 ≤ 65536) × (j < 256) × (placed (now book) keyed j ≡ true) ⌝ }
+    ensures { λ r. ⌜ r ≡ sameWith (now (book .entry)) keyed client (textAt (now (book .entry)) x) j ⌝ }
 {
-    let alone = lone(book, keyed, i);
-    let c = client_of(book, keyed, i);
-    let d = client_of(book, keyed, j);
-    let x = place(keyed, i);
     let y = place(keyed, j);
-    let text = same_at(book, x, y);
-    !alone & (c == d) & text
+    if !same_word(book, x, y) {
+        return false;
+    }
+    if !same_at(book, x, y) {
+        return false;
+    }
+    let d = client_of(book, keyed, j);
+    client == d
 }
 
-// Whether thing i differs from each before it. Only those in its cell are compared.
+// Whether thing i, which is not lone, differs from each before it. Only those in its cell are compared.
 fn clear_in(book: &[u8], keyed: bool, cells: &[u16; 256], i: usize, h: u16) -> bool
-    requires { ⌜ (length (now book) ≡ 65536) × (i < 256) × (allBelow (placed (now book) keyed) (i + 1) ≡ true) × (h ≡ cellOf (now book) keyed i) × ((j : ℕ) → j < i → getD (now cells) j 0 ≡ cellOf (now book) keyed j) ⌝ }
+    requires { ⌜ (length (now book) ≡ 65536) × (i < 256) × (allBelow (placed (now book) keyed) (i + 1) ≡ true) × (h ≡ cellOf (now book) keyed i) × ((j : ℕ) → j < i → getD (now cells) j 0 ≡ cellOf (now book) keyed j) × (loneAt (now book) keyed i ≡ false) ⌝ }
     ensures { λ r. ⌜ r ≡ clearAt (now (book .entry)) keyed i ⌝ }
 {
+    let client = client_of(book, keyed, i);
+    let at = place(keyed, i);
     let mut j: usize = 0;
     while j < i {
         if cells[j] == h {
-            if same(book, keyed, i, j) {
+            if same(book, keyed, client, at, j) {
                 return false;
             }
         }
@@ -97,11 +103,11 @@ fn clear_in(book: &[u8], keyed: bool, cells: &[u16; 256], i: usize, h: u16) -> b
 }
 
 // Whether thing i differs from each before it; with an unmarked cell it does.
-fn clear_of(book: &[u8], keyed: bool, cells: &[u16; 256], i: usize, h: u16, mark: u8) -> bool
-    requires { ⌜ (length (now book) ≡ 65536) × (i < 256) × (allBelow (placed (now book) keyed) (i + 1) ≡ true) × (h ≡ cellOf (now book) keyed i) × ((j : ℕ) → j < i → getD (now cells) j 0 ≡ cellOf (now book) keyed j) × ((j : ℕ) → j < i → cellOf (now book) keyed j ≡ h → mark ≡ 1) ⌝ }
+fn clear_of(book: &[u8], keyed: bool, cells: &[u16; 256], i: usize, h: u16, mark: bool) -> bool
+    requires { ⌜ (length (now book) ≡ 65536) × (i < 256) × (allBelow (placed (now book) keyed) (i + 1) ≡ true) × (h ≡ cellOf (now book) keyed i) × ((j : ℕ) → j < i → getD (now cells) j 0 ≡ cellOf (now book) keyed j) × ((j : ℕ) → j < i → cellOf (now book) keyed j ≡ h → mark ≡ true) ⌝ }
     ensures { λ r. ⌜ r ≡ clearAt (now (book .entry)) keyed i ⌝ }
 {
-    if mark == 0 {
+    if !mark {
         return true;
     }
     if lone(book, keyed, i) {
@@ -115,17 +121,19 @@ pub(crate) fn distinct(book: &[u8], keyed: bool, n: usize) -> bool
     requires { ⌜ (length (now book) ≡ 65536) × (n ≤ 256) × (allBelow (placed (now book) keyed) n ≡ true) ⌝ }
     ensures { λ r. ⌜ r ≡ allBelow (clearAt (now (book .entry)) keyed) n ⌝ }
 {
-    let mut seen = [0u8; 4096];
+    let mut seen = [0u32; 128];
     let mut cells = [0u16; 256];
     let mut i: usize = 0;
     while i < n {
         let h = cell_of(book, keyed, i);
-        let k = h as usize;
-        let mark = seen[k];
+        let k = (h / 32) as usize;
+        let b = (h % 32) as u32;
+        let map = seen[k];
+        let mark = bits::has(map, b);
         if !clear_of(book, keyed, &cells, i, h, mark) {
             return false;
         }
-        seen[k] = 1;
+        seen[k] = bits::with_bit(map, b);
         cells[i] = h;
         i += 1;
     }

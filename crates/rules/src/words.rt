@@ -69,32 +69,34 @@ pub(crate) fn same_word(s: &[u8], x: usize, y: usize) -> bool
     v == w
 }
 
-// Whether the texts at x and y are the same.
+// Whether the texts at x and y are the same: the first word that differs ends it.
 pub(crate) fn same_at(s: &[u8], x: usize, y: usize) -> bool
     requires { ⌜ (x + 33 ≤ length (now s)) × (y + 33 ≤ length (now s)) ⌝ }
     ensures { λ r. ⌜ r ≡ sameText (textAt (now (s .entry)) x) (textAt (now (s .entry)) y) ⌝ }
 {
-    let p = s[x + 32];
-    let q = s[y + 32];
-    let a = same_word(s, x, y);
-    let b = same_word(s, x + 8, y + 8);
-    let c = same_word(s, x + 16, y + 16);
-    let d = same_word(s, x + 24, y + 24);
-    (p == q) & (a & b & c & d)
+    if !same_word(s, x, y) {
+        return false;
+    }
+    if !same_word(s, x + 8, y + 8) {
+        return false;
+    }
+    if !same_word(s, x + 16, y + 16) {
+        return false;
+    }
+    if !same_word(s, x + 24, y + 24) {
+        return false;
+    }
+    s[x + 32] == s[y + 32]
 }
 
-// Whether the 16 bytes from an index are zeros.
+// Whether the 16 bytes from an index are zeros, by two words.
 fn zeros(s: &[u8], at: usize) -> bool
     requires { ⌜ at + 16 ≤ length (now s) ⌝ }
     ensures { λ r. ⌜ r ≡ allBelow (zeroAt (now (s .entry)) at) 16 ⌝ }
 {
-    let mut acc: u8 = 0;
-    let mut k: usize = 0;
-    while k < 16 {
-        acc = acc | s[at + k];
-        k += 1;
-    }
-    acc == 0
+    let a = get64(s, at);
+    let b = get64(s, at + 8);
+    (a == 0) & (b == 0)
 }
 
 // Whether a text as it is stored stands at an index: zeros after it, up to 16 bytes by two parts

@@ -6,20 +6,20 @@ use Prim.Native.Nat.{ℕ, _+_, _≤_, _<_}
 use native.Mathlib.Decide.{decLt}
 use native.Mathlib.Omega.{arith}
 use borrow.Author.Tests.{eq-eqb, lt-ltb}
-use lib.ListN.{length, getD, length-replicate, getD-replicate}
+use lib.ListN.{length, length-replicate}
 use lib.Seq.{set-out}
 use Rattle.prelude.specs.Cases.{if_then_else_}
-use Rattle.prelude.specs.Lists.{listBelow, list-ext, list-more}
+use Rattle.prelude.specs.Lists.{listBelow, list-ext, list-more, list-set-any}
 use Rattle.prelude.specs.Span.{span, splice, span-byte, length-splice, span-splice-same, span-splice-before, span-splice-after}
 use Rattle.prelude.specs.Number.{bound, bytesOf, word16, word32}
-use Rattle.text.specs.More.{list-set-any}
+use Rattle.prelude.specs.Bytes.{zeros, get-zeros}
 use Rattle.store.specs.declared.Order.{Order}
 use Rattle.store.specs.declared.Request.{Request}
 use Rattle.store.specs.Layout.{bookSize, orderBase, requestBase}
 use Rattle.store.specs.Cells.{same-8, same-16, same-text, read-32}
 use Rattle.store.specs.Orders.{WholeOrder, decodeOrder}
 use Rattle.store.specs.Requests.{WholeRequest, decodeRequest}
-use Rattle.store.specs.Book.{requestIn, orderAt, putOrder, requestAt, putRequest, countAt, orderCount, requestCount, settingOf, bookOf, setCount, addOrder, addRequest, markAnswered, zeros, blank, plusOrder, plusRequest, answered, withAnswered, emptyBook}
+use Rattle.store.specs.Book.{requestIn, orderAt, putOrder, requestAt, putRequest, countAt, orderCount, requestCount, settingOf, bookOf, setCount, addOrder, addRequest, markAnswered, blank, plusOrder, plusRequest, answered, withAnswered, emptyBook}
 use Rattle.store.specs.Tables.{same-count, same-setting, length-put-order, order-put, order-put-other, length-put-request, request-put, request-put-other, length-set-count, span-set-count, count-set-count, order-set-count, request-set-count}
 use Rattle.store.specs.Fields.{request-order, request-kind, request-answered, request-clordid, request-origclordid, request-downstream}
 use Rattle.store.specs.Laws.{count-most, count-out, in-table, length-requests, request-in, put-order-setting, put-order-requests, put-request-setting, put-request-orders}
@@ -159,11 +159,8 @@ mark-book b i = in-table (λ t. bookOf (if t then marked b i else b) ≡ withAns
 
 -- ---- an empty book
 
-zeros-8 : (n at : ℕ) → at < n → getD (zeros n) at 0 ≡ 0
-zeros-8 n at h = getD-replicate n at 0 0 h
-
-zeros-16 : (n at : ℕ) → at + 2 ≤ n → word16 (zeros n) at ≡ 0
-zeros-16 n at h = rw (zeros-8 n at (omega arith), zeros-8 n (at + 1) (omega arith))
+zeros-16 : (n at : ℕ) → word16 (zeros n) at ≡ 0
+zeros-16 n at = rw (get-zeros n at, get-zeros n (at + 1))
 
 length-zeros : (n : ℕ) → length (zeros n) ≡ n
 length-zeros n = length-replicate n 0
@@ -180,7 +177,7 @@ module _ (n : ℕ) (h : 8 ≤ n) (setting : ℕ) where
       let m : length (splice (zeros n) 4 (bytesOf 4 setting)) ≡ n = length-blank in
       same-16 (splice (zeros n) 4 (bytesOf 4 setting)) (zeros n) at (omega arith) (omega arith)
       (span-splice-before (zeros n) 4 (bytesOf 4 setting) at 2 k (omega arith))
-      ∙ zeros-16 n at (omega arith)
+      ∙ zeros-16 n at
 
   setting-blank : setting < bound 4 → word32 (splice (zeros n) 4 (bytesOf 4 setting)) 4 ≡ setting
   setting-blank k =

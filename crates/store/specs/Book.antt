@@ -5,12 +5,13 @@ use mathlib.Core.Bool.{Bool, _&&_}
 use mathlib.Core.List.{List, [], _∷_, _++_}
 use Prim.Native.Nat.{ℕ, _+_, min}
 use lib.Dec.{eqb, ltb}
-use lib.ListN.{length, getD, set, replicate}
+use lib.ListN.{length, getD, set}
 use Rattle.prelude.specs.Cases.{if_then_else_}
 use Rattle.prelude.specs.Lists.{listBelow}
 use Rattle.prelude.specs.Number.{word16, word32, bytesOf}
 use Rattle.prelude.specs.Span.{splice}
 use Rattle.prelude.specs.Table.{rowAt, putRow}
+use Rattle.prelude.specs.Bytes.{zeros}
 use Rattle.store.specs.declared.Order.{Order}
 use Rattle.store.specs.declared.Request.{Request}
 use Rattle.store.specs.Layout.{bookSize, header·orders, header·requests, header·setting, ordersAt, orderSize, mostOrders, requestsAt, requestSize, mostRequests, requestBase, request·answered}
@@ -94,9 +95,6 @@ addRequest b r =
 
 unfoldable pub markAnswered : List ℕ → ℕ → List ℕ
 markAnswered b i = if isBook b && ltb i mostRequests then splice b (requestBase i + request·answered) (1 ∷ []) else b
-
-abbrev pub zeros : ℕ → List ℕ
-zeros n = replicate n 0
 
 -- an empty book with its setting
 unfoldable pub blank : ℕ → List ℕ

@@ -3,13 +3,13 @@ use mathlib.Core.Path.{_≡_, sym, ap, _∙_}
 use mathlib.Core.List.{List, [], _∷_, _++_}
 use Prim.Native.Nat.{ℕ, _+_, _≤_, _<_}
 use native.Mathlib.Nat.{add-zero}
-use native.Mathlib.Decide.{decLt}
 use native.Mathlib.Omega.{arith}
-use lib.ListN.{length, getD, take, drop, length-append, length-take, List·getD-eq-default}
-use lib.Seq.{take-at, getD-at, getD-take, getD-drop}
+use lib.ListN.{length, getD, length-append}
+use lib.Seq.{take-at, getD-at}
 use Rattle.prelude.specs.Span.{span, span-span, get-span, length-span}
 use Rattle.prelude.specs.Number.{Bytes, number, bytesOf, bound, number-bytes, word16, word32, word64, word16-number, word32-number, word64-number}
 use Rattle.prelude.specs.Texts.{textAt, WholeText}
+use Rattle.prelude.specs.Bytes.{bytes-span}
 use Rattle.prelude.specs.declared.Text.{Text}
 
 -- a text as it is written: its bytes, then its length
@@ -72,16 +72,6 @@ module _ (s : List ℕ) (at n : ℕ) where
   within-text k h = λ i. record { bytes = span-span s at n k 32 (omega arith) i; len = next k 32 (omega arith) i }
 
 -- ---- what bytes hold is in range
-
-pub bytes-span : (s : List ℕ) (at n : ℕ) → Bytes s → Bytes (span s at n)
-unfolding span
-bytes-span s at n h k = go (decLt k n)
-  where
-    go : Dec (k < n) → getD (take n (drop at s)) k 0 < 256
-    go (yes l) = rw (getD-take n (drop at s) k 0 l, getD-drop at s k 0) (h (at + k))
-    go (no l) =
-        let m : length (take n (drop at s)) ≤ k = simp length-take (omega arith) in
-        rw (List·getD-eq-default (take n (drop at s)) 0 m) (omega arith)
 
 module _ (s : List ℕ) (h : Bytes s) (at : ℕ) where
   pub fits-16 : word16 s at < 65536

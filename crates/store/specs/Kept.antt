@@ -1,67 +1,30 @@
 -- What every function keeps, on any buffer: its length, and that its elements are bytes. Rests on Laws.
 use mathlib.Core.Path.{_≡_, refl, sym, _∙_}
-use mathlib.Core.List.{List, [], _∷_, _++_}
-use Prim.Native.Nat.{ℕ, zero, suc, _+_, _/_, _≤_, _<_}
+use mathlib.Core.List.{List, [], _∷_}
+use Prim.Native.Nat.{ℕ, _+_, _≤_, _<_}
 use native.Mathlib.Omega.{arith}
 use lib.Dec.{eqb}
-use lib.ListN.{length, take, drop}
-use lib.Seq.{getD-drop}
+use lib.ListN.{length}
 use Rattle.prelude.specs.Cases.{if_then_else_, split-if}
 use Rattle.prelude.specs.Number.{Bytes, bytesOf}
-use Rattle.prelude.specs.Pieces.{joined}
-use Rattle.prelude.specs.Span.{span, splice, length-splice}
+use Rattle.prelude.specs.Span.{splice, length-splice}
 use Rattle.prelude.specs.Texts.{WholeText}
+use Rattle.prelude.specs.Bytes.{zeros, bytes-zeros, bytes-one, bytes-of, bytes-append, bytes-splice, bytes-joined}
 use Rattle.prelude.specs.declared.Text.{Text}
 use Rattle.store.specs.declared.GatewayCancel.{GatewayCancel}
 use Rattle.store.specs.declared.Order.{Order}
 use Rattle.store.specs.declared.Request.{Request}
 use Rattle.store.specs.Layout.{bookSize, requestBase}
-use Rattle.store.specs.Cells.{textBytes, bytes-span}
+use Rattle.store.specs.Cells.{textBytes}
 use Rattle.store.specs.Orders.{FitsOrder, stageOf, encodeOrder, piecesOrder}
 use Rattle.store.specs.Requests.{WholeRequest, encodeRequest, piecesRequest}
-use Rattle.store.specs.Book.{putOrder, putRequest, orderCount, requestCount, storeOrder, storeRequest, setCount, addOrder, addRequest, markAnswered, zeros, blank}
+use Rattle.store.specs.Book.{putOrder, putRequest, orderCount, requestCount, storeOrder, storeRequest, setCount, addOrder, addRequest, markAnswered, blank}
 use Rattle.store.specs.Tables.{length-put-order, length-put-request}
 use Rattle.store.specs.Laws.{in-table}
-
--- ---- lists of bytes
-
-bytes-append : (xs ys : List ℕ) → Bytes xs → Bytes ys → Bytes (xs ++ ys)
-bytes-append [] ys h g k = g k
-bytes-append (x ∷ xs) ys h g zero = h 0
-bytes-append (x ∷ xs) ys h g (suc k) = bytes-append xs ys (λ j. h (suc j)) g k
-
-bytes-one : (x : ℕ) → x < 256 → Bytes (x ∷ [])
-bytes-one x h zero = h
-bytes-one x h (suc k) = omega arith
-
-pub bytes-splice : (s : List ℕ) (at : ℕ) (w : List ℕ) → Bytes s → Bytes w → Bytes (splice s at w)
-unfolding splice span
-bytes-splice s at w h g =
-    bytes-append (take at s) (w ++ drop (length w) (drop at s)) (bytes-span s 0 at h)
-    (bytes-append w (drop (length w) (drop at s)) g
-    (λ k. rw (getD-drop (length w) (drop at s) k 0, getD-drop at s (length w + k) 0) (h (at + (length w + k)))))
-
-bytes-of : (k n : ℕ) → Bytes (bytesOf k n)
-bytes-of zero n j = omega arith
-bytes-of (suc k) n zero = omega arith
-bytes-of (suc k) n (suc j) = bytes-of k (n / 256) j
-
-bytes-zeros : (n : ℕ) → Bytes (zeros n)
-bytes-zeros zero k = omega arith
-bytes-zeros (suc n) zero = omega arith
-bytes-zeros (suc n) (suc k) = bytes-zeros n k
 
 bytes-text : (t : Text) → WholeText t → Bytes (textBytes t)
 unfolding textBytes
 bytes-text t h = bytes-append (t .bytes) (t .len ∷ []) (h .bytes) (bytes-one (t .len) (h .len))
-
-abbrev AllBytes : List (List ℕ) → Type 0
-AllBytes [] = Unit {0}
-AllBytes (p ∷ ps) = Bytes p × AllBytes ps
-
-bytes-joined : (ps : List (List ℕ)) → AllBytes ps → Bytes (joined ps)
-bytes-joined [] h k = omega arith
-bytes-joined (p ∷ ps) h k = bytes-append p (joined ps) (h .0) (bytes-joined ps (h .1)) k
 
 -- ---- records
 

@@ -10,14 +10,13 @@ use lib.Dec.{ltb}
 use lib.ListN.{length}
 use lib.Seq.{set-out}
 use Rattle.prelude.specs.Cases.{if_then_else_, split-if}
-use Rattle.prelude.specs.Lists.{listBelow, length-list, get-list, list-ext}
+use Rattle.prelude.specs.Lists.{listBelow, length-list, get-list, list-ext, list-set-any}
 use Rattle.prelude.specs.Span.{span, length-span}
 use Rattle.prelude.specs.Number.{Bytes}
-use Rattle.text.specs.More.{list-set-any}
+use Rattle.prelude.specs.Bytes.{bytes-span}
 use Rattle.store.specs.declared.Order.{Order}
 use Rattle.store.specs.declared.Request.{Request}
 use Rattle.store.specs.Layout.{bookSize, orderBase, requestBase}
-use Rattle.store.specs.Cells.{bytes-span}
 use Rattle.store.specs.Orders.{FitsOrder, WholeOrder, noOrder}
 use Rattle.store.specs.OrderLaws.{fits-order, whole-order}
 use Rattle.store.specs.Requests.{WholeRequest, noRequest, whole-request}

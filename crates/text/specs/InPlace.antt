@@ -3,13 +3,12 @@ use mathlib.Core.Path.{_≡_, refl, sym, ap, _∙_}
 use mathlib.Core.Bool.{Bool, true, false, _&&_}
 use mathlib.Core.List.{List}
 use Prim.Native.Nat.{ℕ, _+_, _<_, _≤_}
-use native.Mathlib.Numerals.{add-one}
 use native.Mathlib.Omega.{arith}
 use borrow.Author.Tests.{eqb-true, eqb-false, eq-eqb, ne-eqb, lt-ltb, le-ltb, le-leb}
 use lib.Bits.{bitOr, or-add-and, and-le-l, and-le-r}
 use lib.Dec.{eqb}
 use lib.ListN.{length, getD}
-use Rattle.prelude.specs.Below.{allBelow, all-miss, all-intro}
+use Rattle.prelude.specs.Below.{allBelow, all-miss, all-intro, all-step}
 use Rattle.prelude.specs.Cases.{both-false}
 use Rattle.prelude.specs.Span.{span, get-span}
 use Rattle.prelude.specs.Texts.{textAt, agreeAt, sameText, filledAt, isText}
@@ -50,10 +49,6 @@ or-zero a b = go (eqb a 0) (eqb b 0) refl refl
     go true true p q = rw (eqb-true a 0 p, eqb-true b 0 q)
     go true false p q = ne-eqb (bitOr a b) 0 (λ e. eqb-false b 0 q (or-none a b e .1))
     go false v p q = ne-eqb (bitOr a b) 0 (λ e. eqb-false a 0 p (or-none a b e .0))
-
-all-step : (p : ℕ → Bool) (k : ℕ) → allBelow p (k + 1) ≡ allBelow p k && p k
-unfolding allBelow
-all-step p k = rw add-one
 
 module _ (t : Text) where
   -- the bytes of the text itself are not looked at

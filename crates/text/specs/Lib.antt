@@ -1,4 +1,3 @@
-pub mod More
 pub mod Words
 pub mod InPlace
 pub mod Numbered

@@ -8,7 +8,7 @@ use mathlib.Core.Option.{none, some}
 use lib.Dec.{eqb}
 use lib.ListN.{length}
 use borrow.Author.Tests.{eq-eqb, ne-eqb}
-use Rattle.prelude.specs.Cases.{if_then_else_, maybe, split-if, clash, both-hold, both-false, maybe-some}
+use Rattle.prelude.specs.Cases.{if_then_else_, maybe, split-if, clash, both-hold, both-false, maybe-some, true-or-false}
 use Rattle.store.specs.declared.GatewayCancel.{GatewayCancel}
 use Rattle.store.specs.declared.Order.{Order}
 use Rattle.store.specs.Book.{Book, orderIn, requestIn}
@@ -22,7 +22,6 @@ use Rattle.machine.specs.Rules.{triesRule}
 use Rattle.machine.specs.History.{readAs, spoken}
 use Rattle.machine.specs.Claim.{starts, cancelsIn}
 use Rattle.machine.specs.declared.Change.{Change}
-use Rattle.machine.proofs.Claim.Laws.{decide}
 use Rattle.machine.proofs.Claim.Ruled.{Ruled, order-ruled, request-ruled, done-none}
 use Rattle.machine.proofs.Claim.Walk.{found-request, found-text, found-order, Either, Handles, requestsOrder, not-kind}
 use Rattle.machine.proofs.Claim.Filled.{Moved, handles-moved}
@@ -116,7 +115,7 @@ module _ (b : Book) (r : Ruled b) (e : Event) (above : 0 < e .kind) (below : e .
       by : Falls (factsOf b (orderLink b k)) (requestsOrder b k) (rule-of k w) (k + 1) (requestIn b k) (e .venue) c → Shape b e (requestIn b k .order) c
       by (stays d g) =
           idle (asks-none b e n₉ _) (d .silent) (inl (d .adds))
-          (λ hg. let (x, t, u) = d .near .gate hg in (x, t, λ y j p. calm j p hg (decide (isGateway (requestIn b k))) g))
+          (λ hg. let (x, t, u) = d .near .gate hg in (x, t, λ y j p. calm j p hg (true-or-false (isGateway (requestIn b k))) g))
         where
           calm : (j : ℕ) → c .requests .answered ≡ j + 1 → hasGateway (c .order) ≡ true → (isGateway (requestIn b k) ≡ true) ⊎ (isGateway (requestIn b k) ≡ false)
               → (isGateway (requestIn b k) ≡ true → (c .requests .answered ≡ 0) ⊎ (hasGateway (c .order) ≡ false)) → isGateway (requestIn b j) ≡ false

@@ -13,8 +13,9 @@ use lib.ListN.{length, getD, set, length-append, length-set, List·getD-append}
 use lib.Seq.{getD-at, getD-set-same, getD-set-other}
 use borrow.Author.Tests.{eqb-true, eq-eqb, ne-eqb, le-leb, lt-leb}
 use Rattle.prelude.specs.Below.{first-some, first-elim, first-hit, first-ext, First}
-use Rattle.prelude.specs.Cases.{if_then_else_, maybe, split-if, if-true, if-false}
+use Rattle.prelude.specs.Cases.{if_then_else_, maybe, split-if, if-true, if-false, true-or-false, none-some}
 use Rattle.prelude.specs.Texts.{sameText}
+use Rattle.prelude.specs.Totals.{totalOf, Every, every[], every∷, every-map}
 use Rattle.prelude.specs.declared.Text.{Text}
 use Rattle.store.specs.declared.Order.{Order}
 use Rattle.store.specs.Book.{Book, orderIn, requestIn}
@@ -26,9 +27,9 @@ use Rattle.store.specs.Finds.{findName}
 use Rattle.machine.specs.Machine.{factsOf, bookedOrder, ordersAfter, after, onReport, stepOf}
 use Rattle.machine.specs.Rules.{rules}
 use Rattle.machine.specs.History.{Decoded, unread, readAs, comesTo, spoken, messagesOf, leftBy, lineOf, State, start, next, run}
-use Rattle.machine.specs.Claim.{sum, lastQty, toldOf, statusOf, All, all[], all∷, Each}
+use Rattle.machine.specs.Claim.{lastQty, toldOf, statusOf, Each}
 use Rattle.machine.specs.declared.Change.{Change}
-use Rattle.machine.proofs.Claim.Laws.{decide, none-some, map-all, tells}
+use Rattle.machine.proofs.Claim.Laws.{tells}
 use Rattle.machine.proofs.Claim.Moves.{Moves, more-moves, cancelOrder-moves, failed-moves, unsent-moves, told-refusal, status-moves, cancel-goes-moves, replace-goes-moves, unknown-moves, reject-moves, report-moves}
 use Rattle.machine.proofs.Claim.Ruled.{Ruled, ruled, one-name}
 use Rattle.machine.proofs.Claim.Walk.{booking, Did, Roomy, turned-away, no-order, on-order, new-order, found-order, Either, Handles, step-walk, refusing-bystands, refusing-away}
@@ -134,13 +135,13 @@ pub record Advances (b : Book) (ms : List Message) (b′ : Book) : Type 0 where
   pub filled : (old : ℕ → Text → ℕ) → ((i : ℕ) → i < length (b .orders) → old (orderIn b i .client) (orderIn b i .names .name) ≡ orderIn b i .state .cumqty)
       → ((client : ℕ) (t : Text) → findName b t ≡ none → old client t ≡ 0)
       → (i : ℕ) → i < length (b′ .orders)
-      → sum (lastQty (orderIn b′ i .client) (orderIn b′ i .names .name)) ms + old (orderIn b′ i .client) (orderIn b′ i .names .name) ≡ orderIn b′ i .state .cumqty
-  pub quiet : (client : ℕ) (t : Text) → findName b′ t ≡ none → sum (lastQty client t) ms ≡ 0
+      → totalOf (lastQty (orderIn b′ i .client) (orderIn b′ i .names .name)) ms + old (orderIn b′ i .client) (orderIn b′ i .names .name) ≡ orderIn b′ i .state .cumqty
+  pub quiet : (client : ℕ) (t : Text) → findName b′ t ≡ none → totalOf (lastQty client t) ms ≡ 0
   pub ordered : ((i : ℕ) → i < length (b .orders) → orderIn b i .state .cumqty ≤ orderIn b i .terms .qty)
       → (i : ℕ) → i < length (b′ .orders) → orderIn b′ i .state .cumqty ≤ orderIn b′ i .terms .qty
 
 -- the orders stay, and no report goes out
-still : (b : Book) (ms : List Message) (b′ : Book) → b′ .orders ≡ b .orders → ((client : ℕ) (t : Text) → sum (lastQty client t) ms ≡ 0) → Advances b ms b′
+still : (b : Book) (ms : List Message) (b′ : Book) → b′ .orders ≡ b .orders → ((client : ℕ) (t : Text) → totalOf (lastQty client t) ms ≡ 0) → Advances b ms b′
 still b ms b′ e q =
     subst (λ (os : List Order). Advances b ms (record { setting = b′ .setting; orders = os; requests = b′ .requests })) (sym e)
     (record {
@@ -180,7 +181,7 @@ module _ (b : Book) (r : Ruled b) (c : Change) (i : ℕ) (h : i < length (b .ord
   }
 
   apart : (j : ℕ) → (j ≡ i → ⊥) → j < length (b .orders) → sameText (orderIn b i .names .name) (orderIn b j .names .name) ≡ false
-  apart j n l = go (decide _)
+  apart j n l = go (true-or-false _)
     where
       go : (sameText (orderIn b i .names .name) (orderIn b j .names .name) ≡ true) ⊎ (sameText (orderIn b i .names .name) (orderIn b j .names .name) ≡ false)
           → sameText (orderIn b i .names .name) (orderIn b j .names .name) ≡ false
@@ -190,7 +191,7 @@ module _ (b : Book) (r : Ruled b) (c : Change) (i : ℕ) (h : i < length (b .ord
   changed-advances : Advances b (tells c) b′
   changed-advances = record {
     persists = changed-persists;
-    filled = λ old f u. each (λ k o. sum (lastQty (o .client) (o .names .name)) (tells c) + old (o .client) (o .names .name) ≡ o .state .cumqty)
+    filled = λ old f u. each (λ k o. totalOf (lastQty (o .client) (o .names .name)) (tells c) + old (o .client) (o .names .name) ≡ o .state .cumqty)
         (rw (m .same-client, m .same-name) (omega (arith, f i h, m .told)))
         (λ j n l. omega (arith, f j l, m .others (orderIn b j .client) (orderIn b j .names .name) (apart j n l)));
     quiet = λ client t w. m .others client t (bare t (still-unused b b′ changed-persists t w));
@@ -290,7 +291,7 @@ module _ (b : Book) (r : Ruled b) (e : Event) where
       (ap (findName b) (s .0) ∙ u) (s .1)))
 
 refusing-advances : (b : Book) (i : Decoded) (n : ℕ) → Advances b (lineOf b i (refusing n) .messages) (lineOf b i (refusing n) .left)
-refusing-advances b i n = go (decide (eqb n 0))
+refusing-advances b i n = go (true-or-false (eqb n 0))
   where
     go : (eqb n 0 ≡ true) ⊎ (eqb n 0 ≡ false) → Advances b (lineOf b i (refusing n) .messages) (lineOf b i (refusing n) .left)
     go (inl z) =
@@ -314,10 +315,10 @@ pub record First3 (s : State) : Type 0 where
   pub filled : Each s (λ o. toldOf (o .client) (o .names .name) (s .past) ≡ o .state .cumqty)
   pub unbooked : (client : ℕ) (t : Text) → findName (s .book) t ≡ none → toldOf client t (s .past) ≡ 0
   pub ordered : Each s (λ o. o .state .cumqty ≤ o .terms .qty)
-  pub done : All (λ e. (name : Text) (st : ℕ) → statusOf name (e .left) ≡ some st → isDone st ≡ true → statusOf name (s .book) ≡ some st) (s .past)
+  pub done : Every (λ e. (name : Text) (st : ℕ) → statusOf name (e .left) ≡ some st → isDone st ≡ true → statusOf name (s .book) ≡ some st) (s .past)
 
 start-first : (setting : ℕ) → First3 (start setting)
-start-first setting = record { filled = λ i h. absurd (not-suc-le-zero h); unbooked = λ client t h. refl; ordered = λ i h. absurd (not-suc-le-zero h); done = all[] }
+start-first setting = record { filled = λ i h. absurd (not-suc-le-zero h); unbooked = λ client t h. refl; ordered = λ i h. absurd (not-suc-le-zero h); done = every[] }
 
 next-first : (s : State) (i : Decoded) → First3 s → First3 (next s i)
 next-first s i f =
@@ -326,7 +327,7 @@ next-first s i f =
       filled = a .filled (λ client t. toldOf client t (s .past)) (f .filled) (f .unbooked);
       unbooked = λ client t h. omega (arith, a .quiet client t h, f .unbooked client t (still-unused (s .book) _ (a .persists) t h));
       ordered = a .ordered (f .ordered);
-      done = all∷ (λ name st h d. h) (map-all (λ e k name st h d. status-stays (s .book) _ (a .persists) name st (k name st h d) d) (f .done));
+      done = every∷ (λ name st h d. h) (every-map (λ e k name st h d. status-stays (s .book) _ (a .persists) name st (k name st h d) d) (f .done));
     }
 
 module _ {In : Type 0} (read : In → Decoded) where

@@ -8,19 +8,18 @@ use mathlib.Core.Bool.{Bool, true, false}
 use mathlib.Core.Option.{Option, none, some}
 use lib.Dec.{eqb}
 use lib.ListN.{length}
-use borrow.Author.Tests.{eqb-true, eqb-false, eq-eqb, lt-ltb}
+use borrow.Author.Tests.{eqb-true, eqb-false, eq-eqb}
 use Rattle.prelude.specs.Below.{countBelow, count-hit, count-le}
-use Rattle.prelude.specs.Cases.{clash, if-true, if-false}
-use Rattle.prelude.specs.Texts.{sameText}
+use Rattle.prelude.specs.Cases.{clash, if-true, if-false, true-or-false}
+use Rattle.prelude.specs.Texts.{sameText, same-back, same-trans}
 use Rattle.prelude.specs.declared.Text.{Text}
 use Rattle.text.specs.Numbered.{numberedText}
 use Rattle.store.specs.Book.{Book, orderIn, requestIn}
-use Rattle.machine.specs.Orders.{oneMore}
 use Rattle.machine.specs.Changes.{nextNumber, nextDownstream}
 use Rattle.store.specs.Finds.{findDownstream}
 use Rattle.machine.specs.Ranges.{nameRange}
 use Rattle.machine.specs.Rules.{amendmentsRule, nameNumber, numberIn, ofOrder}
-use Rattle.machine.proofs.Claim.Laws.{decide, same-back, same-trans}
+use Rattle.machine.proofs.Kept.Local.{one-more}
 use Rattle.machine.proofs.Claim.Ruled.{Ruled, one-name, order-ruled, request-ruled}
 use Rattle.machine.proofs.Claim.Walk.{found-request, found-text}
 use Rattle.machine.proofs.Numbered.{NumberedLaws}
@@ -40,13 +39,9 @@ module _ (p : ℕ → Bool) where
 
 -- ---- the next number
 
-one-more : (n : ℕ) → n < 65535 → oneMore 65535 n ≡ n + 1
-unfolding oneMore
-one-more n h = if-true _ _ _ (lt-ltb n 65535 h)
-
 next-text : (b : Book) (i : ℕ) → orderIn b i .links .amendments < 65535 → nextDownstream (orderIn b i) ≡ numberedText (orderIn b i .names .name) (orderIn b i .links .amendments + 1)
 unfolding nextDownstream nextNumber
-next-text b i h = ap (numberedText (orderIn b i .names .name)) (one-more _ h)
+next-text b i h = ap (numberedText (orderIn b i .names .name)) (one-more 65535 _ h)
 
 counted : (b : Book) (i a : ℕ) → amendmentsRule i a (b .requests) ≡ true → a + 1 ≡ countBelow (ofOrder (b .requests) i) (length (b .requests))
 unfolding amendmentsRule
@@ -89,7 +84,7 @@ module _ (laws : NumberedLaws) (b : Book) (r : Ruled b) (i : ℕ) (h : i < lengt
       let same : sameText (nameNumber (orderIn b (requestIn b k .order) .names .name) n) (numberedText (orderIn b i .names .name) (a + 1)) ≡ true =
       same-trans _ (requestIn b k .downstream) _ (same-back _ _ (q .numbered))
       (subst (λ (t : Text). sameText (requestIn b k .downstream) t ≡ true) (next-text b i (omega arith)) (found-text b (nextDownstream (orderIn b i)) k w)) in
-      go (o .named) (o′ .named) (numbered-below b k _ l (o′ .amendments)) (q .placed) small least same (decide (eqb n 0))
+      go (o .named) (o′ .named) (numbered-below b k _ l (o′ .amendments)) (q .placed) small least same (true-or-false (eqb n 0))
     where
       go : nameRange (orderIn b i .names .name) ≡ true → nameRange (orderIn b (requestIn b k .order) .names .name) ≡ true
           → numberIn (b .requests) k ≤ orderIn b (requestIn b k .order) .links .amendments → requestIn b k .order < length (b .orders)

@@ -8,6 +8,7 @@ use lib.Dec.{eqb, ltb}
 use borrow.Author.Tests.{ltb-false, eqb-true, eq-eqb, not-false}
 use Rattle.prelude.specs.Cases.{if_then_else_, split-if, clash, both-true, both-hold, either-false, if-true}
 use Rattle.prelude.specs.Texts.{sameText, same-self}
+use Rattle.prelude.specs.Totals.{totalOf, total-append}
 use Rattle.prelude.specs.declared.Text.{Text}
 use Rattle.prelude.specs.declared.Terms.{Terms}
 use Rattle.store.specs.declared.Order.{Order}
@@ -22,13 +23,13 @@ use Rattle.machine.specs.GatewayCancel.{begun, trySent, givenUp, sendGat
 use Rattle.machine.specs.Amend.{refuse, statusReport, cancelGoes, newTerms, newPending, replaceGoes, notPending, refusedOrder, refuseRequest, venueCancelReject, sendRefused, firstFailed, sendFailed, unsent}
 use Rattle.machine.specs.Report.{unknownAtVenue, stale, droppedStale, droppedRepeat, accepts, orderedQty, reportedOrder, clientReport, settles, applyReport, venueReport}
 use Rattle.machine.specs.History.{spoken}
-use Rattle.machine.specs.Claim.{sum, lastQty}
+use Rattle.machine.specs.Claim.{lastQty}
 use Rattle.machine.specs.declared.Facts.{Facts}
 use Rattle.machine.specs.declared.Note.{Note}
 use Rattle.machine.specs.declared.Refusal.{Refusal}
 use Rattle.machine.specs.declared.Refused.{Refused}
 use Rattle.machine.specs.declared.Change.{Change}
-use Rattle.machine.proofs.Claim.Laws.{tells, tells-more, count-more, sum-append}
+use Rattle.machine.proofs.Claim.Laws.{tells, tells-more, count-more}
 
 -- ---- the order alone
 
@@ -97,8 +98,8 @@ pub record Moves (n p : ℕ) (o : Order) (c : Change) : Type 0 where
   pub within : c .output .count ≤ n
   pub same-client : c .order .client ≡ o .client
   pub same-name : c .order .names .name ≡ o .names .name
-  pub told : sum (lastQty (o .client) (o .names .name)) (tells c) + o .state .cumqty ≡ c .order .state .cumqty
-  pub others : (client : ℕ) (name : Text) → sameText (o .names .name) name ≡ false → sum (lastQty client name) (tells c) ≡ 0
+  pub told : totalOf (lastQty (o .client) (o .names .name)) (tells c) + o .state .cumqty ≡ c .order .state .cumqty
+  pub others : (client : ℕ) (name : Text) → sameText (o .names .name) name ≡ false → totalOf (lastQty client name) (tells c) ≡ 0
   pub ordered : o .state .cumqty ≤ o .terms .qty → c .order .state .cumqty ≤ c .order .terms .qty
   pub done : isDone (o .state .status) ≡ true → c .order .state .status ≡ o .state .status
 
@@ -196,16 +197,16 @@ module _ (n p : ℕ) (o : Order) (c : Change) (m : Moves n p o c) where
     same-name = m .same-name;
     told =
         let w : c .output .count ≤ 1 = omega (arith, m .within) in
-        ap (λ (ms : List Message). sum (lastQty (o .client) (o .names .name)) ms + o .state .cumqty) (tells-more x c w)
+        ap (λ (ms : List Message). totalOf (lastQty (o .client) (o .names .name)) ms + o .state .cumqty) (tells-more x c w)
         ∙ ap (λ (k : ℕ). k + o .state .cumqty) (still (o .client) (o .names .name))
         ∙ m .told;
-    others = λ cl t h. let w : c .output .count ≤ 1 = omega (arith, m .within) in ap (sum (lastQty cl t)) (tells-more x c w) ∙ still cl t ∙ m .others cl t h;
+    others = λ cl t h. let w : c .output .count ≤ 1 = omega (arith, m .within) in ap (totalOf (lastQty cl t)) (tells-more x c w) ∙ still cl t ∙ m .others cl t h;
     ordered = m .ordered;
     done = m .done;
   }
     where
-      still : (cl : ℕ) (t : Text) → sum (lastQty cl t) (tells c ++ (x ∷ [])) ≡ sum (lastQty cl t) (tells c)
-      still cl t = rw sum-append (omega (arith, q cl t))
+      still : (cl : ℕ) (t : Text) → totalOf (lastQty cl t) (tells c ++ (x ∷ [])) ≡ totalOf (lastQty cl t) (tells c)
+      still cl t = rw total-append (omega (arith, q cl t))
 
 -- ---- messages that report no rise
 
@@ -420,9 +421,9 @@ module _ (p : ℕ) (o x : Order) (cum qty : ℕ) (g : Grown o x cum qty) (fits :
     same-client = ap (λ (y : Order). y .client) (b .left) ∙ g .same-client;
     same-name = ap (λ (y : Order). y .names .name) (b .left) ∙ g .same-name;
     told =
-        ap (λ (ms : List Message). sum (lastQty (o .client) (o .names .name)) ms + o .state .cumqty) (none-told c (b .none-yet))
+        ap (λ (ms : List Message). totalOf (lastQty (o .client) (o .names .name)) ms + o .state .cumqty) (none-told c (b .none-yet))
         ∙ (omega (arith, ap (λ (y : Order). y .state .cumqty) (b .left), g .now));
-    others = λ cl t h. ap (sum (lastQty cl t)) (none-told c (b .none-yet));
+    others = λ cl t h. ap (totalOf (lastQty cl t)) (none-told c (b .none-yet));
     ordered = λ h. omega (arith, ap (λ (y : Order). y .state .cumqty) (b .left), ap (λ (y : Order). y .terms .qty) (b .left), g .now, g .most);
     done = λ h. clash _ h live;
   }
@@ -439,9 +440,9 @@ module _ (p : ℕ) (o x : Order) (cum qty : ℕ) (g : Grown o x cum qty) (fits :
     same-client = ap (λ (y : Order). y .client) (b .left) ∙ g .same-client;
     same-name = ap (λ (y : Order). y .names .name) (b .left) ∙ g .same-name;
     told =
-        ap (λ (ms : List Message). sum (lastQty (o .client) (o .names .name)) ms + o .state .cumqty) only
+        ap (λ (ms : List Message). totalOf (lastQty (o .client) (o .names .name)) ms + o .state .cumqty) only
         ∙ (omega (arith, own, up, ap (λ (y : Order). y .state .cumqty) (b .left), g .now));
-    others = λ cl t h. ap (sum (lastQty cl t)) only ∙ (omega (arith, other cl t h));
+    others = λ cl t h. ap (totalOf (lastQty cl t)) only ∙ (omega (arith, other cl t h));
     ordered = λ h. omega (arith, ap (λ (y : Order). y .state .cumqty) (b .left), ap (λ (y : Order). y .terms .qty) (b .left), g .now, g .most);
     done = λ h. clash _ h live;
   }

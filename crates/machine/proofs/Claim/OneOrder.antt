@@ -12,8 +12,9 @@ use lib.Dec.{eqb}
 use lib.ListN.{length, set}
 use borrow.Author.Tests.{eqb-true}
 use Rattle.prelude.specs.Below.{first-elim}
-use Rattle.prelude.specs.Cases.{split-if, clash}
-use Rattle.prelude.specs.Texts.{sameText}
+use Rattle.prelude.specs.Cases.{split-if, clash, true-or-false, same-some}
+use Rattle.prelude.specs.Texts.{sameText, same-back, same-trans}
+use Rattle.prelude.specs.Totals.{totalOf}
 use Rattle.prelude.specs.declared.Text.{Text}
 use Rattle.text.specs.Numbered.{numberedText}
 use Rattle.store.specs.declared.Order.{Order}
@@ -25,9 +26,9 @@ use Rattle.machine.specs.Machine.{factsOf, orderLink, after, stepOf}
 use Rattle.machine.specs.Ranges.{nameRange}
 use Rattle.machine.specs.Rules.{rules, nameNumber, numberIn}
 use Rattle.machine.specs.History.{readAs, comesTo, lineOf}
-use Rattle.machine.specs.Claim.{sum, lastQty, StaysOne}
+use Rattle.machine.specs.Claim.{lastQty, StaysOne}
 use Rattle.machine.specs.declared.Change.{Change}
-use Rattle.machine.proofs.Claim.Laws.{decide, same-some, same-back, same-trans, tells}
+use Rattle.machine.proofs.Claim.Laws.{tells}
 use Rattle.machine.proofs.Claim.Ruled.{Ruled, ruled, one-name, order-ruled, request-ruled}
 use Rattle.machine.proofs.Claim.Walk.{Did, Roomy, turned-away, no-order, on-order, new-order, found-request, found-text, Either, Handles, step-walk, refusing-away}
 use Rattle.machine.proofs.Claim.Filled.{Moved, handles-moved, orders-set, after-orders, at, beside, long, line-of, refused-of}
@@ -42,7 +43,7 @@ use Rattle.machine.proofs.Numbered.{NumberedLaws, numbered-laws}
 
 module _ (laws : NumberedLaws) (x y : Text) (m n : ℕ) (nx : nameRange x ≡ true) (ny : nameRange y ≡ true) (lm : m ≤ 255) (ln : n ≤ 255) where
   same-names : sameText (nameNumber x m) (nameNumber y n) ≡ true → sameText x y ≡ true
-  same-names e = go (decide (eqb m 0)) (decide (eqb n 0))
+  same-names e = go (true-or-false (eqb m 0)) (true-or-false (eqb n 0))
     where
       go : (eqb m 0 ≡ true) ⊎ (eqb m 0 ≡ false) → (eqb n 0 ≡ true) ⊎ (eqb n 0 ≡ false) → sameText x y ≡ true
       go (inl p) (inl q) = sym (ap (λ (t : Text). sameText x t) (named-zero y n q)) ∙ sym (ap (λ (t : Text). sameText t (nameNumber y n)) (named-zero x m p)) ∙ e
@@ -80,9 +81,9 @@ record Alone (b : Book) (i : ℕ) (ms : List Message) (b′ : Book) : Type 0 whe
   added : (k : ℕ) → length (b .requests) ≤ k → k < length (b′ .requests) → requestIn b′ k .order ≡ i
   same-client : orderIn b′ i .client ≡ orderIn b i .client
   same-name : orderIn b′ i .names .name ≡ orderIn b i .names .name
-  silent : (client : ℕ) (name : Text) → sameText (orderIn b i .names .name) name ≡ false → sum (lastQty client name) ms ≡ 0
+  silent : (client : ℕ) (name : Text) → sameText (orderIn b i .names .name) name ≡ false → totalOf (lastQty client name) ms ≡ 0
 
-still-alone : (b : Book) (i : ℕ) (ms : List Message) → ((client : ℕ) (name : Text) → sum (lastQty client name) ms ≡ 0) → Alone b i ms b
+still-alone : (b : Book) (i : ℕ) (ms : List Message) → ((client : ℕ) (name : Text) → totalOf (lastQty client name) ms ≡ 0) → Alone b i ms b
 still-alone b i ms q = record {
   count = refl;
   others = λ j n. refl;

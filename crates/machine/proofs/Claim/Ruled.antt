@@ -2,7 +2,7 @@
 use Prim.Native.Nat.{ℕ, _+_, _-_, _≤_, _<_}
 use native.Mathlib.Omega.{arith}
 use native.Mathlib.Decide.{decLt}
-use mathlib.Core.Path.{_≡_, refl, sym, ap, _∙_}
+use mathlib.Core.Path.{_≡_, refl}
 use mathlib.Core.Logic.{_⊎_, inl, inr}
 use mathlib.Core.Bool.{Bool, true, false, not, _&&_, _||_}
 use mathlib.Core.List.{List}
@@ -10,21 +10,18 @@ use lib.Dec.{eqb, leb, ltb}
 use lib.ListN.{length, getD}
 use borrow.Author.Tests.{ltb-true, leb-true, eqb-true, not-true}
 use Rattle.prelude.specs.Below.{allBelow, all-elim}
-use Rattle.prelude.specs.Cases.{if_then_else_, clash, both-true, either-true}
-use Rattle.prelude.specs.Texts.{sameText}
+use Rattle.prelude.specs.Cases.{clash, both-true, either-true}
+use Rattle.prelude.specs.Texts.{sameText, same-back}
 use Rattle.prelude.specs.declared.Text.{Text}
 use Rattle.store.specs.declared.Names.{Names}
-use Rattle.store.specs.declared.GatewayCancel.{GatewayCancel}
 use Rattle.store.specs.declared.Order.{Order}
 use Rattle.store.specs.declared.Request.{Request}
 use Rattle.store.specs.Book.{Book, orderIn, requestIn}
 use Rattle.store.specs.Requests.{noRequest}
-use Rattle.machine.specs.Codes.{mostTries}
 use Rattle.machine.specs.Orders.{isDone, hasGateway, hasPending}
 use Rattle.machine.specs.Changes.{isGateway, isAnswered}
 use Rattle.machine.specs.Ranges.{nameRange}
 use Rattle.machine.specs.Rules.{rules, linked, orderRule, requestRule, nameRule, namesApart, keyRule, namesRange, orderRange, requestRange, currentRule, cancelRule, pendingRule, amendmentsRule, filledRule, statusRule, doneRule, triesRule, numberRule, numberIn, nameNumber, inFlightRule}
-use Rattle.machine.proofs.Claim.Laws.{same-back}
 
 -- of a chain of tests that hold
 front : (a b : Bool) → a && b ≡ true → a ≡ true
@@ -131,18 +128,6 @@ done-none o e d = go (either-true (not (isDone (o .state .status))) _ e)
     go : (not (isDone (o .state .status)) ≡ true) ⊎ (not (hasPending o) && not (hasGateway o) ≡ true) → hasGateway o ≡ false
     go (inl h) = clash _ d (not-true _ h)
     go (inr h) = not-true _ (back (not (hasPending o)) (not (hasGateway o)) h)
-
-pub tries-unsent : (g : GatewayCancel) → triesRule g ≡ true → g .unsent ≡ true → g .tries ≤ 2
-unfolding triesRule if_then_else_
-tries-unsent g r u = leb-true (g .tries) 2 (sym (ap (λ (x : Bool). leb (g .tries) (if x then mostTries - 1 else mostTries)) u) ∙ r)
-
-pub tries-most : (g : GatewayCancel) → triesRule g ≡ true → g .tries ≤ 3
-unfolding triesRule if_then_else_
-tries-most g r = go (g .unsent) r
-  where
-    go : (u : Bool) → leb (g .tries) (if u then mostTries - 1 else mostTries) ≡ true → g .tries ≤ 3
-    go true e = let h : g .tries ≤ 2 = leb-true (g .tries) 2 e in omega arith
-    go false e = leb-true (g .tries) 3 e
 
 -- ---- a request
 

@@ -6,8 +6,8 @@ use mathlib.Core.Logic.{_⊎_, inl, inr}
 use mathlib.Core.Bool.{Bool, true, false, not, _&&_}
 use mathlib.Core.List.{List, [], _∷_, _++_}
 use lib.Dec.{eqb}
-use borrow.Author.Tests.{leb-false, lt-ltb, not-true, not-false}
-use Rattle.prelude.specs.Cases.{if_then_else_, split-if, clash, both-true, if-true}
+use borrow.Author.Tests.{leb-false, not-true, not-false}
+use Rattle.prelude.specs.Cases.{if_then_else_, split-if, clash, both-true}
 use Rattle.prelude.specs.declared.Text.{Text}
 use Rattle.prelude.specs.declared.Terms.{Terms}
 use Rattle.store.specs.declared.Order.{Order}
@@ -29,7 +29,8 @@ use Rattle.machine.specs.declared.Refusal.{Refusal}
 use Rattle.machine.specs.declared.Refused.{Refused}
 use Rattle.machine.specs.declared.Change.{Change}
 use Rattle.machine.proofs.Claim.Laws.{tells, tells-more, count-more}
-use Rattle.machine.proofs.Claim.Ruled.{tries-unsent}
+use Rattle.machine.proofs.Kept.Local.{one-more}
+use Rattle.machine.proofs.Kept.Keep.{tries-unsent}
 
 -- ---- messages
 
@@ -221,10 +222,6 @@ pub record Sent (f : Facts) (o : Order) (c : Change) : Type 0 where
   pub more : c .order .gateway .tries ≡ o .gateway .tries + 1
   pub out-now : c .order .gateway .unsent ≡ false
 
-one-more : (n : ℕ) → n ≤ 3 → oneMore 255 n ≡ n + 1
-unfolding oneMore
-one-more n h = if-true _ _ _ (lt-ltb n 255 (omega arith))
-
 send-out : (f : Facts) (o : Order) (c : Change) → Near o (c .order) → c .output .count ≤ 1 → cancelsIn (tells c) ≡ [] → Out f o (sendGatewayCancel f c)
 unfolding sendGatewayCancel adding telling nextRequest isAnswered
 send-out f o c n l s = record {
@@ -245,7 +242,7 @@ send-sent f o c d h r =
     let (a, t, u) = d .near .gate h in
     let (x, y, z) = send-fields f c in
     let l : c .order .gateway .tries ≤ 3 = omega arith in
-    record { out = send-out f o c (d .near) (d .within) (d .silent); by-gateway = x; from = a; room = r; more = y ∙ one-more _ l ∙ ap (λ (n : ℕ). n + 1) t; out-now = z }
+    record { out = send-out f o c (d .near) (d .within) (d .silent); by-gateway = x; from = a; room = r; more = y ∙ one-more 255 _ (omega arith) ∙ ap (λ (n : ℕ). n + 1) t; out-now = z }
 
 pub data Rests (f : Facts) (o : Order) (c : Change) : Type 0 where
   rests : Idle o c → Rests f o c
@@ -275,7 +272,7 @@ module _ (f : Facts) (o : Order) (rule : triesRule (o .gateway) ≡ true) where
       waits = unfold gatewayCancelWaiting in λ e. both-true _ _ (both-true (hasGateway (c .order) && c .order .gateway .unsent) _ e .0)
 
       go : Rests f o c → (hasGateway (c .order) ≡ true) × (c .order .gateway .unsent ≡ true) → Rests f o (sendGatewayCancel f c)
-      go (rests d) w = let (a, t, u) = d .near .gate (w .0) in sends (send-sent f o c d (w .0) (tries-unsent (o .gateway) rule (sym u ∙ w .1)))
+      go (rests d) w = let (a, t, u) = d .near .gate (w .0) in sends (send-sent f o c d (w .0) (tries-unsent (o .gateway) (sym u ∙ w .1) rule))
       go (sends d) w = clash _ (w .1) (d .out-now)
 
   refuse-rests : (k : ℕ) (q : Request) (venue : ℕ) (r : Refused) → Rests f o (refuseRequest f k q venue r o)
@@ -508,7 +505,7 @@ module _ (f : Facts) (o : Order) (rule : triesRule (o .gateway) ≡ true) where
 
   begun-once : sendGatewayCancel f (unchanged (f .place) (withGateway (begun o) o)) .order .gateway .tries ≡ 1
   unfolding unchanged begun
-  begun-once = send-fields f (unchanged (f .place) (withGateway (begun o) o)) .1 ∙ one-more 0 (omega arith)
+  begun-once = send-fields f (unchanged (f .place) (withGateway (begun o) o)) .1 ∙ one-more 255 0 (omega arith)
 
   pub cancelOrder-asked : Asked (cancelOrder f o)
   unfolding cancelOrder

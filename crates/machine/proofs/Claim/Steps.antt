@@ -10,8 +10,8 @@ use mathlib.Core.List.{[], _∷_}
 use lib.Dec.{eqb, leb, ltb}
 use lib.ListN.{length, set}
 use borrow.Author.Tests.{eqb-true, eq-eqb, ne-eqb, ltb-true, not-true}
-use Rattle.prelude.specs.Cases.{if_then_else_, maybe, clash, both-true, both-hold, both-false, either-true, if-true, if-false}
-use Rattle.prelude.specs.Texts.{sameText, same-self}
+use Rattle.prelude.specs.Cases.{if_then_else_, maybe, clash, both-true, both-hold, both-false, either-true, if-true, if-false, true-or-false}
+use Rattle.prelude.specs.Texts.{sameText, same-self, same-back, same-trans}
 use Rattle.prelude.specs.declared.Text.{Text}
 use Rattle.store.specs.declared.GatewayCancel.{GatewayCancel}
 use Rattle.store.specs.declared.Order.{Order}
@@ -28,16 +28,18 @@ use Rattle.machine.specs.History.{Decoded, readAs, Entry}
 use Rattle.machine.specs.Claim.{isEvent, starts, cancelsIn, answeredIn, fails}
 use Rattle.machine.specs.declared.Facts.{Facts}
 use Rattle.machine.specs.declared.Change.{Change}
-use Rattle.machine.proofs.Claim.Laws.{decide, same-back, same-trans, tells}
+use Rattle.machine.proofs.Claim.Laws.{tells}
 use Rattle.machine.proofs.Claim.Moves.{Moves}
-use Rattle.machine.proofs.Claim.Ruled.{Ruled, order-ruled, request-ruled, latest-cancel, tries-most}
-use Rattle.machine.proofs.Claim.Walk.{found-request, found-text, at-link}
+use Rattle.machine.proofs.Claim.Ruled.{Ruled, order-ruled, request-ruled, latest-cancel}
+use Rattle.machine.proofs.Claim.Walk.{found-request, found-text}
 use Rattle.machine.proofs.Claim.Filled.{orders-set, after-orders, at, beside}
 use Rattle.machine.proofs.Claim.Fresh.{fresh-text}
 use Rattle.machine.proofs.Claim.Records.{there-like, there-other, there-answered, find-stays, find-new, find-added, added-at}
 use Rattle.machine.proofs.Claim.Turn.{asksAt, beginsAt, answered-at, Own, Same, Goes, silent, repeated, fresh, newOf, Tried, begun, goes-on, fell, Turn}
 use Rattle.machine.proofs.Claim.Shapes.{Out, goes}
 use Rattle.machine.proofs.Numbered.{NumberedLaws}
+use Rattle.machine.proofs.Kept.Tables.{at-link}
+use Rattle.machine.proofs.Kept.Keep.{tries-at}
 
 -- the line of a change that is taken
 abbrev pub line : Book → Decoded → Change → Entry
@@ -137,7 +139,7 @@ flies f o q e n g a =
     both-hold _ _ (both-hold _ _ (ap not (ne-eqb (o .links .cancel) 0 n)) (ap not (ap isAnswered e ∙ a))) (ap isGateway e ∙ g)
 
 begins-answered : (b : Book) (r : Ruled b) (e : Event) (i : ℕ) → asksAt i b (readAs e) ≡ true → (d : Text) (w : Own i b d) → isAnswered (requestIn b (w .at)) ≡ true
-begins-answered b r e i h d w = go (decide (isAnswered (requestIn b (w .at))))
+begins-answered b r e i h d w = go (true-or-false (isAnswered (requestIn b (w .at))))
   where
     go : (isAnswered (requestIn b (w .at)) ≡ true) ⊎ (isAnswered (requestIn b (w .at)) ≡ false) → isAnswered (requestIn b (w .at)) ≡ true
     go (inl a) = a
@@ -208,7 +210,7 @@ module _ (laws : NumberedLaws) (b : Book) (r : Ruled b) (e : Event) (i : ℕ) (h
 
   -- a request that the event does not answer
   kept-fails : (j : ℕ) (d : Text) (w : Own j b d) → (eqb (e .kind) 7 ≡ true → c .requests .answered ≡ w .at + 1 → ⊥) → fails (line b (readAs e) c) d ≡ false
-  kept-fails j d w n = go (decide (eqb (e .kind) 7))
+  kept-fails j d w n = go (true-or-false (eqb (e .kind) 7))
     where
       go : (eqb (e .kind) 7 ≡ true) ⊎ (eqb (e .kind) 7 ≡ false) → fails (line b (readAs e) c) d ≡ false
       go (inl z) =
@@ -303,15 +305,15 @@ module _ (laws : NumberedLaws) (b : Book) (r : Ruled b) (e : Event) (i : ℕ) (h
                   (subst (λ (j : ℕ). sameText (requestIn b j .downstream) d′ ≡ true) (sym same) (found-text b d′ k′ v))
 
   pub few-tries : hasGateway (c .order) ≡ true → Shape b e i c → c .order .gateway .tries ≤ 3
-  few-tries hg (idle a q n g) = let (x, t, u) = g hg in omega (arith, tries-most (orderIn b i .gateway) (order-ruled b r i h .tries))
-  few-tries hg (repeats a z d k w k! q n o) = omega (arith, ap (λ (x : Order). x .gateway .tries) o, tries-most (orderIn b i .gateway) (order-ruled b r i h .tries))
+  few-tries hg (idle a q n g) = let (x, t, u) = g hg in omega (arith, tries-at (orderIn b i .gateway) (order-ruled b r i h .tries))
+  few-tries hg (repeats a z d k w k! q n o) = omega (arith, ap (λ (x : Order). x .gateway .tries) o, tries-at (orderIn b i .gateway) (order-ruled b r i h .tries))
   few-tries hg (client a z z₂ u g o) =
       let t : c .order .gateway .tries ≡ orderIn b i .gateway .tries = ap (λ (x : GatewayCancel). x .tries) o in
-      omega (arith, tries-most (orderIn b i .gateway) (order-ruled b r i h .tries))
+      omega (arith, tries-at (orderIn b i .gateway) (order-ruled b r i h .tries))
   few-tries hg (gateway z z₂ u g (inl x)) = omega (arith, x .1)
   few-tries hg (gateway z z₂ u g (inr x)) = omega (arith, x .2, x .3)
   few-tries hg (begins! a q n t) = omega arith
-  few-tries hg (fails! a z d k w oi g u x y q n hg′ t) = omega (arith, tries-most (orderIn b i .gateway) (order-ruled b r i h .tries))
+  few-tries hg (fails! a z d k w oi g u x y q n hg′ t) = omega (arith, tries-at (orderIn b i .gateway) (order-ruled b r i h .tries))
 
   -- a request that is added is the order's
   pub added-own : Shape b e i c → (c .requests .added ≡ 0) ⊎ (c .requests .request .order ≡ i)

@@ -11,8 +11,9 @@ use lib.Dec.{eqb}
 use lib.ListN.{length, length-append}
 use borrow.Author.Tests.{eqb-true, eq-eqb}
 use Rattle.prelude.specs.Below.{first-ext}
-use Rattle.prelude.specs.Cases.{if_then_else_, maybe, split-if, clash, both-true, both-hold, both-false, either-true, if-true, if-false, maybe-none, maybe-some}
-use Rattle.prelude.specs.Texts.{sameText, same-self}
+use Rattle.prelude.specs.Cases.{if_then_else_, maybe, split-if, clash, both-true, both-hold, both-false, either-true, if-true, if-false, maybe-none, maybe-some, true-or-false, none-some, same-some, or-both}
+use Rattle.prelude.specs.Texts.{sameText, same-self, same-back, same-trans, same-right, same-left}
+use Rattle.prelude.specs.Totals.{howMany, those, many-append, many-le}
 use Rattle.prelude.specs.declared.Text.{Text}
 use Rattle.store.specs.declared.Request.{Request}
 use Rattle.store.specs.Book.{Book, orderIn, requestIn}
@@ -21,8 +22,8 @@ use Rattle.machine.specs.Orders.{hasGateway}
 use Rattle.machine.specs.Changes.{isFirst, isReplace, isGateway, isCancel, isAnswered}
 use Rattle.store.specs.Finds.{findName, findDownstream}
 use Rattle.machine.specs.History.{Decoded, unread, readAs, Entry}
-use Rattle.machine.specs.Claim.{count, keep, holds, isEvent, starts, cancelsIn, once, sent, answeredIn, fails, failed}
-use Rattle.machine.proofs.Claim.Laws.{decide, none-some, same-some, or-left, or-right, or-both, count-append, count-le, same-back, same-trans, same-right, same-left}
+use Rattle.machine.specs.Claim.{holds, isEvent, starts, cancelsIn, once, sent, answeredIn, fails, failed}
+use Rattle.machine.proofs.Kept.Laws.{or-left, or-right}
 
 -- ---- the claim's words for the order at an index
 
@@ -37,7 +38,7 @@ unfoldable pub beginsAt : ℕ → Entry → Bool
 beginsAt j e = eqb (e .refusal) 0 && asksAt j (e .before) (e .input)
 
 unfoldable pub putOutByAt : ℕ → Entry → List Entry → List Text
-putOutByAt j e earlier = if isEvent 2 (e .input) then [] else keep (λ d. isForAt j (e .left) d && not (sent d earlier)) (once (cancelsIn (e .messages)))
+putOutByAt j e earlier = if isEvent 2 (e .input) then [] else those (λ d. isForAt j (e .left) d && not (sent d earlier)) (once (cancelsIn (e .messages)))
 
 abbrev pub putOutAt : ℕ → List Entry → List Text
 putOutAt j [] = []
@@ -54,7 +55,7 @@ holds-cong d d′ [] s = refl
 holds-cong d d′ (x ∷ l) s = rw (same-left d d′ x s, holds-cong d d′ l s)
 
 pub holds-self : (d d′ : Text) (l : List Text) → sameText d d′ ≡ true → holds d (d′ ∷ l) ≡ true
-holds-self d d′ l s = or-left (sameText d d′) (holds d l) s
+holds-self d d′ l s = or-left (holds d l) s
 
 pub holds-one : (d d′ : Text) → holds d (d′ ∷ []) ≡ true → sameText d d′ ≡ true
 holds-one d d′ h = go (either-true (sameText d d′) false h)
@@ -64,29 +65,29 @@ holds-one d d′ h = go (either-true (sameText d d′) false h)
     go (inr e) = clash false e refl
 
 -- two tests that agree on the list count the same
-count-same : (f g : Text → Bool) (l : List Text) → ((x : Text) → holds x l ≡ true → f x ≡ g x) → count f l ≡ count g l
-count-same f g [] h = refl
-count-same f g (d ∷ ds) h =
-    ap (λ (b : Bool). (if b then 1 else 0) + count f ds) (h d (holds-self d d ds (same-self d)))
-    ∙ ap (λ (c : ℕ). (if g d then 1 else 0) + c) (count-same f g ds (λ x m. h x (or-right (sameText x d) (holds x ds) m)))
+many-same : (f g : Text → Bool) (l : List Text) → ((x : Text) → holds x l ≡ true → f x ≡ g x) → howMany f l ≡ howMany g l
+many-same f g [] h = refl
+many-same f g (d ∷ ds) h =
+    ap (λ (b : Bool). (if b then 1 else 0) + howMany f ds) (h d (holds-self d d ds (same-self d)))
+    ∙ ap (λ (c : ℕ). (if g d then 1 else 0) + c) (many-same f g ds (λ x m. h x (or-right (sameText x d) m)))
 
 -- a test that passes one text more counts one more
-count-one : (f g : Text → Bool) (d : Text) (l : List Text) → Distinct l → holds d l ≡ true
-    → ((x : Text) → sameText d x ≡ true → (f x ≡ false) × (g x ≡ true)) → ((x : Text) → sameText d x ≡ false → f x ≡ g x) → count g l ≡ count f l + 1
+many-one : (f g : Text → Bool) (d : Text) (l : List Text) → Distinct l → holds d l ≡ true
+    → ((x : Text) → sameText d x ≡ true → (f x ≡ false) × (g x ≡ true)) → ((x : Text) → sameText d x ≡ false → f x ≡ g x) → howMany g l ≡ howMany f l + 1
 unfolding Distinct if_then_else_
-count-one f g d [] u h p r = clash false h refl
-count-one f g d (j ∷ js) u h p r = go (sameText d j) refl h (λ m. count-one f g d js (u .1) m p r)
+many-one f g d [] u h p r = clash false h refl
+many-one f g d (j ∷ js) u h p r = go (sameText d j) refl h (λ m. many-one f g d js (u .1) m p r)
   where
-    go : (b : Bool) → sameText d j ≡ b → b || holds d js ≡ true → (holds d js ≡ true → count g js ≡ count f js + 1)
-        → (if g j then 1 else 0) + count g js ≡ (if f j then 1 else 0) + count f js + 1
+    go : (b : Bool) → sameText d j ≡ b → b || holds d js ≡ true → (holds d js ≡ true → howMany g js ≡ howMany f js + 1)
+        → (if g j then 1 else 0) + howMany g js ≡ (if f j then 1 else 0) + howMany f js + 1
     go true e m ih =
-        let c : count f js ≡ count g js = count-same f g js (λ x w. r x (off x w (decide (sameText d x)))) in
+        let c : howMany f js ≡ howMany g js = many-same f g js (λ x w. r x (off x w (true-or-false (sameText d x)))) in
         rw (p j e .0, p j e .1) (omega (arith, c))
       where
         off : (x : Text) → holds x js ≡ true → (sameText d x ≡ true) ⊎ (sameText d x ≡ false) → sameText d x ≡ false
         off x w (inl s) = clash (holds x js) w (holds-cong x j js (same-trans x d j (same-back d x s) e) ∙ u .0)
         off x w (inr s) = s
-    go false e m ih = let c : count g js ≡ count f js + 1 = ih m in rw (r j e) (omega (arith, c))
+    go false e m ih = let c : howMany g js ≡ howMany f js + 1 = ih m in rw (r j e) (omega (arith, c))
 
 -- ---- a request's record by its ClOrdID
 
@@ -139,7 +140,7 @@ pub record At (j : ℕ) (b : Book) (past : List Entry) : Type 0 where
   pub one : Distinct (putOutAt j past)
   -- a gateway request that is not answered is counted
   pub unanswered : hasGateway (orderIn b j) ≡ true → (d : Text) (w : Own j b d) → isAnswered (requestIn b (w .at)) ≡ false → holds d (putOutAt j past) ≡ true
-  pub tries : hasGateway (orderIn b j) ≡ true → orderIn b j .gateway .tries + count (failed past) (putOutAt j past) ≡ length (putOutAt j past)
+  pub tries : hasGateway (orderIn b j) ≡ true → orderIn b j .gateway .tries + howMany (failed past) (putOutAt j past) ≡ length (putOutAt j past)
 
 -- ---- one call
 
@@ -200,21 +201,21 @@ once-none = refl
 module _ (e : Entry) (past : List Entry) (s : Base (e .before) past) where
   -- a request that has no record has not gone out, and has not failed
   unsent : (d : Text) → findDownstream (e .before) d ≡ none → sent d past ≡ false
-  unsent d h = go (decide (sent d past))
+  unsent d h = go (true-or-false (sent d past))
     where
       go : (sent d past ≡ true) ⊎ (sent d past ≡ false) → sent d past ≡ false
       go (inl w) = none-some h (s .sent-has d w .1)
       go (inr w) = w
 
   unfailed : (d : Text) → findDownstream (e .before) d ≡ none → failed past d ≡ false
-  unfailed d h = go (decide (failed past d))
+  unfailed d h = go (true-or-false (failed past d))
     where
       go : (failed past d ≡ true) ⊎ (failed past d ≡ false) → failed past d ≡ false
       go (inl w) = none-some h (s .fail-answered d w .1)
       go (inr w) = w
 
   unfailed-yet : (d : Text) (k : ℕ) → findDownstream (e .before) d ≡ some k → isAnswered (requestIn (e .before) k) ≡ false → failed past d ≡ false
-  unfailed-yet d k h a = go (decide (failed past d))
+  unfailed-yet d k h a = go (true-or-false (failed past d))
     where
       go : (failed past d ≡ true) ⊎ (failed past d ≡ false) → failed past d ≡ false
       go (inl w) = let (k′, x, y) = s .fail-answered d w in clash _ (ap (λ (n : ℕ). isAnswered (requestIn (e .before) n)) (same-some h x) ∙ y) a
@@ -229,11 +230,11 @@ module _ (e : Entry) (past : List Entry) (s : Base (e .before) past) where
   unfolding putOutByAt newOf if_then_else_
   news (silent m n) j =
       split-if (λ (l : List Text). l ≡ []) (isEvent 2 (e .input)) (λ c. refl)
-      (λ c. ap (λ (l : List Text). keep (λ d. isForAt j (e .left) d && not (sent d past)) (once l)) m ∙ ap (keep (λ d. isForAt j (e .left) d && not (sent d past))) once-none)
+      (λ c. ap (λ (l : List Text). those (λ d. isForAt j (e .left) d && not (sent d past)) (once l)) m ∙ ap (those (λ d. isForAt j (e .left) d && not (sent d past))) once-none)
   news (repeated d k m w c n) j =
       split-if (λ (l : List Text). l ≡ []) (isEvent 2 (e .input)) (λ c. refl)
-      (λ c′. ap (λ (l : List Text). keep (λ d. isForAt j (e .left) d && not (sent d past)) (once l)) m
-      ∙ ap (keep (λ d. isForAt j (e .left) d && not (sent d past))) (once-one d)
+      (λ c′. ap (λ (l : List Text). those (λ d. isForAt j (e .left) d && not (sent d past)) (once l)) m
+      ∙ ap (those (λ d. isForAt j (e .left) d && not (sent d past))) (once-one d)
       ∙ if-false _ (d ∷ []) [] (ap (λ (x : Bool). isForAt j (e .left) d && not x) (s .cancel-sent d k w c) ∙ both-false (isForAt j (e .left) d)))
   news (fresh d k m w v g a n) j = go (isEvent 2 (e .input))
     where
@@ -244,11 +245,11 @@ module _ (e : Entry) (past : List Entry) (s : Base (e .before) past) where
           and-true true = refl
           and-true false = refl
 
-      go : (x : Bool) → (if x then [] else keep (λ d. isForAt j (e .left) d && not (sent d past)) (once (cancelsIn (e .messages)))) ≡ (if not x && eqb (requestIn (e .left) k .order) j then d ∷ [] else [])
+      go : (x : Bool) → (if x then [] else those (λ d. isForAt j (e .left) d && not (sent d past)) (once (cancelsIn (e .messages)))) ≡ (if not x && eqb (requestIn (e .left) k .order) j then d ∷ [] else [])
       go true = refl
       go false =
-          ap (λ (l : List Text). keep (λ d. isForAt j (e .left) d && not (sent d past)) (once l)) m
-          ∙ ap (keep (λ d. isForAt j (e .left) d && not (sent d past))) (once-one d)
+          ap (λ (l : List Text). those (λ d. isForAt j (e .left) d && not (sent d past)) (once l)) m
+          ∙ ap (those (λ d. isForAt j (e .left) d && not (sent d past))) (once-one d)
           ∙ held
 
   module _ (t : Turn e) where
@@ -284,8 +285,8 @@ module _ (e : Entry) (past : List Entry) (s : Base (e .before) past) where
 
         was : (d : Text) (k : ℕ) → findDownstream (e .left) d ≡ some k → isCancel (requestIn (e .left) k) ≡ true
             → (findDownstream (e .before) d ≡ some k) ⊎ (findDownstream (e .before) d ≡ none) → sent d (e ∷ past) ≡ true
-        was d k h c (inl w) = or-right (holds d (cancelsIn (e .messages))) (sent d past) (s .cancel-sent d k w (sym (cancel-same _ _ (t .grows d k w .1)) ∙ c))
-        was d k h c (inr w) = or-left (holds d (cancelsIn (e .messages))) (sent d past) (new-cancel (t .goes) d k h w c)
+        was d k h c (inl w) = or-right (holds d (cancelsIn (e .messages))) (s .cancel-sent d k w (sym (cancel-same _ _ (t .grows d k w .1)) ∙ c))
+        was d k h c (inr w) = or-left (sent d past) (new-cancel (t .goes) d k h w c)
 
         answered : (d : Text) → (fails e d ≡ true) ⊎ (failed past d ≡ true) → (k : ℕ) × (findDownstream (e .left) d ≡ some k) × (isAnswered (requestIn (e .left) k) ≡ true)
         answered d (inl p) = answered-some (e .left) d (both-true (not (answeredIn (e .before) d)) (answeredIn (e .left) d) (both-true (isEvent 7 (e .input)) _ p .1) .1)
@@ -328,7 +329,7 @@ module _ (e : Entry) (past : List Entry) (s : Base (e .before) past) where
       distinct-new (fresh d₀ k m w v g a n) l u f = split-if (λ (x : List Text). Distinct (x ++ l)) _ (λ z. (f d₀ w, u)) (λ z. u)
 
       unheld : (d : Text) → findDownstream (e .before) d ≡ none → holds d (putOutAt j past) ≡ false
-      unheld d w = go (decide (holds d (putOutAt j past)))
+      unheld d w = go (true-or-false (holds d (putOutAt j past)))
         where
           go : (holds d (putOutAt j past) ≡ true) ⊎ (holds d (putOutAt j past) ≡ false) → holds d (putOutAt j past) ≡ false
           go (inl h) = none-some w (a .own d h .found)
@@ -336,15 +337,15 @@ module _ (e : Entry) (past : List Entry) (s : Base (e .before) past) where
 
       still-held : (l m : List Text) (d : Text) → holds d m ≡ true → holds d (l ++ m) ≡ true
       still-held [] m d h = h
-      still-held (x ∷ l) m d h = or-right (sameText d x) (holds d (l ++ m)) (still-held l m d h)
+      still-held (x ∷ l) m d h = or-right (sameText d x) (still-held l m d h)
 
       new-held : (l m : List Text) (d : Text) → holds d l ≡ true → holds d (l ++ m) ≡ true
       new-held [] m d h = clash false h refl
       new-held (x ∷ l) m d h = go (either-true (sameText d x) (holds d l) h) (new-held l m d)
         where
           go : (sameText d x ≡ true) ⊎ (holds d l ≡ true) → (holds d l ≡ true → holds d (l ++ m) ≡ true) → holds d (x ∷ (l ++ m)) ≡ true
-          go (inl p) r = or-left (sameText d x) (holds d (l ++ m)) p
-          go (inr p) r = or-right (sameText d x) (holds d (l ++ m)) (r p)
+          go (inl p) r = or-left (holds d (l ++ m)) p
+          go (inr p) r = or-right (sameText d x) (r p)
 
       -- a new gateway request is put out
       new-put : (g : Goes e) (d : Text) (w : Own j (e .left) d) → findDownstream (e .before) d ≡ none → holds d (newOf g j) ≡ true
@@ -371,7 +372,7 @@ module _ (e : Entry) (past : List Entry) (s : Base (e .before) past) where
           go (inl h) =
               let m = t .grows d (w .at) h .1 in
               old (record { at = w .at; found = h; by-gateway = sym (gateway-same _ _ m) ∙ w .by-gateway; of-order = sym (m .order) ∙ w .of-order })
-              (before (decide (isAnswered (requestIn (e .before) (w .at)))) (m .answered)) (t .tried j hg)
+              (before (true-or-false (isAnswered (requestIn (e .before) (w .at)))) (m .answered)) (t .tried j hg)
             where
               before : (isAnswered (requestIn (e .before) (w .at)) ≡ true) ⊎ (isAnswered (requestIn (e .before) (w .at)) ≡ false)
                   → (isAnswered (requestIn (e .before) (w .at)) ≡ true → isAnswered (requestIn (e .left) (w .at)) ≡ true) → isAnswered (requestIn (e .before) (w .at)) ≡ false
@@ -382,12 +383,12 @@ module _ (e : Entry) (past : List Entry) (s : Base (e .before) past) where
               ∙ new-held (newOf (t .goes) j) (if beginsAt j e then [] else putOutAt j past) d (new-put (t .goes) d w h)
 
       -- a request put out now has not failed
-      new-failed : (g : Goes e) → count (failed (e ∷ past)) (newOf g j) ≡ 0
+      new-failed : (g : Goes e) → howMany (failed (e ∷ past)) (newOf g j) ≡ 0
       unfolding newOf
       new-failed (silent m n) = refl
       new-failed (repeated d k m w c n) = refl
       new-failed (fresh d k m w v g u n) =
-          split-if (λ (l : List Text). count (failed (e ∷ past)) l ≡ 0) _ (λ z. ap (λ (x : ℕ). x + 0) (if-false (failed (e ∷ past) d) 1 0 (or-both _ _ no! (unfailed d w)))) (λ z. refl)
+          split-if (λ (l : List Text). howMany (failed (e ∷ past)) l ≡ 0) _ (λ z. ap (λ (x : ℕ). x + 0) (if-false (failed (e ∷ past) d) 1 0 (or-both _ _ no! (unfailed d w)))) (λ z. refl)
         where
           no! : fails e d ≡ false
           no! =
@@ -396,35 +397,35 @@ module _ (e : Entry) (past : List Entry) (s : Base (e .before) past) where
               ∙ both-false (isEvent 7 (e .input))
 
       tries-kept : hasGateway (orderIn (e .left) j) ≡ true
-          → orderIn (e .left) j .gateway .tries + count (failed (e ∷ past)) (putOutAt j (e ∷ past)) ≡ length (putOutAt j (e ∷ past))
+          → orderIn (e .left) j .gateway .tries + howMany (failed (e ∷ past)) (putOutAt j (e ∷ past)) ≡ length (putOutAt j (e ∷ past))
       tries-kept hg = go (t .tried j hg)
         where
-          go : Tried j e (newOf (t .goes) j) → orderIn (e .left) j .gateway .tries + count (failed (e ∷ past)) (putOutAt j (e ∷ past)) ≡ length (putOutAt j (e ∷ past))
+          go : Tried j e (newOf (t .goes) j) → orderIn (e .left) j .gateway .tries + howMany (failed (e ∷ past)) (putOutAt j (e ∷ past)) ≡ length (putOutAt j (e ∷ past))
           go (begun b all m) =
-              subst (λ (l : List Text). orderIn (e .left) j .gateway .tries + count (failed (e ∷ past)) l ≡ length l) (sym (recounted b ∙ append-nil (newOf (t .goes) j)))
+              subst (λ (l : List Text). orderIn (e .left) j .gateway .tries + howMany (failed (e ∷ past)) l ≡ length l) (sym (recounted b ∙ append-nil (newOf (t .goes) j)))
               (omega (arith, m, new-failed (t .goes)))
           go (goes-on b g f m) =
-              let c : count (failed past) (putOutAt j past) ≡ count (failed (e ∷ past)) (putOutAt j past) =
-              count-same _ _ (putOutAt j past) (λ d h. sym (ap (λ (x : Bool). x || failed past d) (f d (a .own d h)))) in
-              subst (λ (l : List Text). orderIn (e .left) j .gateway .tries + count (failed (e ∷ past)) l ≡ length l) (sym (counted b))
-              (rw (count-append, length-append) (omega (arith, m, new-failed (t .goes), c, a .tries g)))
+              let c : howMany (failed past) (putOutAt j past) ≡ howMany (failed (e ∷ past)) (putOutAt j past) =
+              many-same _ _ (putOutAt j past) (λ d h. sym (ap (λ (x : Bool). x || failed past d) (f d (a .own d h)))) in
+              subst (λ (l : List Text). orderIn (e .left) j .gateway .tries + howMany (failed (e ∷ past)) l ≡ length l) (sym (counted b))
+              (rw (many-append, length-append) (omega (arith, m, new-failed (t .goes), c, a .tries g)))
           go (fell b g l d w u f fs m) =
-              let c : count (failed (e ∷ past)) (putOutAt j past) ≡ count (failed past) (putOutAt j past) + 1 =
-              count-one (failed past) (failed (e ∷ past)) d (putOutAt j past) (a .one) (a .unanswered g d w u)
-              (λ x q. (unfailed-yet x (w .at) (sym (find-cong (e .before) d x q) ∙ w .found) u, or-left (fails e x) (failed past x) (sym (fails-cong e d x q) ∙ f)))
+              let c : howMany (failed (e ∷ past)) (putOutAt j past) ≡ howMany (failed past) (putOutAt j past) + 1 =
+              many-one (failed past) (failed (e ∷ past)) d (putOutAt j past) (a .one) (a .unanswered g d w u)
+              (λ x q. (unfailed-yet x (w .at) (sym (find-cong (e .before) d x q) ∙ w .found) u, or-left (failed past x) (sym (fails-cong e d x q) ∙ f)))
               (λ x q. sym (ap (λ (y : Bool). y || failed past x) (fs x q))) in
-              subst (λ (l : List Text). orderIn (e .left) j .gateway .tries + count (failed (e ∷ past)) l ≡ length l) (sym (counted b ∙ ap (λ (l : List Text). l ++ putOutAt j past) l))
-              (omega (arith, m, c, a .tries g, count-le (failed (e ∷ past)) (putOutAt j past)))
+              subst (λ (l : List Text). orderIn (e .left) j .gateway .tries + howMany (failed (e ∷ past)) l ≡ length l) (sym (counted b ∙ ap (λ (l : List Text). l ++ putOutAt j past) l))
+              (omega (arith, m, c, a .tries g, many-le (failed (e ∷ past)) (putOutAt j past)))
 
       own-kept : (d : Text) → holds d (putOutAt j (e ∷ past)) ≡ true → Own j (e .left) d
-      own-kept d h = go (decide (beginsAt j e))
+      own-kept d h = go (true-or-false (beginsAt j e))
         where
           go : (beginsAt j e ≡ true) ⊎ (beginsAt j e ≡ false) → Own j (e .left) d
           go (inl b) = own-new (t .goes) [] (λ x z. clash false z refl) d (ap (holds d) (sym (recounted b)) ∙ h)
           go (inr b) = own-new (t .goes) (putOutAt j past) (λ x z. older x (a .own x z)) d (ap (holds d) (sym (counted b)) ∙ h)
 
       one-kept : Distinct (putOutAt j (e ∷ past))
-      one-kept = go (decide (beginsAt j e))
+      one-kept = go (true-or-false (beginsAt j e))
         where
           go : (beginsAt j e ≡ true) ⊎ (beginsAt j e ≡ false) → Distinct (putOutAt j (e ∷ past))
           go (inl b) = subst Distinct (sym (recounted b)) (distinct-new (t .goes) [] (unfold Distinct in tt) (λ d w. refl))

@@ -9,15 +9,15 @@ use mathlib.Core.Option.{Option, none, some}
 use mathlib.Core.List.{[]}
 use lib.Dec.{eqb, leb}
 use lib.ListN.{length}
-use borrow.Author.Tests.{eqb-true, eqb-false, eq-eqb, ne-eqb, not-true, not-false}
+use borrow.Author.Tests.{eqb-true, eqb-false, eq-eqb, not-true, not-false}
 use Rattle.prelude.specs.Below.{first-some}
-use Rattle.prelude.specs.Cases.{if_then_else_, maybe, split-if, split-maybe, clash, both-true, if-false}
+use Rattle.prelude.specs.Cases.{if_then_else_, maybe, split-if, split-maybe, clash, both-true}
 use Rattle.prelude.specs.Texts.{sameText}
+use Rattle.prelude.specs.Totals.{totalOf}
 use Rattle.prelude.specs.declared.Text.{Text}
 use Rattle.store.specs.declared.Order.{Order}
 use Rattle.store.specs.declared.Request.{Request}
 use Rattle.store.specs.Book.{Book, orderIn, requestIn}
-use Rattle.store.specs.Orders.{noOrder}
 use Rattle.machine.specs.Codes.{unknown}
 use Rattle.machine.specs.Messages.{cancelReject}
 use Rattle.machine.specs.Changes.{Event, unchanged, refusing, adding, telling, alarming}
@@ -27,12 +27,13 @@ use Rattle.machine.specs.Report.{unknownAtVenue}
 use Rattle.store.specs.Finds.{findName, findDownstream, findClordid, countClordids}
 use Rattle.machine.specs.Machine.{orderLink, orderOf, orderAtLink, factsOf, bookedOrder, firstRequest, unused, bookOrder, Amending, amending, onRequest, nothing, unknownReport, textNote, onReport, onName, changeOf, hasRoom, stepOf}
 use Rattle.machine.specs.History.{spoken}
-use Rattle.machine.specs.Claim.{sum, lastQty, cancelsIn}
+use Rattle.machine.specs.Claim.{lastQty, cancelsIn}
 use Rattle.machine.specs.declared.Facts.{Facts}
 use Rattle.machine.specs.declared.Refusal.{Refusal}
 use Rattle.machine.specs.declared.Change.{Change}
 use Rattle.machine.proofs.Claim.Laws.{tells}
 use Rattle.machine.proofs.Claim.Ruled.{Ruled, request-ruled}
+use Rattle.machine.proofs.Kept.Tables.{at-link}
 
 -- a change of nothing, whose answer has neither report nor cancel request
 pub record Bystands (c : Change) : Type 0 where
@@ -41,7 +42,7 @@ pub record Bystands (c : Change) : Type 0 where
   pub answers : c .requests .answered ≡ 0
   pub supersedes : c .requests .superseded ≡ 0
   pub adds : c .requests .added ≡ 0
-  pub no-report : (client : ℕ) (name : Text) → sum (lastQty client name) (tells c) ≡ 0
+  pub no-report : (client : ℕ) (name : Text) → totalOf (lastQty client name) (tells c) ≡ 0
   pub no-cancel : cancelsIn (tells c) ≡ []
 
 -- the change that books an order
@@ -79,11 +80,6 @@ found-name b t i h = first-some _ _ i h .passes
 found-clordid : (b : Book) (client : ℕ) (t : Text) (k : ℕ) → findClordid b client t ≡ some k → k < length (b .requests)
 unfolding findClordid
 found-clordid b client t k h = first-some _ _ k h .below
-
-pub at-link : (b : Book) (i : ℕ) → orderAtLink b (i + 1) ≡ orderIn b i
-unfolding orderAtLink
-at-link b i =
-    if-false _ noOrder _ (ne-eqb (i + 1) 0 (λ z. omega arith)) ∙ (let z : i + 1 - 1 ≡ i = omega arith in ap (λ (j : ℕ). orderIn b j) z)
 
 -- ---- a cancel or replace of no order
 

@@ -12,8 +12,9 @@ use lib.Dec.{eqb}
 use lib.ListN.{length, set, List·getD-eq-default}
 use borrow.Author.Tests.{eqb-true, eq-eqb}
 use Rattle.prelude.specs.Below.{firstBelow, first-elim}
-use Rattle.prelude.specs.Cases.{if_then_else_, maybe, split-if, clash, both-false, if-true, maybe-none, test-same}
-use Rattle.prelude.specs.Texts.{sameText, same-self}
+use Rattle.prelude.specs.Cases.{if_then_else_, maybe, split-if, clash, both-false, if-true, maybe-none, test-same, true-or-false, none-some}
+use Rattle.prelude.specs.Texts.{sameText, same-self, same-back}
+use Rattle.prelude.specs.Totals.{howMany, those, Every, every[], every∷, every-map}
 use Rattle.prelude.specs.declared.Text.{Text}
 use Rattle.store.specs.declared.Order.{Order}
 use Rattle.store.specs.declared.Request.{Request}
@@ -25,9 +26,9 @@ use Rattle.store.specs.Finds.{bearsName, findName, findDownstream}
 use Rattle.machine.specs.Machine.{bookedOrder, firstRequest, answerLink, requestsAfter, after, hasRoom, stepOf}
 use Rattle.machine.specs.Rules.{rules}
 use Rattle.machine.specs.History.{Decoded, unread, readAs, comesTo, Entry, lineOf, State, start, next, run, Kinds}
-use Rattle.machine.specs.Claim.{count, keep, All, all[], all∷, isEvent, starts, asks, begins, cancelsIn, once, sent, isFor, putOutBy, putOut, answeredIn, fails, failed, Demand}
+use Rattle.machine.specs.Claim.{isEvent, starts, asks, begins, cancelsIn, once, sent, isFor, putOutBy, putOut, answeredIn, fails, failed, Demand}
 use Rattle.machine.specs.declared.Change.{Change}
-use Rattle.machine.proofs.Claim.Laws.{decide, none-some, map-all, same-back, tells}
+use Rattle.machine.proofs.Claim.Laws.{tells}
 use Rattle.machine.proofs.Claim.Moves.{Moves}
 use Rattle.machine.proofs.Claim.Ruled.{Ruled, ruled, request-ruled}
 use Rattle.machine.proofs.Claim.Walk.{Bystands, booking, Did, Roomy, turned-away, no-order, on-order, new-order, found-request, found-order, not-kind, step-walk, refusing-bystands, refusing-away}
@@ -258,7 +259,7 @@ module _ (laws : NumberedLaws) (b : Book) where
   did-round r e l h c (new-order k u) = booked-round b r e k u
 
   unread-round : (n m : ℕ) → Round (lineOf b (unread n) (refusing m))
-  unread-round n m = go (decide (eqb m 0))
+  unread-round n m = go (true-or-false (eqb m 0))
     where
       go : (eqb m 0 ≡ true) ⊎ (eqb m 0 ≡ false) → Round (lineOf b (unread n) (refusing m))
       go (inl z) = subst (λ (x : ℕ). Round (lineOf b (unread n) (refusing x))) (sym (eqb-true m 0 z)) (bystands-round b (unread n) (refusing 0) refusing-bystands (λ j. refl))
@@ -287,7 +288,7 @@ pub record Second (s : State) : Type 0 where
   pub few : Few (s .book)
   pub placed : Placed (s .book)
   pub apart : Apart (s .book)
-  pub known : All (Known (s .book)) (s .past)
+  pub known : Every (Known (s .book)) (s .past)
 
 start-second : (setting : ℕ) → Second (start setting)
 unfolding findDownstream firstBelow Distinct hasGateway
@@ -302,7 +303,7 @@ start-second setting = record {
   few = λ j h. clash false h refl;
   placed = λ k h. absurd (not-suc-le-zero h);
   apart = λ i j h. absurd (not-suc-le-zero h);
-  known = all[];
+  known = every[];
 }
 
 module _ (laws : NumberedLaws) where
@@ -317,8 +318,8 @@ module _ (laws : NumberedLaws) where
         few = r .few (a .few);
         placed = r .placed (a .placed);
         apart = r .apart (a .apart);
-        known = all∷ (record { before = p; left = persists-same (e .left); placed = r .placed (a .placed) })
-            (map-all (λ x y. record { before = persists-trans _ _ _ (y .before) p; left = persists-trans _ _ _ (y .left) p; placed = y .placed }) (a .known));
+        known = every∷ (record { before = p; left = persists-same (e .left); placed = r .placed (a .placed) })
+            (every-map (λ x y. record { before = persists-trans _ _ _ (y .before) p; left = persists-trans _ _ _ (y .left) p; placed = y .placed }) (a .known));
       }
 
   module _ {In : Type 0} (read : In → Decoded) (kinds : Kinds read) where
@@ -328,10 +329,10 @@ module _ (laws : NumberedLaws) where
 
 -- ---- from the index to the name
 
-keep-same : (f g : Text → Bool) (l : List Text) → ((d : Text) → f d ≡ g d) → keep f l ≡ keep g l
-keep-same f g [] h = refl
-keep-same f g (d ∷ l) h =
-    ap (λ (x : Bool). if x then d ∷ keep f l else keep f l) (h d) ∙ ap (λ (x : List Text). if g d then d ∷ x else x) (keep-same f g l h)
+those-same : (f g : Text → Bool) (l : List Text) → ((d : Text) → f d ≡ g d) → those f l ≡ those g l
+those-same f g [] h = refl
+those-same f g (d ∷ l) h =
+    ap (λ (x : Bool). if x then d ∷ those f l else those f l) (h d) ∙ ap (λ (x : List Text). if g d then d ∷ x else x) (those-same f g l h)
 
 module _ (b : Book) (a : Apart b) (j : ℕ) (h : j < length (b .orders)) where
   -- an earlier book's order has the name just where it is the same order
@@ -360,9 +361,9 @@ module _ (b : Book) (a : Apart b) (j : ℕ) (h : j < length (b .orders)) where
       go none w = refl
       go (some i) w = ap (λ (y : Bool). y && starts c i) (same-order c p i (found-order c (e .ids .name) i w))
 
-  put-same : (past : List Entry) → All (Known b) past → putOut (orderIn b j .names .name) past ≡ putOutAt j past
-  put-same [] all[] = refl
-  put-same (e ∷ past) (all∷ k ks) =
+  put-same : (past : List Entry) → Every (Known b) past → putOut (orderIn b j .names .name) past ≡ putOutAt j past
+  put-same [] every[] = refl
+  put-same (e ∷ past) (every∷ k ks) =
       ap (λ (l : List Text). l ++ (if begins (orderIn b j .names .name) e then [] else putOut (orderIn b j .names .name) past)) (by-same e past k)
       ∙ ap (λ (x : Bool). putOutByAt j e past ++ (if x then [] else putOut (orderIn b j .names .name) past)) (begins-same e k)
       ∙ ap (λ (l : List Text). putOutByAt j e past ++ (if beginsAt j e then [] else l)) (put-same past ks)
@@ -370,7 +371,7 @@ module _ (b : Book) (a : Apart b) (j : ℕ) (h : j < length (b .orders)) where
       by-same : (e : Entry) (past : List Entry) → Known b e → putOutBy (orderIn b j .names .name) e past ≡ putOutByAt j e past
       by-same e past k = unfold putOutBy putOutByAt in
           ap (λ (l : List Text). if isEvent 2 (e .input) then [] else l)
-          (keep-same _ _ (once (cancelsIn (e .messages))) (λ d. ap (λ (x : Bool). x && not (sent d past)) (for-same e k d)))
+          (those-same _ _ (once (cancelsIn (e .messages))) (λ d. ap (λ (x : Bool). x && not (sent d past)) (for-same e k d)))
 
       begins-same : (e : Entry) → Known b e → begins (orderIn b j .names .name) e ≡ beginsAt j e
       begins-same e k = unfold beginsAt in ap (λ (x : Bool). eqb (e .refusal) 0 && x) (asks-same (e .before) (k .before) (e .input))
@@ -387,7 +388,7 @@ demand In read kinds setting is =
       ordered = f .ordered;
       done = f .done;
       tries = λ j h g.
-          subst (λ (l : List Text). orderIn (s .book) j .gateway .tries + count (failed (s .past)) l ≡ length l)
+          subst (λ (l : List Text). orderIn (s .book) j .gateway .tries + howMany (failed (s .past)) l ≡ length l)
           (sym (put-same (s .book) (a .apart) j h (s .past) (a .known))) (a .orders j .tries g);
       few = λ j h g. a .few j g;
     }

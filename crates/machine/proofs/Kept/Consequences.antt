@@ -13,7 +13,7 @@ use lib.ListN.{length}
 use borrow.Author.Tests.{eqb-true, eqb-false, eq-eqb, ne-eqb, ltb-true}
 use Rattle.prelude.specs.Below.{firstBelow, first-none, first-more, first-hit, countBelow, count-le}
 use Rattle.prelude.specs.Cases.{if_then_else_, split-if, both-true, clash}
-use Rattle.prelude.specs.Texts.{sameText, same-self}
+use Rattle.prelude.specs.Texts.{sameText, same-self, same-back, same-trans}
 use Rattle.prelude.specs.declared.Text.{Text}
 use Rattle.store.specs.Book.{Book, orderIn, requestIn}
 use Rattle.text.specs.Numbered.{numberedText}
@@ -22,7 +22,7 @@ use Rattle.machine.specs.Changes.{isFirst, isGateway, isAnswered}
 use Rattle.store.specs.Finds.{bearsName, bearsDownstream, findName, findDownstream}
 use Rattle.machine.specs.Ranges.{nameRange}
 use Rattle.machine.specs.Rules.{ofOrder, numberIn, nameNumber, numberRule}
-use Rattle.machine.proofs.Kept.Laws.{or-else, is-not, untrue, same-flip, same-chain}
+use Rattle.machine.proofs.Kept.Laws.{or-else, is-not, untrue}
 use Rattle.machine.proofs.Kept.Local.{InFlight, in-flight, names-kept}
 use Rattle.machine.proofs.Kept.Lift.{BookKept}
 use Rattle.machine.proofs.Numbered.{NumberedLaws}
@@ -67,7 +67,7 @@ module _ (b : Book) (good : BookKept b) where
     where
       go : Dec (j < i) → sameText (orderIn b i .names .name) (orderIn b j .names .name) ≡ false
       go (yes z) = good .names i j h z
-      go (no z) = untrue _ (λ s. clash _ (same-flip (orderIn b i .names .name) (orderIn b j .names .name) s) (good .names j i l (let e : i ≡ j → ⊥ = d in omega arith)))
+      go (no z) = untrue _ (λ s. clash _ (same-back (orderIn b i .names .name) (orderIn b j .names .name) s) (good .names j i l (let e : i ≡ j → ⊥ = d in omega arith)))
 
   pub found-name : (i : ℕ) → i < length (b .orders) → findName b (orderIn b i .names .name) ≡ some i
   unfolding findName
@@ -104,7 +104,7 @@ module _ (b : Book) (good : BookKept b) where
         split-if (λ (s : Text). sameText s (nameNumber c n) ≡ true → (sameText a c ≡ true) × (m ≡ n)) (eqb m 0)
         (λ zm. split-if (λ (t : Text). sameText a t ≡ true → (sameText a c ≡ true) × (m ≡ n)) (eqb n 0)
         (λ zn s. (s, eqb-true m 0 zm ∙ sym (eqb-true n 0 zn)))
-        (λ zn s. clash _ (same-flip a (numberedText c n) s) (laws .dashed c a n q p (omega (arith, eqb-false n 0 zn)) v)))
+        (λ zn s. clash _ (same-back a (numberedText c n) s) (laws .dashed c a n q p (omega (arith, eqb-false n 0 zn)) v)))
         (λ zm. split-if (λ (t : Text). sameText (numberedText a m) t ≡ true → (sameText a c ≡ true) × (m ≡ n)) (eqb n 0)
         (λ zn s. clash _ s (laws .dashed a c m p q (omega (arith, eqb-false m 0 zm)) u))
         (λ zn s. laws .apart a c m n p q (omega (arith, eqb-false m 0 zm)) u (omega (arith, eqb-false n 0 zn)) v s))
@@ -132,7 +132,7 @@ module _ (b : Book) (good : BookKept b) where
             let p : Text = nameNumber (orderIn b (requestIn b i .order) .names .name) (numberIn (b .requests) i) in
             let q : Text = nameNumber (orderIn b (requestIn b j .order) .names .name) (numberIn (b .requests) j) in
             let t : sameText p q ≡ true =
-            same-chain p (requestIn b i .downstream) q (same-flip (requestIn b i .downstream) p (downstream-at i h)) (same-chain (requestIn b i .downstream) (requestIn b j .downstream) q s (downstream-at j l)) in
+            same-trans p (requestIn b i .downstream) q (same-back (requestIn b i .downstream) p (downstream-at i h)) (same-trans (requestIn b i .downstream) (requestIn b j .downstream) q s (downstream-at j l)) in
             let (n, e) = same-number _ _ (numberIn (b .requests) i) (numberIn (b .requests) j) (name-at (requestIn b i .order) (good .request i h .order)) (name-at (requestIn b j .order) (good .request j l .order))
             (number-below i h) (number-below j l) t in
             one (same n (ℕ-discrete (requestIn b i .order) (requestIn b j .order))) e (decLt i j)

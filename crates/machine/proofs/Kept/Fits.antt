@@ -5,10 +5,11 @@ use mathlib.Core.Path.{_≡_, refl}
 use mathlib.Core.Bool.{Bool, true, false}
 use mathlib.Core.List.{List, [], _∷_, _++_}
 use lib.Dec.{eqb}
-use lib.ListN.{length, getD, replicate, set}
+use lib.ListN.{length, getD, set}
 use borrow.Author.Tests.{eqb-true, eqb-false, ltb-true}
 use Rattle.prelude.specs.Cases.{if_then_else_, split-if, split-maybe}
 use Rattle.prelude.specs.Texts.{WholeText}
+use Rattle.prelude.specs.Bytes.{bytes-zeros}
 use Rattle.prelude.specs.declared.Text.{Text}
 use Rattle.store.specs.declared.Names.{Names}
 use Rattle.store.specs.declared.Pending.{Pending}
@@ -61,13 +62,8 @@ pub record ChangeFits (c : Change) : Type 0 where
 
 -- ---- nothing fits
 
-pub zeros-small : (n k : ℕ) → getD (replicate n 0) k 0 < 256
-zeros-small zero k = omega arith
-zeros-small (suc n) zero = omega arith
-zeros-small (suc n) (suc k) = zeros-small n k
-
 pub no-text-whole : WholeText noText
-no-text-whole = record { long = refl; len = omega arith; bytes = zeros-small 32 }
+no-text-whole = record { long = refl; len = omega arith; bytes = bytes-zeros 32 }
 
 no-order-fits : OrderFits noOrder
 no-order-fits = record {

@@ -364,7 +364,7 @@ unfolding setStatus
 set-free s k p h = split-if (λ (x : Pending). k ≡ x .request → k ≡ 0) _ (λ d z. z) (λ d z. h z)
 
 -- the status of an order that is no longer pending
-freed-coded : (t : Bool) → isStatus (if t then partiallyFilled else new) ≡ true
+pub freed-coded : (t : Bool) → isStatus (if t then partiallyFilled else new) ≡ true
 unfolding isStatus statuses if_then_else_
 freed-coded true = refl
 freed-coded false = refl

@@ -9,7 +9,7 @@ use lib.ListN.{getD}
 use borrow.Author.Tests.{eqb-true, eq-eqb, leb-true, le-leb}
 use Rattle.prelude.specs.Below.{allBelow, all-elim, all-intro}
 use Rattle.prelude.specs.Cases.{clash, both-true, either-true}
-use Rattle.prelude.specs.Texts.{isText, sameText, filledAt, agreeAt}
+use Rattle.prelude.specs.Texts.{isText, sameText, filledAt, agreeAt, same-length}
 use Rattle.prelude.specs.declared.Text.{Text}
 use Rattle.format.specs.Codes.{within, isName}
 use Rattle.machine.specs.Ranges.{textWithin, nameRange}
@@ -63,29 +63,6 @@ decide true f g = f refl
 decide false f g = g refl
 
 -- ---- texts
-
-pub same-flip : (a b : Text) → sameText a b ≡ true → sameText b a ≡ true
-unfolding sameText
-same-flip a b e =
-    let (l, s) = both-true (eqb (a .len) (b .len)) (allBelow (agreeAt (a .bytes) (b .bytes)) 32) e in
-    both (eq-eqb (b .len) (a .len) (sym (eqb-true (a .len) (b .len) l)))
-    (all-intro (agreeAt (b .bytes) (a .bytes)) 32
-    (λ k h. eq-eqb (getD (b .bytes) k 0) (getD (a .bytes) k 0) (sym (eqb-true (getD (a .bytes) k 0) (getD (b .bytes) k 0) (all-elim (agreeAt (a .bytes) (b .bytes)) 32 s k h)))))
-
-pub same-chain : (a b c : Text) → sameText a b ≡ true → sameText b c ≡ true → sameText a c ≡ true
-unfolding sameText
-same-chain a b c e f =
-    let (l, s) = both-true (eqb (a .len) (b .len)) (allBelow (agreeAt (a .bytes) (b .bytes)) 32) e in
-    let (m, t) = both-true (eqb (b .len) (c .len)) (allBelow (agreeAt (b .bytes) (c .bytes)) 32) f in
-    both (eq-eqb (a .len) (c .len) (eqb-true (a .len) (b .len) l ∙ eqb-true (b .len) (c .len) m))
-    (all-intro (agreeAt (a .bytes) (c .bytes)) 32
-    (λ k h. eq-eqb (getD (a .bytes) k 0) (getD (c .bytes) k 0)
-    (eqb-true (getD (a .bytes) k 0) (getD (b .bytes) k 0) (all-elim (agreeAt (a .bytes) (b .bytes)) 32 s k h)
-    ∙ eqb-true (getD (b .bytes) k 0) (getD (c .bytes) k 0) (all-elim (agreeAt (b .bytes) (c .bytes)) 32 t k h))))
-
-pub same-length : (a b : Text) → sameText a b ≡ true → a .len ≡ b .len
-unfolding sameText
-same-length a b e = eqb-true (a .len) (b .len) (both-true (eqb (a .len) (b .len)) (allBelow (agreeAt (a .bytes) (b .bytes)) 32) e .0)
 
 -- the parts of a text's range
 pub record TextKept (low high : ℕ) (t : Text) : Type 0 where

@@ -449,7 +449,7 @@ module _ (i : ℕ) (o : Order) (qs : List Request) (l : OrderKept i o qs) where
 
 -- ---- a status
 
-status-coded : (cumqty s : ℕ) → isStatus s ≡ true → isStatus (statusAt cumqty s) ≡ true
+pub status-coded : (cumqty s : ℕ) → isStatus s ≡ true → isStatus (statusAt cumqty s) ≡ true
 unfolding statusAt
 status-coded cumqty s e = split-if (λ (t : ℕ). isStatus t ≡ true) _ (λ h. unfold isStatus statuses in refl) (λ h. e)
 

@@ -11,7 +11,7 @@ use lib.ListN.{length}
 use borrow.Author.Tests.{eqb-true, eqb-false, eq-eqb, ne-eqb, le-leb, lt-ltb, not-true, not-false}
 use Rattle.prelude.specs.Below.{allBelow, firstBelow, first-elim, First, first-some, countBelow, count-le, count-ext}
 use Rattle.prelude.specs.Cases.{if_then_else_, maybe, split-if, split-maybe, both-true, if-false, clash}
-use Rattle.prelude.specs.Texts.{isText, sameText, same-self}
+use Rattle.prelude.specs.Texts.{isText, sameText, same-self, same-back, same-length}
 use Rattle.prelude.specs.declared.Text.{Text}
 use Rattle.store.specs.declared.Order.{Order}
 use Rattle.store.specs.declared.Request.{Request}
@@ -31,8 +31,8 @@ use Rattle.machine.specs.Kept.{StartKeeps, StepKeeps}
 use Rattle.machine.specs.declared.Facts.{Facts}
 use Rattle.machine.specs.declared.Refusal.{Refusal}
 use Rattle.machine.specs.declared.Change.{Change}
-use Rattle.machine.proofs.Kept.Laws.{both, and-tail, not-is, untrue, same-flip, same-length, text-kept, name-within, same-within}
-use Rattle.machine.proofs.Kept.Tables.{at, linked-new, owned, owned-own, at-amendments}
+use Rattle.machine.proofs.Kept.Laws.{both, and-tail, not-is, untrue, text-kept, name-within, same-within}
+use Rattle.machine.proofs.Kept.Tables.{at, linked-new, owned, owned-own, at-amendments, at-link}
 use Rattle.machine.proofs.Kept.Local.{OrderKept, settled-flight, gateway-none, flight-more, kept-names, kept-terms, names-kept}
 use Rattle.machine.proofs.Kept.Keep.{Added, Kept, Here, Asked, no-text, priced-range, quiet-idle, report-kept, unknown-kept, reject-kept, failed-kept, unsent-kept, cancel-order, status-kept, told-kept, cancel-goes, replace-goes}
 use Rattle.machine.proofs.Kept.Lift.{range-kept, RequestKept, BookKept, book-kept, kept-book, lift}
@@ -124,7 +124,7 @@ clordid-within b j r g =
     sym (if-false (isGateway (requestIn b j)) (textWithin 0 0 (requestIn b j .clordid)) (textWithin 1 32 (requestIn b j .clordid)) g) ∙ range-kept (requestIn b j) (r .range) .clordid
 
 -- a replace is no gateway cancel
-replace-client : (q : Request) → isReplace q ≡ true → isGateway q ≡ false
+pub replace-client : (q : Request) → isReplace q ≡ true → isGateway q ≡ false
 unfolding isReplace isGateway
 replace-client q e = ne-eqb (q .kind) 3 (λ z. let k : q .kind ≡ 2 = eqb-true (q .kind) 2 e in omega arith)
 
@@ -168,7 +168,7 @@ fresh-key b client t w e j h booked = untrue _ (λ z.
     let some : 1 ≤ t .len = text-kept 1 32 t w .above in
     clash (bearsClordid (b .orders) client t (requestIn b j))
     (both (not-is (ne-eqb (requestIn b j .clordid .len) 0 (λ y. omega arith)))
-    (both (same-flip t (requestIn b j .clordid) s) (of-client b client j booked (sym (eqb-true client (clientOf b j) c)))))
+    (both (same-back t (requestIn b j .clordid) s) (of-client b client j booked (sym (eqb-true client (clientOf b j) c)))))
     (never-used b client t e j h))
 
 -- what holds of a cancel or replace that is not refused
@@ -222,17 +222,13 @@ unfolding if_then_else_
 silent-if true r n q e = clash (eqb (r .fixedtext) 0) e n
 silent-if false r n q e = (refl, e)
 
-order-back : (b : Book) (i : ℕ) → orderAtLink b (i + 1) ≡ orderIn b i
-unfolding orderAtLink
-order-back b i = if-false (eqb (i + 1) 0) noOrder (orderIn b (i + 1 - 1)) (ne-eqb (i + 1) 0 (λ z. omega arith)) ∙ ap (orderIn b) (omega arith)
-
 module _ (b : Book) (e : Event) (good : BookKept b) (k : rules b ≡ true) (amendment : Amendment e) where
   -- the ClOrdID that the event names is of a request of the client's
   amend-at : (P : ℕ → Order → Type 0) → P 0 (orderAtLink b 0) → ((i : ℕ) → i < length (b .orders) → orderIn b i .client ≡ e .client → P (i + 1) (orderIn b i))
       → P (orderOf b (e .client) (e .ids .origclordid)) (orderAtLink b (orderOf b (e .client) (e .ids .origclordid)))
   amend-at P none′ found =
       order-of (λ (place : ℕ). P place (orderAtLink b place)) b (e .client) (e .ids .origclordid) none′
-      (λ j h t. subst (P (requestIn b j .order + 1)) (sym (order-back b (requestIn b j .order)))
+      (λ j h t. subst (P (requestIn b j .order + 1)) (sym (at-link b (requestIn b j .order)))
       (found (requestIn b j .order) (good .request j h .order)
       (clordid-client b (e .client) (e .ids .origclordid) j t)))
 
@@ -343,7 +339,7 @@ booking-keeps b e good booking ranged =
     (λ priced. goes (not-false (unused b e) t) (not-false _ priced)))
   where
     apart : maybe true (λ k. false) (findName b (e .ids .name)) ≡ true → (j : ℕ) → j < length (b .orders) → sameText (e .ids .name) (orderIn b j .names .name) ≡ false
-    apart t j h = untrue _ (λ s. clash (bearsName (e .ids .name) (orderIn b j)) (same-flip (e .ids .name) (orderIn b j .names .name) s) (go (findName b (e .ids .name)) refl t))
+    apart t j h = untrue _ (λ s. clash (bearsName (e .ids .name) (orderIn b j)) (same-back (e .ids .name) (orderIn b j .names .name) s) (go (findName b (e .ids .name)) refl t))
       where
         go : (r : Option ℕ) → findName b (e .ids .name) ≡ r → maybe true (λ k. false) r ≡ true → bearsName (e .ids .name) (orderIn b j) ≡ false
         go none z u = first-elim (λ k. bearsName (e .ids .name) (orderIn b k)) (length (b .orders)) (unfold findName in z) j h

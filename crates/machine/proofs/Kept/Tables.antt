@@ -1,4 +1,4 @@
--- Lists of requests: what answering one and adding one leave as they were. Rests on Machine and Rules.
+-- The tables: the order of a link, and lists of requests, what answering one and adding one leave as they were. Rests on Machine and Rules.
 use Prim.Native.Nat.{ℕ, _+_, _-_, _≤_, _<_}
 use native.Mathlib.Omega.{arith}
 use native.Mathlib.Decide.{ℕ-discrete}
@@ -10,15 +10,23 @@ use lib.ListN.{length, getD, set, length-append, length-set, List·getD-append}
 use lib.Seq.{getD-set-same, getD-set-other, getD-append-seam}
 use borrow.Author.Tests.{eqb-true, eqb-false, eq-eqb, ne-eqb, leb-true, le-leb, ltb-true, lt-ltb}
 use Rattle.prelude.specs.Below.{countBelow, count-hit, count-pass, count-ext}
-use Rattle.prelude.specs.Cases.{split-if, both-true}
+use Rattle.prelude.specs.Cases.{split-if, if-false, both-true}
 use Rattle.store.specs.declared.Request.{Request}
+use Rattle.store.specs.Book.{Book, orderIn}
+use Rattle.store.specs.Orders.{noOrder}
 use Rattle.store.specs.Requests.{noRequest}
-use Rattle.machine.specs.Machine.{answeredRequest, answerLink}
+use Rattle.machine.specs.Machine.{orderAtLink, answeredRequest, answerLink}
 use Rattle.machine.specs.Rules.{linked, ofOrder, numberIn, amendmentsRule}
 use Rattle.machine.proofs.Kept.Laws.{both}
 
 abbrev pub at : List Request → ℕ → Request
 at qs j = getD qs j noRequest
+
+-- the order of a link
+pub at-link : (b : Book) (i : ℕ) → orderAtLink b (i + 1) ≡ orderIn b i
+unfolding orderAtLink
+at-link b i =
+    if-false _ noOrder _ (ne-eqb (i + 1) 0 (λ z. omega arith)) ∙ (let z : i + 1 - 1 ≡ i = omega arith in ap (λ (j : ℕ). orderIn b j) z)
 
 -- ---- one answered
 

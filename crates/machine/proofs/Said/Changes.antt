@@ -22,7 +22,7 @@ use Rattle.store.specs.declared.Order.{Order}
 use Rattle.store.specs.declared.Request.{Request}
 use Rattle.store.specs.Orders.{noOrder}
 use Rattle.text.specs.Words.{noText}
-use Rattle.machine.specs.Codes.{partiallyFilled, new, rejected, execStatus, execRejected, textRejected, other, venues}
+use Rattle.machine.specs.Codes.{rejected, execStatus, execRejected, textRejected, other, venues}
 use Rattle.machine.specs.Orders.{isEmpty, setStatus, recordVenueOrderId, pendingTerms, nextExec, withPending, withGateway, noPending}
 use Rattle.machine.specs.Messages.{noNote}
 use Rattle.machine.specs.Changes.{Event, Message, unchanged, refusing, answering, superseding, adding, telling, alarming, isFirst, isReplace, isGateway, isCancel, nextDownstream, numberedOrder}
@@ -39,7 +39,8 @@ use Rattle.machine.specs.declared.Refused.{Refused}
 use Rattle.machine.specs.declared.Change.{Change}
 use Rattle.machine.proofs.Kept.Laws.{both, TextKept, text-kept, kept-text}
 use Rattle.machine.proofs.Kept.Local.{TermsKept, terms-kept, kept-terms}
-use Rattle.machine.proofs.Kept.Keep.{priced-range}
+use Rattle.machine.proofs.Kept.Keep.{priced-range, freed-coded}
+use Rattle.machine.proofs.Kept.Steps.{replace-client}
 use Rattle.machine.proofs.Said.Reads.{right-ranged, right-exectype}
 use Rattle.machine.proofs.Said.Rows.{Fine}
 use Rattle.machine.proofs.Said.Messages.{Words, Noted, Told, no-right-text, no-fine, no-long-text, report-right, reject-right, new-right, cancel-right, replace-right, named-text, named-is}
@@ -201,12 +202,6 @@ refused-note n k =
 
 -- ---- a request refused
 
--- the status of an order that is no longer pending
-freed-coded : (t : Bool) → isStatus (if t then partiallyFilled else new) ≡ true
-unfolding isStatus statuses if_then_else_
-freed-coded true = refl
-freed-coded false = refl
-
 refused-told : (k : ℕ) (r : Refused) (o : Order) → (eqb (r .status) 0 ≡ false → isStatus (r .status) ≡ true) → Fine 0 32 (r .venueorderid) → Told o → Told (refusedOrder k r o)
 unfolding refusedOrder notPending
 refused-told k r o s v t =
@@ -319,11 +314,6 @@ answers-client k q o e =
   where
     apart : isReplace q ≡ true → isFirst q ≡ false
     apart z = unfold isReplace isFirst in ne-eqb (q .kind) 0 (λ y. let x : q .kind ≡ 2 = eqb-true (q .kind) 2 (unfold isReplace in z) in omega arith)
-
--- a replace is no gateway cancel
-replace-client : (q : Request) → isReplace q ≡ true → isGateway q ≡ false
-unfolding isReplace isGateway
-replace-client q e = ne-eqb (q .kind) 3 (λ z. let k : q .kind ≡ 2 = eqb-true (q .kind) 2 e in omega arith)
 
 module _ (f : Facts) (o : Order) (t : Told o) (k : ℕ) (q : Request) (a : Asks q) (some : eqb k 0 ≡ false) (mine : eqb (o .pending .request) k ≡ true → isReplace q ≡ true)
     (e : Event) (h : Right e) (kind : e .kind ≡ 4) where

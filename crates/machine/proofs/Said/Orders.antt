@@ -10,7 +10,7 @@ use borrow.Author.Tests.{eqb-false, leb-true, le-leb, ltb-true}
 use Rattle.prelude.specs.Cases.{if-false, split-if, clash, both-true}
 use Rattle.prelude.specs.Texts.{isText, contents}
 use Rattle.prelude.specs.declared.Text.{Text}
-use Rattle.format.specs.Codes.{isStatus, statuses}
+use Rattle.format.specs.Codes.{isStatus}
 use Rattle.store.specs.declared.Pending.{Pending}
 use Rattle.store.specs.declared.GatewayCancel.{GatewayCancel}
 use Rattle.store.specs.declared.Order.{Order}
@@ -20,7 +20,7 @@ use Rattle.store.specs.Orders.{WholeOrder}
 use Rattle.store.specs.Requests.{WholeRequest}
 use Rattle.text.specs.Numbered.{numberedText, decimal}
 use Rattle.text.specs.NameLaws.{numbered-fits, numbered-is-text, numbered-long, numbered-len}
-use Rattle.machine.specs.Orders.{oneMore, statusAt, setStatus, keptOrderId, recordVenueOrderId, pendingTerms, applyReplace, nextSequence, nextExec, withState, withPending, withGateway}
+use Rattle.machine.specs.Orders.{oneMore, setStatus, keptOrderId, recordVenueOrderId, pendingTerms, applyReplace, nextSequence, nextExec, withState, withPending, withGateway}
 use Rattle.machine.specs.Changes.{isFirst, isGateway, nextNumber, nextDownstream, numberedOrder}
 use Rattle.machine.specs.Ranges.{isQty, isPrice, textWithin}
 use Rattle.machine.specs.Rules.{termsRange, filledRule}
@@ -28,7 +28,7 @@ use Rattle.machine.specs.Whole.{WholeBook}
 use Rattle.machine.specs.declared.Facts.{Facts}
 use Rattle.machine.proofs.Numbered.{numbered-laws}
 use Rattle.machine.proofs.Kept.Laws.{kept-text, name-short}
-use Rattle.machine.proofs.Kept.Local.{OrderKept, NamesKept, names-kept, TermsKept, terms-kept, pending-parts}
+use Rattle.machine.proofs.Kept.Local.{OrderKept, NamesKept, names-kept, TermsKept, terms-kept, pending-parts, status-coded}
 use Rattle.machine.proofs.Kept.Lift.{RangeKept, range-kept, BookKept}
 use Rattle.machine.proofs.Kept.Steps.{downstream-within}
 use Rattle.machine.proofs.Said.Rows.{Fine}
@@ -99,10 +99,6 @@ sequence-told o k = record {
   amendments = k .amendments;
   pending = k .pending;
 }
-
-status-coded : (cumqty s : ℕ) → isStatus s ≡ true → isStatus (statusAt cumqty s) ≡ true
-unfolding statusAt
-status-coded cumqty s e = split-if (λ (t : ℕ). isStatus t ≡ true) _ (λ h. unfold isStatus statuses in refl) (λ h. e)
 
 -- quantities and a status; with its own quantities this is `setStatus` alone
 pub state-told : (s status cumqty avgpx execseq : ℕ) (o : Order) → isStatus s ≡ true → isQty cumqty ≡ true → isPrice avgpx ≡ true → execseq < 2 ^ 64 → Told o

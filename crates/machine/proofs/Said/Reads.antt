@@ -1,17 +1,18 @@
 -- An event that the reader accepts is in its ranges, is whole, and has a kind from 1 to 9. Rests on records' Ranges.
 -- The ranges follow from the test of events alone: a bit that the kind must have stands, a field that stands is in its range, and one that does not is 0.
-use Prim.Native.Nat.{ℕ, zero, suc, _+_, _-_, _/_, _%_, _^_, _<_}
+use Prim.Native.Nat.{ℕ, suc, _+_, _-_, _/_, _%_, _^_, _<_}
 use native.Mathlib.Omega.{arith}
 use mathlib.Core.Path.{_≡_, refl, sym, ap, subst, _∙_}
 use mathlib.Core.Logic.{⊎-elim}
 use mathlib.Core.Bool.{Bool, true, false}
-use mathlib.Core.List.{List, [], _∷_, _++_}
+use mathlib.Core.List.{List, _∷_, _++_}
 use lib.Dec.{eqb, leb, lit<}
 use lib.ListN.{length, getD, replicate}
 use borrow.Author.Tests.{eq-eqb, leb-true, le-leb}
 use Rattle.prelude.specs.Cases.{if_then_else_, if-true, split-if, clash, both-true, either-true}
 use Rattle.prelude.specs.Number.{Bytes}
 use Rattle.prelude.specs.Texts.{textOf, WholeText}
+use Rattle.prelude.specs.Bytes.{bytes-span, bytes-drop, bytes-take, bytes-append, bytes-zeros}
 use Rattle.prelude.specs.declared.Text.{Text}
 use Rattle.format.specs.Codes.{within, isName, isOrdtype, isTimeinforce, isStatus, isExectype}
 use Rattle.format.specs.Format.{fields, range, inRange, requiredBits, required, isKind, bitsRight}
@@ -20,7 +21,6 @@ use Rattle.records.specs.declared.Ids.{Ids}
 use Rattle.records.specs.declared.Record.{Record}
 use Rattle.records.specs.Fields.{numbersOf}
 use Rattle.records.specs.Record.{recordAt, nameIn, ranged, refusalBy, isRecord, isEvent, eventRefusal, eventIn}
-use Rattle.records.specs.Reading.{bytes-span, bytes-drop, bytes-take}
 use Rattle.records.specs.Right.{RightText, Right, right}
 use Rattle.records.specs.Ranges.{Ranges, ranges, stands, event-facts}
 use Rattle.machine.specs.Changes.{Event}
@@ -30,7 +30,6 @@ use Rattle.machine.specs.Rules.{forceRange}
 use Rattle.machine.specs.Events.{Booking, Amendment, Ranged}
 use Rattle.machine.specs.Reads.{EventRanged, EventWhole, EventKind}
 use Rattle.machine.proofs.Kept.Laws.{both, or-left, or-right, decide, kept-text}
-use Rattle.machine.proofs.Kept.Fits.{zeros-small}
 
 -- ---- one field
 
@@ -111,12 +110,7 @@ module _ (s : List ℕ) (w : Bytes s) where
 
   text-bytes : (l : List ℕ) → Bytes l → Bytes (textOf l .bytes)
   unfolding textOf
-  text-bytes l f = bytes-take (l ++ replicate 32 0) 32 (joined l f)
-    where
-      joined : (l : List ℕ) → Bytes l → Bytes (l ++ replicate 32 0)
-      joined [] f k = zeros-small 32 k
-      joined (x ∷ l) f zero = f zero
-      joined (x ∷ l) f (suc k) = joined l (λ n. f (suc n)) k
+  text-bytes l f = bytes-take (l ++ replicate 32 0) 32 (bytes-append l (replicate 32 0) f (bytes-zeros 32))
 
   whole-text : (t : Text) (o m b : ℕ) → t ≡ textOf (content s o m b) → RightText t → WholeText t
   whole-text t o m b z r = record {

@@ -31,10 +31,10 @@ use Rattle.machine.specs.Said.{MessagesRight, MessagesFew, AnswerRead}
 use Rattle.machine.specs.declared.Facts.{Facts}
 use Rattle.machine.specs.declared.Change.{Change}
 use Rattle.machine.proofs.Kept.Laws.{both}
-use Rattle.machine.proofs.Kept.Tables.{at}
+use Rattle.machine.proofs.Kept.Tables.{at, at-link}
 use Rattle.machine.proofs.Kept.Local.{pending-parts}
 use Rattle.machine.proofs.Kept.Lift.{BookKept, book-kept}
-use Rattle.machine.proofs.Claim.Walk.{at-link, found-request, found-order}
+use Rattle.machine.proofs.Claim.Walk.{found-request, found-order}
 use Rattle.machine.proofs.Said.Reads.{event-right-facts, right-ranged}
 use Rattle.machine.proofs.Said.Rows.{Fine}
 use Rattle.machine.proofs.Said.Messages.{Told}

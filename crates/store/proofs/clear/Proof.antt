@@ -5,7 +5,8 @@ use Rattle.prelude.specs.Cases.{if_then_else_}
 use Prim.Native.Nat.{ℕ}
 use Rattle.prelude.specs.Number.{bytesOf}
 use Rattle.prelude.specs.Span.{splice}
-use Rattle.store.specs.Book.{clearBook, zeros, blank}
+use Rattle.prelude.specs.Bytes.{zeros}
+use Rattle.store.specs.Book.{clearBook, blank}
 use borrow.Author.Needs.{needs}
 use Rattle.store.proofs.clear.Statement.{statement}
 use Rattle.store.proofs.clear.Tie as tie

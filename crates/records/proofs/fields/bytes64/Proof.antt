@@ -3,8 +3,7 @@ use borrow.Author.Needs.{needs}
 use denote.Ref.{now}
 use mathlib.Core.Path.{_∙_}
 use native.Mathlib.Omega.{arith}
-use Rattle.prelude.specs.Span.{span, length-span}
-use Rattle.records.specs.FieldLaws.{padded}
+use Rattle.prelude.specs.Span.{span, length-span, padded}
 use Rattle.records.proofs.fields.bytes64.Statement.{statement}
 use Rattle.records.proofs.fields.bytes64.Tie as tie
 

@@ -6,8 +6,7 @@ use mathlib.Core.Path.{_≡_, refl}
 use native.Mathlib.Omega.{arith}
 use lib.Dec.{lit<}
 use Rattle.prelude.specs.Span.{span, span-none}
-use Rattle.prelude.specs.Number.{number, bound}
-use Rattle.records.specs.FieldLaws.{fits, below}
+use Rattle.prelude.specs.Number.{number, bound, fits-more, byte-below}
 use Rattle.records.proofs.fields.number_at.Statement.{statement}
 use Rattle.records.proofs.fields.number_at.Tie as tie
 
@@ -24,17 +23,17 @@ loop-holds c =
     rw (z, span-none (now (a .s)) (a .at + a .n)) (omega arith, lit< tt, refl)
 
 mul-v : tie.Need-mul-v Inv-loop μ-loop
-mul-v c = record { fits = omega (arith, fits {k = c .before .before .before .args .n - c .before .loop .i} 7 (c .before .loop .inv .1) (omega arith)) }
+mul-v c = record { fits = omega (arith, fits-more {k = c .before .before .before .args .n - c .before .loop .i} 7 (c .before .loop .inv .1) (omega arith)) }
 
 add-v : tie.Need-add-v Inv-loop μ-loop
-add-v c = record { fits = omega (arith, fits {k = c .before .before .before .before .before .args .n - c .before .before .before .loop .i} 7 (c .before .before .before .loop .inv .1) (omega arith)) }
+add-v c = record { fits = omega (arith, fits-more {k = c .before .before .before .before .before .args .n - c .before .before .before .loop .i} 7 (c .before .before .before .loop .inv .1) (omega arith)) }
 
 loop-again : tie.Need-loop-again Inv-loop μ-loop
 loop-again c =
     let a = c .before .before .before .before .before .args in
     let l = c .before .before .before .loop in
     let b =
-    below (now (a .s)) (a .at) (a .n) (l .i) (l .v) (c .wide .result) (omega arith) (omega arith) (omega arith) (c .wide .ensures .0) (c .wide .ensures .1) (l .inv .1) (l .inv .2) in
+    byte-below (now (a .s)) (a .at) (a .n) (l .i) (l .v) (c .wide .result) (omega arith) (omega arith) (omega arith) (c .wide .ensures .0) (c .wide .ensures .1) (l .inv .1) (l .inv .2) in
     (omega arith, b .0, b .1)
 
 returns : tie.Need-returns Inv-loop μ-loop

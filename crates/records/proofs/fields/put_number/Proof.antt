@@ -7,8 +7,7 @@ use native.Mathlib.Omega.{arith}
 use lib.ListN.{length, drop, length-set}
 use lib.Seq.{paste, paste-zero}
 use Rattle.prelude.specs.Span.{copy-more, copy-all}
-use Rattle.prelude.specs.Number.{bytesOf, length-bytes}
-use Rattle.records.specs.FieldLaws.{digits}
+use Rattle.prelude.specs.Number.{bytesOf, length-bytes, next-byte}
 use Rattle.records.proofs.fields.put_number.Statement.{statement}
 use Rattle.records.proofs.fields.put_number.Tie as tie
 
@@ -32,7 +31,7 @@ loop-again c =
     let w = bytesOf (a .n) (a .value) in
     let len : length w ≡ a .n = length-bytes (a .n) (a .value) in
     let e : a .n - l .i ≡ suc (a .n - suc (l .i)) = omega arith in
-    let g = digits w (l .i) (a .n - suc (l .i)) (l .v) (omega arith) (rw e at (l .inv .3)) in (
+    let g = next-byte w (l .i) (a .n - suc (l .i)) (l .v) (omega arith) (rw e at (l .inv .3)) in (
       omega arith,
       simp length-set (l .inv .1),
       rw (← g .0, l .inv .2) (copy-more (now (a .dst)) w (a .at) (l .i) (omega arith) (omega arith)),

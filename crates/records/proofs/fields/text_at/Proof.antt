@@ -4,9 +4,8 @@ use denote.Ref.{now}
 use mathlib.Core.Path.{_≡_, sym, _∙_}
 use native.Mathlib.Omega.{arith}
 use lib.ListN.{length}
-use Rattle.prelude.specs.Span.{span, length-span}
+use Rattle.prelude.specs.Span.{span, length-span, padded}
 use Rattle.prelude.specs.Texts.{textOf}
-use Rattle.records.specs.FieldLaws.{padded}
 use Rattle.records.proofs.fields.text_at.Statement.{statement}
 use Rattle.records.proofs.fields.text_at.Tie as tie
 

@@ -8,8 +8,8 @@ use Prim.Native.Nat.{ℕ, _≤_, _<_, _+_, _*_, _-_}
 use native.Mathlib.Numerals.{add-one}
 use native.Mathlib.Omega.{arith}
 use lib.ListN.{length, getD, set, length-set}
+use Rattle.prelude.specs.Lists.{fill}
 use Rattle.format.specs.Places.{next, start}
-use Rattle.format.specs.Laws.{fill}
 use Rattle.records.proofs.places.starts.Statement.{statement}
 use Rattle.records.proofs.places.starts.Tie as tie
 

@@ -4,9 +4,8 @@ use denote.Ref.{now}
 use mathlib.Core.Path.{_≡_, refl, sym, ap, _∙_}
 use Prim.Native.Nat.{_+_, _-_}
 use native.Mathlib.Omega.{arith}
-use Rattle.prelude.specs.Span.{span-none}
+use Rattle.prelude.specs.Span.{span-none, span-drop}
 use Rattle.prelude.specs.Number.{number}
-use Rattle.records.specs.Reading.{span-drop}
 use Rattle.records.proofs.take.high_between.Statement.{statement}
 use Rattle.records.proofs.take.high_between.Tie as tie
 

@@ -5,9 +5,8 @@ use mathlib.Core.Path.{_≡_, refl, sym, ap, _∙_}
 use Prim.Native.Nat.{_+_, _-_}
 use native.Mathlib.Omega.{arith}
 use lib.ListN.{length}
-use Rattle.prelude.specs.Span.{span, span-none, length-span}
+use Rattle.prelude.specs.Span.{span, span-none, length-span, span-drop}
 use Rattle.records.specs.Fields.{longOf}
-use Rattle.records.specs.Reading.{span-drop}
 use Rattle.records.proofs.take.long_between.Statement.{statement}
 use Rattle.records.proofs.take.long_between.Tie as tie
 

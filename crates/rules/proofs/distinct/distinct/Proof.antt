@@ -7,7 +7,7 @@ use native.Mathlib.Omega.{arith}
 use lib.ListN.{length, getD, length-set}
 use borrow.Author.Tests.{not-true, not-false}
 use Rattle.prelude.specs.Below.{allBelow, all-none, all-more, all-miss, all-done, all-elim, all-intro}
-use Rattle.rules.specs.Spread.{Marks, marks-more, cells-more}
+use Rattle.rules.specs.Spread.{stands, Marks, marks-more, cells-more}
 use Rattle.rules.specs.Things.{placed, cellOf, clearAt}
 use borrow.Author.Needs.{needs}
 use Rattle.rules.proofs.distinct.distinct.Statement.{statement}
@@ -15,7 +15,7 @@ use Rattle.rules.proofs.distinct.distinct.Tie as tie
 
 abbrev Inv-loop : tie.InvT-loop
 Inv-loop book keyed n seen₀ cells₀ i₀ seen cells i =
-    (i ≤ n) × (length seen ≡ 4096) × (length cells ≡ 256) × (allBelow (clearAt book keyed) i ≡ true) × Marks (cellOf book keyed) seen i
+    (i ≤ n) × (length seen ≡ 128) × (length cells ≡ 256) × (allBelow (clearAt book keyed) i ≡ true) × Marks (cellOf book keyed) seen i
     × ((j : ℕ) → j < i → getD cells j 0 ≡ cellOf book keyed j)
 
 abbrev μ-loop : tie.MeasureT-loop
@@ -23,7 +23,7 @@ abbrev μ-loop : tie.MeasureT-loop
 
 loop-holds : tie.Need-loop-holds Inv-loop μ-loop
 loop-holds c =
-    (search needs, search needs, search needs, all-none _, record { marked = λ j h. absurd (not-suc-le-zero h) }, λ j h. absurd (not-suc-le-zero h))
+    (search needs, search needs, search needs, all-none _, record { stand = λ j h. absurd (not-suc-le-zero h) }, λ j h. absurd (not-suc-le-zero h))
 
 cell-of-requires : tie.Need-cell-of-requires Inv-loop μ-loop
 cell-of-requires c κs = let s = c .before .before .before in
@@ -32,32 +32,36 @@ cell-of-requires c κs = let s = c .before .before .before in
     (s .pre .0, omega (arith, s .pre .1), all-elim (placed (s .args .book .now) (s .args .keyed)) (s .args .n) (s .pre .2) i l)
 
 clear-of-requires : tie.Need-clear-of-requires Inv-loop μ-loop
-clear-of-requires c κs = let s = c .before .before .before .before .before in
+unfolding stands
+clear-of-requires c κs = let s = c .before .before .before .before .before .before in
     let b = s .args .book .now in
     let k = s .args .keyed in
-    let l = c .before .before .before .loop in
+    let l = c .before .before .before .before .loop in
     let u : l .i < s .args .n = search needs in (
       s .pre .0,
       omega (arith, s .pre .1),
       all-intro (placed b k) (l .i + 1) (λ j h. all-elim (placed b k) (s .args .n) (s .pre .2) j (omega arith)),
-      c .before .cell-of .ensures .0,
+      c .before .before .cell-of .ensures .0,
       l .inv .5,
-      λ j h e. ap (λ (x : ℕ). getD (l .seen) x 0) (sym e) ∙ l .inv .4 .marked j h,
+      λ j h e. c .before .has .ensures ∙ ap (stands (l .seen)) (sym e) ∙ l .inv .4 .stand j h,
     )
 
 returns : tie.Need-returns Inv-loop μ-loop
-returns c = sym (all-miss _ _ (c .before .before .before .before .before .loop .i) (search needs) (rw (← c .before .clear-of .ensures) (not-true _ (c .if1 .taken))))
+returns c = let l = c .before .before .before .before .before .before .loop in
+    sym (all-miss _ _ (l .i) (search needs) (rw (← c .before .clear-of .ensures) (not-true _ (c .if1 .taken))))
 
 loop-again : tie.Need-loop-again Inv-loop μ-loop
-loop-again c = let l = c .before .before .before .before .before .loop in
-    let a = c .before .before .before .before .before .before .before .args in
-    let h = c .before .before .before .cell-of in
+loop-again c = let d = c .before .before in
+    let h = d .before .before .before .cell-of in
+    let w = d .before .before .before .before .before in
+    let l = w .loop in
+    let a = w .before .before .args in
     let cell = cellOf (a .book .now) (a .keyed) in (
       search needs,
       simp length-set (l .inv .1),
       simp length-set (l .inv .2),
-      all-more _ _ (l .inv .3) (rw (← c .before .clear-of .ensures) (not-false _ (c .if1 .left))),
-      marks-more cell (l .seen) (l .i) (h .result) (omega (arith, l .inv .1, h .ensures .1)) (h .ensures .0) (l .inv .4),
+      all-more _ _ (l .inv .3) (rw (← d .clear-of .ensures) (not-false _ (c .before .if1 .left))),
+      rw (c .with-bit .ensures) (marks-more cell (l .seen) (l .i) (h .result) (omega (arith, l .inv .1, h .ensures .1)) (h .ensures .0) (l .inv .4)),
       cells-more cell (l .cells) (l .i) (h .result) (search needs) (h .ensures .0) (l .inv .5),
     )
 
@@ -74,8 +78,13 @@ distinct-spec =
     cell-of-requires
     (λ c. search needs)
     (λ c. search needs)
+    (λ c. search needs)
+    (λ c. search needs)
+    (λ c κs. search needs)
     clear-of-requires
     returns
+    (λ c κs. search needs)
+    (λ c. search needs)
     (λ c. search needs)
     (λ c. search needs)
     (λ c. search needs)

@@ -1,4 +1,4 @@
--- `requests_ok` meets its contract: the requests below j keep their rules, and each order's counter is how many of them it has. Rests on Here and More.
+-- `requests_ok` meets its contract: the requests below j keep their rules, and each order's counter is how many of them it has. Rests on Here.
 use mathlib.Core.Path.{_≡_, refl, sym, ap, _∙_}
 use mathlib.Core.Bool.{true, false}
 use mathlib.Core.List.{List}
@@ -6,11 +6,11 @@ use Prim.Native.Nat.{ℕ, _≤_, _<_, _-_}
 use native.Mathlib.Omega.{arith}
 use lib.ListN.{length, getD, length-set}
 use borrow.Author.Tests.{not-true, not-false}
-use Rattle.prelude.specs.Below.{allBelow, countBelow, all-none, all-more, all-miss, all-done, all-elim, count-none, count-le}
+use Rattle.prelude.specs.Below.{allBelow, countBelow, all-none, all-more, all-miss, all-done, all-elim, count-none, count-le, count-next}
+use Rattle.prelude.specs.Bytes.{get-zeros}
 use Rattle.prelude.specs.Cases.{clash}
 use Rattle.store.specs.Book.{requestAt}
 use Rattle.store.specs.Fields.{request-order}
-use Rattle.rules.specs.More.{count-next, get-noughts}
 use Rattle.rules.specs.Here.{rangeAt, ofOrderAt, requestRuleAt, IsPass, range-name, rule-unbooked, rule-booked}
 use borrow.Author.Needs.{needs}
 use Rattle.rules.proofs.numbers.requests_ok.Statement.{statement}
@@ -28,7 +28,7 @@ abbrev μ-loop : tie.MeasureT-loop
 μ-loop book n m next₀ j₀ next j = m - j
 
 loop-holds : tie.Need-loop-holds Inv-loop μ-loop
-loop-holds c = (search needs, search needs, all-none _, λ o h. get-noughts 64 o ∙ sym (count-none _))
+loop-holds c = (search needs, search needs, all-none _, λ o h. get-zeros 64 o ∙ sym (count-none _))
 
 returns : tie.Need-returns Inv-loop μ-loop
 returns c = let g = c .before in

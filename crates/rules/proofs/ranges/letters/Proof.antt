@@ -1,12 +1,11 @@
--- `letters` meets its contract: the bytes below k pass, or stand behind the text. Rests on More.
+-- `letters` meets its contract: the bytes below k pass, or stand behind the text. Rests on prelude.
 use mathlib.Core.Path.{_≡_, sym, ap, _∙_}
 use Prim.Native.Nat.{_≤_, _-_}
 use native.Mathlib.Omega.{arith}
-use Rattle.prelude.specs.Below.{allBelow, all-none}
+use Rattle.prelude.specs.Below.{allBelow, all-none, until, all-step, all-until}
 use Rattle.prelude.specs.Span.{get-span}
 use Rattle.prelude.specs.Texts.{textAt}
 use Rattle.format.specs.Codes.{alnumAt}
-use Rattle.rules.specs.More.{until, all-step, all-until}
 use borrow.Author.Needs.{needs}
 use Rattle.rules.proofs.ranges.letters.Statement.{statement}
 use Rattle.rules.proofs.ranges.letters.Tie as tie

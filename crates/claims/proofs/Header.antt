@@ -1,24 +1,25 @@
 -- The header's counts: no write takes them past their tables, and start's are 0. Rests on store's laws.
-use Prim.Native.Nat.{ℕ, _+_, _-_, _≤_, _<_}
+use Prim.Native.Nat.{ℕ, _+_, _-_, _≤_}
 use native.Mathlib.Omega.{arith}
 use mathlib.Core.Path.{_≡_, refl, ap, _∙_}
 use mathlib.Core.Logic.{inl, inr}
 use mathlib.Core.Bool.{true, false}
 use mathlib.Core.List.{List, [], _∷_}
 use lib.Dec.{eqb}
-use lib.ListN.{length, getD, length-replicate, getD-replicate}
+use lib.ListN.{length, length-replicate}
 use borrow.Author.Tests.{eq-eqb}
 use Rattle.prelude.specs.Cases.{if_then_else_, split-if}
 use Rattle.prelude.specs.Lists.{listBelow}
 use Rattle.prelude.specs.Number.{bytesOf, word16}
 use Rattle.prelude.specs.Span.{span, splice, length-splice, span-splice-before}
+use Rattle.prelude.specs.Bytes.{zeros, get-zeros}
 use Rattle.store.specs.declared.Order.{Order}
 use Rattle.store.specs.declared.Request.{Request}
 use Rattle.store.specs.Layout.{bookSize, requestBase}
 use Rattle.store.specs.Cells.{same-16}
 use Rattle.store.specs.Orders.{WholeOrder}
 use Rattle.store.specs.Requests.{WholeRequest}
-use Rattle.store.specs.Book.{bookOf, countAt, orderCount, requestCount, settingOf, orderAt, requestAt, putOrder, putRequest, setCount, storeOrder, addOrder, addRequest, markAnswered, zeros, blank, emptyBook}
+use Rattle.store.specs.Book.{bookOf, countAt, orderCount, requestCount, settingOf, orderAt, requestAt, putOrder, putRequest, setCount, storeOrder, addOrder, addRequest, markAnswered, blank, emptyBook}
 use Rattle.store.specs.Tables.{length-put-order, span-put-order, length-put-request, span-put-request, length-set-count, span-set-count, count-set-count}
 use Rattle.store.specs.Laws.{in-table}
 use Rattle.store.specs.Adds.{blank-length}
@@ -140,10 +141,7 @@ module _ (n : ℕ) (h : 8 ≤ n) (w : List ℕ) (k : length w ≡ 4) where
       let m : length (zeros n) ≡ n = length-replicate n 0 in
       let u : length (splice (zeros n) 4 w) ≡ length (zeros n) = length-splice (zeros n) 4 w (omega arith) in
       same-16 (splice (zeros n) 4 w) (zeros n) at (omega arith) (omega arith) (span-splice-before (zeros n) 4 w at 2 l (omega arith))
-      ∙ omega (arith, zero-at at (omega arith), zero-at (at + 1) (omega arith))
-    where
-      zero-at : (j : ℕ) → j < n → getD (zeros n) j 0 ≡ 0
-      zero-at j z = getD-replicate n j 0 0 z
+      ∙ omega (arith, get-zeros n at, get-zeros n (at + 1))
 
 module _ (setting : ℕ) where
   blank-head : (at : ℕ) → at + 2 ≤ 4 → word16 (blank setting) at ≡ 0

@@ -16,12 +16,12 @@ use Rattle.machine.specs.Changes.{Event, refusing}
 use Rattle.machine.proofs.Claim.Ruled.{ruled}
 use Rattle.machine.proofs.Kept.Lift.{BookKept, book-kept}
 use Rattle.rules.specs.Keeps.{keepsOf, keeps-held}
 use Rattle.gateway.specs.Entries.{Outcome, callOf, eventOf, startRefusal, startOf, checkOf}
-use Rattle.gateway.specs.Questions.{isBooking, isReplace, used, mispriced, adds, full, firstNo}
-use Rattle.gateway.specs.Claims.{Reads, Numbers, Demand1}
-use Rattle.gateway.proofs.Claims.Header.{blank-keeps}
-use Rattle.gateway.proofs.Claims.Refusals.{step-number}
-use Rattle.gateway.proofs.Claims.Taken.{Asked, broken, short, unreadable, stepped, asked, returned-is, keeps-after, check-kept, check-broken, kept-check, either-way}
+use Rattle.claims.specs.Questions.{isBooking, isReplace, used, mispriced, adds, full, firstNo}
+use Rattle.claims.specs.Claims.{Reads, Numbers, Demand1}
+use Rattle.claims.proofs.Header.{blank-keeps}
+use Rattle.claims.proofs.Refusals.{step-number}
+use Rattle.claims.proofs.Taken.{Asked, broken, short, unreadable, stepped, asked, returned-is, keeps-after, check-kept, check-broken, kept-check, either-way}
 
 -- ---- the number
 

@@ -28,8 +28,9 @@ use Rattle.machine.specs.Machine.{hasRoom, answerLink, ordersAfter, requestsAft
 use Rattle.machine.specs.Rules.{gatewayRange, rules}
 use Rattle.machine.specs.Whole.{WholeBook}
 use Rattle.machine.proofs.Kept.Lift.{BookKept, book-kept}
+use Rattle.machine.proofs.Kept.Tables.{length-answer}
 use Rattle.rules.specs.Keeps.{Held}
 use Rattle.gateway.specs.Entries.{placeOrder, markLink, placeRequests, bookWith}
 
 -- ---- a book in bytes that keeps its rules can be written again
 
@@ -153,16 +154,12 @@ marked-book b r =
     mark-link-book (markLink b (r .answered)) (r .superseded)
     ∙ ap (λ (x : Book). withRequests (answerLink (r .superseded) (x .requests)) x) (mark-link-book b (r .answered))
 
-link-length : (k : ℕ) (qs : List Request) → length (answerLink k qs) ≡ length qs
-unfolding answerLink
-link-length k qs = split-if (λ (l : List Request). length l ≡ length qs) (eqb k 0) (λ e. refl) (λ e. length-set qs (k - 1) _)
-
 marked-count : (b : List ℕ) (r : Requests) → requestCount (marked b r) ≡ length (bookOf b .requests)
 marked-count b r =
     sym (length-requests (marked b r))
     ∙ ap (λ (x : Book). length (x .requests)) (marked-book b r)
-    ∙ link-length (r .superseded) (answerLink (r .answered) (bookOf b .requests))
-    ∙ link-length (r .answered) (bookOf b .requests)
+    ∙ length-answer (r .superseded) (answerLink (r .answered) (bookOf b .requests))
+    ∙ length-answer (r .answered) (bookOf b .requests)
 
 requests-book : (b : List ℕ) (c : Change) → length b ≡ bookSize → eqb (c .requests .added) 0 || ltb (length (bookOf b .requests)) 256 ≡ true
     → (eqb (c .requests .added) 0 ≡ false → WholeRequest (c .requests .request)) → bookOf (placeRequests b (c .requests)) ≡ withRequests (requestsAfter (bookOf b .requests) c) (bookOf b)

@@ -28,10 +28,10 @@ use Rattle.machine.proofs.Kept.Whole.{whole-kept}
 use Rattle.machine.proofs.Said.Reads.{event-ranged, event-whole}
 use Rattle.machine.proofs.Said.Steps.{messages-few}
 use Rattle.rules.specs.Keeps.{keepsOf, Held, keeps-held, held-keeps}
 use Rattle.gateway.specs.Entries.{bookWith, Outcome, outcome, callOf, eventOf, checkOf}
-use Rattle.gateway.specs.Claims.{WritesChange, Sizes, KeepsSizes}
-use Rattle.gateway.proofs.Claims.Written.{whole-held, order-written, request-written, Writes, change-writes}
-use Rattle.gateway.proofs.Claims.Header.{Headed, change-head}
+use Rattle.claims.specs.Claims.{WritesChange, Sizes, KeepsSizes}
+use Rattle.claims.proofs.Written.{whole-held, order-written, request-written, Writes, change-writes}
+use Rattle.claims.proofs.Header.{Headed, change-head}
 
 -- ---- the questions
 

@@ -1,5 +1,5 @@
 -- Demands 1 and 3 on bytes: what holds of `start`, `check` and `event` for every input, and of every list of calls. Rests on Entries, Questions and machine's
--- Claim. The proofs are in proofs/Claims.
+-- Claim. The proofs are in proofs/.
 use Prim.Native.Nat.{ℕ, _^_, _≤_, _<_}
 use mathlib.Core.Path.{_≡_}
 use mathlib.Core.Logic.{_⊎_}
@@ -18,8 +18,8 @@ use Rattle.machine.specs.Machine.{stepOf, after}
 use Rattle.machine.specs.History.{Decoded, unread, readAs}
 use Rattle.machine.specs.Calls.{Form, lineAt, calls}
 use Rattle.machine.specs.Claim.{Demand3, OneOrder}
 use Rattle.gateway.specs.Entries.{bookWith, Outcome, eventOf, startOf, startRefusal, checkOf}
-use Rattle.gateway.specs.Questions.{adds, firstNo}
+use Rattle.claims.specs.Questions.{adds, firstNo}
 
 -- ---- demand 1
 

@@ -21,7 +21,7 @@ use Rattle.machine.specs.Machine.{orderLink, orderOf, factsOf, unused, bookOrde
 use Rattle.machine.proofs.Claim.Moves.{Moves, more-moves, cancelOrder-moves, failed-moves, unsent-moves, told-refusal, status-moves, cancel-goes-moves, replace-goes-moves, unknown-moves, reject-moves, report-moves}
 use Rattle.machine.proofs.Claim.Ruled.{Ruled, request-ruled}
 use Rattle.machine.proofs.Claim.Walk.{found-request, found-order, not-kind}
-use Rattle.gateway.specs.Questions.{isBooking, isReplace, used, replaced, passedAll, mispriced, adds, full}
+use Rattle.claims.specs.Questions.{isBooking, isReplace, used, replaced, passedAll, mispriced, adds, full}
 
 -- ---- a change that books nothing: its number, and its place among the orders in use
 

@@ -27,10 +27,10 @@ use Rattle.machine.proofs.Said.Steps.{answer-read}
 use Rattle.machine.proofs.Claim.Calls.{demand-of}
 use Rattle.machine.proofs.Claim.OneOrder.{stays-one}
 use Rattle.rules.specs.Keeps.{keepsOf, keeps-held}
 use Rattle.gateway.specs.Entries.{Outcome, callOf, eventOf, startRefusal, startOf}
-use Rattle.gateway.specs.Claims.{Call, readCall, heardOf, entries, Demand3OnBytes, StaysOneOnBytes}
-use Rattle.gateway.proofs.Claims.Header.{blank-keeps}
-use Rattle.gateway.proofs.Claims.Taken.{Asked, broken, short, unreadable, stepped, asked, Taken, call-taken, left, event-refused, returned-is, outcome-taken, either-way, whole, writes, keeps-after, keeps-sizes}
+use Rattle.claims.specs.Claims.{Call, readCall, heardOf, entries, Demand3OnBytes, StaysOneOnBytes}
+use Rattle.claims.proofs.Header.{blank-keeps}
+use Rattle.claims.proofs.Taken.{Asked, broken, short, unreadable, stepped, asked, Taken, call-taken, left, event-refused, returned-is, outcome-taken, either-way, whole, writes, keeps-after, keeps-sizes}
 
 -- ---- a call comes to what the machine's comes to
 
