@@ -1,21 +1,23 @@
--- Texts in a buffer, by words and parts: two of them compared, the zeros behind one, and its cell. Rests on store's Cells.
+-- Texts in a buffer, by words and parts: two of them compared, the zeros behind one, and its cell. Rests on text's InPlace and store's Cells.
 use mathlib.Core.Path.{_≡_, refl, sym, ap, ap₂, _∙_}
 use mathlib.Core.Bool.{Bool, true, false, _&&_, and-true, and-false}
-use mathlib.Core.List.{List, [], _∷_, _++_}
-use Prim.Native.Nat.{ℕ, zero, suc, _+_, _-_, _%_, _^_, _≤_, _<_}
+use mathlib.Core.List.{List, _++_}
+use Prim.Native.Nat.{ℕ, _+_, _-_, _%_, _^_, _≤_, _<_}
 use native.Mathlib.Nat.{add-zero}
 use native.Mathlib.Decide.{decLt}
 use native.Mathlib.Omega.{arith}
 use borrow.Author.Tests.{eqb-true, eq-eqb, lt-ltb, le-ltb, le-leb}
+use lib.Bits.{bitOr}
 use lib.Dec.{eqb, leb}
 use lib.ListN.{length, getD}
-use Rattle.prelude.specs.Below.{allBelow, all-intro, all-elim}
+use Rattle.prelude.specs.Below.{allBelow, all-intro, all-elim, all-ext}
 use Rattle.prelude.specs.Cases.{both-true, both-hold, test-same}
 use Rattle.prelude.specs.Number.{Bytes, number, bytesOf, word64, word64-number, bytes-number}
 use Rattle.prelude.specs.Span.{span, length-span, get-span, span-join}
 use Rattle.prelude.specs.Texts.{textAt, agreeAt, sameText, same-text, filledAt, isText}
 use Rattle.prelude.specs.Bytes.{bytes-span}
 use Rattle.prelude.specs.declared.Text.{Text}
+use Rattle.text.specs.InPlace.{fill-more}
 use Rattle.store.specs.Cells.{within-64}
 
 -- the words of the texts at two indexes agree
@@ -100,47 +102,15 @@ module _ (s : List ℕ) (bytes : Bytes s) where
 abbrev pub zeroAt : List ℕ → ℕ → ℕ → Bool
 zeroAt s at k = eqb (getD s (at + k) 0) 0
 
--- a number is 0 exactly where its bytes are
-pub number-zeros : (l : List ℕ) → ((k : ℕ) → k < length l → getD l k 0 ≡ 0) → number l ≡ 0
-number-zeros [] h = refl
-number-zeros (x ∷ l) h =
-    let z : x ≡ 0 = h 0 (omega arith) in
-    let r : number l ≡ 0 = number-zeros l (λ k u. h (suc k) (omega arith)) in
-    omega arith
-
-zeros-number : (l : List ℕ) → number l ≡ 0 → (k : ℕ) → getD l k 0 ≡ 0
-zeros-number [] e k = refl
-zeros-number (x ∷ l) e zero = omega arith
-zeros-number (x ∷ l) e (suc k) = zeros-number l (omega arith) k
-
--- eight zeros are a word that is 0
-zero-word : (s : List ℕ) (x : ℕ) → x + 8 ≤ length s → eqb (word64 s x) 0 ≡ allBelow (zeroAt s x) 8
-zero-word s x h =
-    let l : length (span s x 8) ≡ 8 = length-span s x 8 h in
-    test-same (eqb (word64 s x) 0) (allBelow (zeroAt s x) 8)
-    (λ e. let z : number (span s x 8) ≡ 0 = sym (word64-number s x h) ∙ eqb-true (word64 s x) 0 e in
-    all-intro (zeroAt s x) 8 (λ k u. eq-eqb _ _ (sym (get-span s x 8 k u) ∙ zeros-number (span s x 8) z k)))
-    (λ e. eq-eqb (word64 s x) 0
-    (word64-number s x h
-    ∙ number-zeros (span s x 8)
-    (λ k u. let v : k < 8 = omega arith in get-span s x 8 k v ∙ eqb-true (getD s (x + k) 0) 0 (all-elim (zeroAt s x) 8 e k v))))
-
 module _ (s : List ℕ) (at : ℕ) where
-  -- THE LAW of 16 zeros by two words
-  pub zero-words : at + 16 ≤ length s → eqb (word64 s at) 0 && eqb (word64 s (at + 8)) 0 ≡ allBelow (zeroAt s at) 16
-  zero-words h =
-      rw (zero-word s at (omega arith), zero-word s (at + 8) (omega arith))
-      (test-same (allBelow (zeroAt s at) 8 && allBelow (zeroAt s (at + 8)) 8) (allBelow (zeroAt s at) 16)
-      (λ e. let p = both-true (allBelow (zeroAt s at) 8) (allBelow (zeroAt s (at + 8)) 8) e in all-intro (zeroAt s at) 16 (λ k u. go p k u (decLt k 8)))
-      (λ e. both-hold _ _
-      (all-intro (zeroAt s at) 8 (λ k u. all-elim (zeroAt s at) 16 e k (omega arith)))
-      (all-intro (zeroAt s (at + 8)) 8 (λ k u. let z : at + 8 + k ≡ at + (8 + k) = omega arith in rw z (all-elim (zeroAt s at) 16 e (8 + k) (omega arith))))))
-    where
-      go : (allBelow (zeroAt s at) 8 ≡ true) × (allBelow (zeroAt s (at + 8)) 8 ≡ true) → (k : ℕ) → k < 16 → Dec (k < 8) → zeroAt s at k ≡ true
-      go p k u (yes d) = all-elim (zeroAt s at) 8 (p .0) k d
-      go p k u (no d) =
-          let z : at + 8 + (k - 8) ≡ at + k = omega arith in
-          rw z at (all-elim (zeroAt s (at + 8)) 8 (p .1) (k - 8) (omega arith))
+  -- bytes that are gathered by OR are those of a text of no length
+  as-text : (n : ℕ) → n ≤ 16 → allBelow (zeroAt s at) n ≡ allBelow (filledAt (bare (span s at 16))) n
+  as-text n h = all-ext _ _ n (λ k l. rw (le-ltb k 0 (omega arith), get-span s at 16 k (omega arith)))
+
+  -- one byte more
+  pub zero-more : (k a : ℕ) → k < 16 → eqb a 0 ≡ allBelow (zeroAt s at) k → eqb (bitOr a (getD s (at + k) 0)) 0 ≡ allBelow (zeroAt s at) (k + 1)
+  zero-more k a h e =
+      fill-more (bare (span s at 16)) k a (getD s (at + k) 0) (omega arith) (get-span s at 16 k h) (e ∙ as-text k (omega arith)) ∙ sym (as-text (k + 1) (omega arith))
 
   -- a byte behind the text
   behind : (k : ℕ) → k < 32 → getD s (at + 32) 0 ≤ k → filledAt (textAt s at) k ≡ true → getD s (at + k) 0 ≡ 0

@@ -22,7 +22,7 @@ use Rattle.text.specs.Numbered.{decimal, decimal-digit, decimal-more, numberedT
 use Rattle.text.specs.NameLaws.{Fits, numbered-fits, numbered-is-text, numbered-long, numbered-contents, numbered-len}
 use Rattle.format.specs.Codes.{isName, isNone, alnumAt}
 use Rattle.machine.specs.Ranges.{nameRange}
-use Rattle.rules.specs.Places.{number-zeros, zero-behind, word-span}
+use Rattle.rules.specs.Places.{zero-behind, word-span}
 
 -- the dash and the digits of k, as a word and how many they are
 pub record IsSuffix (k word len : ℕ) : Type 0 where
@@ -148,6 +148,13 @@ number-append (x ∷ a) b = let e : number (a ++ b) ≡ number a + bound (length
   where
     spread : (x a c b : ℕ) → x + 256 * (a + c * b) ≡ x + 256 * a + 256 * c * b
     spread x a c b = let e : 256 * c * b ≡ 256 * (c * b) = mul-assoc 256 c b in omega arith
+
+number-zeros : (l : List ℕ) → ((k : ℕ) → k < length l → getD l k 0 ≡ 0) → number l ≡ 0
+number-zeros [] h = refl
+number-zeros (x ∷ l) h =
+    let z : x ≡ 0 = h 0 (omega arith) in
+    let r : number l ≡ 0 = number-zeros l (λ k u. h (suc k) (omega arith)) in
+    omega arith
 
 -- ---- a name in range
 

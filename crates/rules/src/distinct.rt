@@ -1,6 +1,7 @@
-// Names are distinct, and ClOrdIDs within a client, in one pass with local marks, a bit for a cell: a thing in an
-// unmarked cell is new, and another is compared with the earlier things of its cell alone.
-// Rests on words and bits. The things are the requests with their ClOrdIDs where `keyed`, else the orders.
+// Names are distinct, and ClOrdIDs within a client, in one pass with local marks, a bit for a cell:
+// a thing in an unmarked cell is new, and another is compared with the earlier things of its cell
+// alone. Rests on words and bits. The things are the requests with their ClOrdIDs where `keyed`,
+// else the orders.
 ghost use mathlib.Core.Path.{_≡_};
 ghost use mathlib.Core.Bool.{true, false};
 ghost use Prim.Native.Nat.{ℕ, _+_, _≤_, _<_};

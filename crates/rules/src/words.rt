@@ -89,14 +89,18 @@ pub(crate) fn same_at(s: &[u8], x: usize, y: usize) -> bool
     s[x + 32] == s[y + 32]
 }
 
-// Whether the 16 bytes from an index are zeros, by two words.
+// Whether the 16 bytes from an index are zeros.
 fn zeros(s: &[u8], at: usize) -> bool
     requires { ⌜ at + 16 ≤ length (now s) ⌝ }
     ensures { λ r. ⌜ r ≡ allBelow (zeroAt (now (s .entry)) at) 16 ⌝ }
 {
-    let a = get64(s, at);
-    let b = get64(s, at + 8);
-    (a == 0) & (b == 0)
+    let mut acc: u8 = 0;
+    let mut k: usize = 0;
+    while k < 16 {
+        acc = acc | s[at + k];
+        k += 1;
+    }
+    acc == 0
 }
 
 // Whether a text as it is stored stands at an index: zeros after it, up to 16 bytes by two parts
