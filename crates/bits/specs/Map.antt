@@ -33,7 +33,7 @@ mapOf (k ∷ ks) = 2 ^ k + mapOf ks
 abbrev pub contains : ℕ → ℕ → Bool
 contains m n = eqb (bitAnd m n) n
 
-digit-two : (m k : ℕ) → digit m k < 2
+pub digit-two : (m k : ℕ) → digit m k < 2
 digit-two m k = mod-lt (m / 2 ^ k) (zero-lt-suc 1)
 
 pub two : (n : ℕ) → n < 2 → (n ≡ 0) ⊎ (n ≡ 1)
@@ -52,7 +52,7 @@ digit-out m k h l = ap (λ (n : ℕ). n % 2) (div-eq-of-lt (below k l))
         go zero e = let z : 32 ≡ k = omega arith in rw (← z) h
         go (suc d) e = let z : 2 ^ 32 < 2 ^ k = pow-lt {i = 32} {j = k} (omega arith) in omega arith
 
-digit-and : (m n k : ℕ) → digit (bitAnd m n) k ≡ min (digit m k) (digit n k)
+pub digit-and : (m n k : ℕ) → digit (bitAnd m n) k ≡ min (digit m k) (digit n k)
 digit-and m n k =
     rw (and-shr m n k, and-step (m / 2 ^ k) (n / 2 ^ k)) (omega (arith, digit-two m k, digit-two n k))
 

@@ -24,13 +24,13 @@ use Rattle.machine.specs.Calls.{lineAt, calls, Faithful}
 use Rattle.machine.specs.Claim.{Demand3, OneOrder}
 use Rattle.machine.proofs.Said.Reads.{event-kind}
 use Rattle.machine.proofs.Said.Steps.{answer-read}
-use Rattle.machine.proofs.Claim.Calls.{demand-of}
+use Rattle.machine.proofs.Claim.Calls.{demand-of, since-return}
 use Rattle.machine.proofs.Claim.OneOrder.{stays-one}
 use Rattle.rules.specs.Keeps.{keepsOf, keeps-held}
 use Rattle.gateway.specs.Entries.{Outcome, callOf, eventOf, startRefusal, startOf}
-use Rattle.claims.specs.Claims.{Call, readCall, heardOf, entries, Demand3OnBytes, StaysOneOnBytes}
+use Rattle.claims.specs.Claims.{Call, readCall, heardOf, entries, Demand3OnBytes, Passes, SinceOnBytes, StaysOneOnBytes}
 use Rattle.claims.proofs.Header.{blank-keeps}
-use Rattle.claims.proofs.Taken.{Asked, broken, short, unreadable, stepped, asked, Taken, call-taken, left, event-refused, returned-is, outcome-taken, either-way, whole, writes, keeps-after, keeps-sizes}
+use Rattle.claims.proofs.Taken.{Asked, broken, short, unreadable, stepped, asked, Taken, call-taken, left, event-refused, returned-is, outcome-taken, either-way, whole, writes, check-kept, kept-check, keeps-after, keeps-sizes}
 
 -- ---- a call comes to what the machine's comes to
 
@@ -151,6 +151,19 @@ pub demand3 : Demand3OnBytes
 demand3 b setting small z cs =
     subst (λ (x : List ℕ). Demand3 (calls entries x [] cs)) (sym (start-is b setting z))
     (demand-of entries Good faithful kinds setting (blank setting) (record { keeps = blank-keeps setting; bytes = bytes-blank setting }) (blank-book setting small) cs)
+
+-- SINCE A RETURN, on bytes
+good : {b : List ℕ} → Passes b → Good b
+good {b} p = record { keeps = kept-check b (p .passes); bytes = p .bytes }
+
+passing : Faithful entries Passes
+passing = record {
+  same = λ b i p. same-line b i (good p);
+  stays = λ b i p. let g = stays b i (good p) in record { bytes = g .bytes; passes = check-kept _ (g .keeps) };
+}
+
+pub since-on-bytes : SinceOnBytes
+since-on-bytes = since-return entries Passes passing (λ b p. keeps-held b (kept-check b (p .passes)) .rules) kinds
 
 -- ---- one order stays one order
 

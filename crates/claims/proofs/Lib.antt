@@ -4,3 +4,4 @@ pub mod Refusals
 pub mod Taken
 pub mod Demands
 pub mod Calls
+pub mod Exchange

@@ -16,8 +16,9 @@ use Rattle.store.specs.Book.{requestIn, bookOf}
 use Rattle.machine.specs.Changes.{Message}
 use Rattle.machine.specs.Machine.{stepOf, after}
 use Rattle.machine.specs.History.{Decoded, unread, readAs}
-use Rattle.machine.specs.Calls.{Form, lineAt, calls}
+use Rattle.machine.specs.Calls.{Form, lineAt, calls, Step, stateOf, returned, follow}
 use Rattle.machine.specs.Claim.{Demand3, OneOrder}
+use Rattle.machine.specs.Since.{Demand3From, Net}
 use Rattle.gateway.specs.Entries.{bookWith, Outcome, eventOf, startOf, startRefusal, checkOf}
 use Rattle.claims.specs.Questions.{adds, firstNo}
 
@@ -106,6 +107,21 @@ entries = record {
 -- DEMAND 3: after start with any setting and any list of calls
 abbrev pub Demand3OnBytes : Type 0
 Demand3OnBytes = (b : List ℕ) (setting : ℕ) → setting < 2 ^ 32 → startRefusal b ≡ 0 → (cs : List Call) → Demand3 (calls entries (startOf b setting) [] cs)
+
+-- ---- wish 10: since a return
+
+-- bytes that check passes
+pub record Passes (b : List ℕ) : Type 0 where
+  pub bytes : Bytes b
+  pub passes : checkOf b ≡ 0
+
+-- SINCE A RETURN: after any list of calls and returns, each return to any bytes that check passes, reached by calls or not. What is counted is
+-- counted since the last return, and starts from what its image held.
+abbrev pub SinceOnBytes : Type 0
+SinceOnBytes = (b : List ℕ) → Passes b → (is : List (Step entries Passes))
+    → let s = follow entries (returned entries b) is in Demand3From (bookOf (s .image)) (stateOf entries s) × Net (bookOf (s .image)) (stateOf entries s)
+
+-- ---- one order
 
 -- ONE ORDER STAYS ONE ORDER: an event 4 to 8 that is taken and names a downstream ClOrdID of the book changes just the order of that request
 abbrev pub StaysOneOnBytes : Type 0

@@ -3,13 +3,16 @@ pub mod Moves
 pub mod Ruled
 pub mod Walk
 pub mod Filled
+pub mod Net
 pub mod Turn
+pub mod Image
 pub mod Shapes
 pub mod Fresh
 pub mod Records
 pub mod Steps
 pub mod Events
 pub mod Whole
+pub mod Start
 pub mod Touches
 pub mod OneOrder
 pub mod Calls

@@ -2,3 +2,4 @@ pub mod Numbered
 pub mod Kept
 pub mod Claim
 pub mod Said
+pub mod Exchange

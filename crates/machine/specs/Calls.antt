@@ -28,3 +28,27 @@ module _ {In Held : Type 0} (f : Form In Held) where
   pub record Faithful (good : Held → Type 0) : Type 0 where
     pub same : (h : Held) (i : In) → good h → lineAt h i ≡ lineOf (f .bookOf h) (f .read i) (comesTo (f .bookOf h) (f .read i))
     pub stays : (h : Held) (i : In) → good h → good (f .next h i)
+
+  -- ---- calls and returns
+
+  -- a call, or a return: the image, a form that is good, takes the book's place
+  pub data Step (good : Held → Type 0) : Type 0 where
+    call : In → Step good
+    back : (image : Held) → good image → Step good
+
+  -- the image last returned to, or what there was at first, and what has happened since
+  pub record Since : Type 0 where
+    pub image : Held
+    pub held : Held
+    pub past : List Entry
+
+  abbrev pub stateOf : Since → State
+  stateOf s = record { book = f .bookOf (s .held); past = s .past }
+
+  abbrev pub returned : Held → Since
+  returned h = record { image = h; held = h; past = [] }
+
+  abbrev pub follow : {good : Held → Type 0} → Since → List (Step good) → Since
+  follow s [] = s
+  follow s (call i ∷ is) = follow (record { image = s .image; held = f .next (s .held) i; past = lineAt (s .held) i ∷ s .past }) is
+  follow s (back h g ∷ is) = follow (returned h) is

@@ -1,4 +1,4 @@
--- The claim's words on small lists of calls, by computation: what is counted, what failed, the tries, and what was told. Rests on Claim.
+-- The claim's words on small lists of calls, by computation: what is counted, what failed, the tries, and what was told. Rests on Claim and Since.
 use Prim.Native.Nat.{ℕ, _+_}
 use mathlib.Core.Path.{_≡_, refl}
 use mathlib.Core.Bool.{Bool, true, false}
@@ -12,7 +12,7 @@ use Rattle.text.specs.Numbered.{numberedText, decimal, digitsOf}
 use Rattle.wide.specs.Wide.{fillPrice, implied, told, nearest, up, atHalf}
 use Rattle.text.specs.Words.{noText}
 use Rattle.machine.specs.Orders.{noTerms, oneMore, hasPending, hasGateway, limitPrice, isDone, leavesQty, statusAt, setStatus, keptOrderId, recordVenueOrderId, pendingTerms, applyReplace, nextSequence, nextExec}
-use Rattle.store.specs.Book.{orderIn}
+use Rattle.store.specs.Book.{Book, orderIn}
 use Rattle.machine.specs.Codes.{partiallyFilled, execTrade, limit}
 use Rattle.machine.specs.Messages.{mask, noExec, noTold, noLongText, bitIf, termsBits, noteBits, report, cancelReject, toVenue, newOrder, cancelRequest, replaceRequest}
 use Rattle.machine.specs.Changes.{Event, isFirst, isReplace, isGateway, isCancel, isAnswered, unchanged, refusing, answering, superseding, adding, telling, alarming, nextLink, nextNumber, nextDownstream, nextRequest, numberedOrder}
@@ -26,6 +26,7 @@ use Rattle.machine.specs.Ranges.{isQty, isPrice, textWithin, nameRange}
 use Rattle.machine.specs.Rules.{rules, namesRange, forceRange, pricedRange, termsRange, pendingRange, gatewayRange, orderRange, requestRange, linked, currentRule, cancelRule, pendingRule, filledRule, statusRule, doneRule, triesRule, amendmentsRule, orderRule, numberIn, nameNumber, numberRule, inFlightRule, requestRule, sameKey}
 use Rattle.machine.specs.History.{Decoded, unread, readAs, comesTo, spoken, messagesOf, leftBy, State, start, run}
 use Rattle.machine.specs.Claim.{toldOf, starts, cancelsIn, once, putOutBy, putOut, failed}
+use Rattle.machine.specs.Since.{downstreams, newBy, newOut, baseTries, baseOut, fresh}
 
 -- ---- order X of client 7 at venue 3, 100 of symbol W; the client's ClOrdIDs are C and then D
 
@@ -71,13 +72,13 @@ fills : Decoded
 fills = readAs (event 4 (mask (1 ∷ 5 ∷ 12 ∷ 13 ∷ 14 ∷ 15 ∷ 16 ∷ 17 ∷ [])) [] [] [] (88 ∷ []))
 
 -- the venue's cancel reject, a failed send, and a send again, of the request of that number
-rejects : ℕ → Decoded
-rejects n = readAs (record {
+rejectsFor : (reason n : ℕ) → Decoded
+rejectsFor reason n = readAs (record {
   kind = 6;
   map = mask (1 ∷ 5 ∷ 19 ∷ []);
   client = 0;
   venue = 3;
-  reason = 99;
+  reason = reason;
   verdict = 0;
   ids = event 6 0 [] [] [] (numbered n) .ids;
   terms = noTerms;
@@ -85,6 +86,9 @@ rejects n = readAs (record {
   told = noTold;
   text = noLongText;
 })
+
+rejects : ℕ → Decoded
+rejects = rejectsFor 99
 
 fails : ℕ → Decoded
 fails n = readAs (event 7 (mask (1 ∷ 5 ∷ 20 ∷ [])) [] [] [] (numbered n))
@@ -139,5 +143,51 @@ record Facts : Type 0 where
   refused : countsOf (books ∷ fills ∷ unread 3 ∷ books ∷ fills ∷ []) ≡ filled 400000 400000
 
 facts : Facts
-unfolding event numbered books cancels asks fills rejects fails sendsAgain countsOf standing filled allBelow firstBelow countBelow if_then_else_ maybe textOf contents sameText isText numberedText decimal digitsOf fillPrice implied told nearest up atHalf oneMore hasPending hasGateway limitPrice isDone leavesQty statusAt setStatus keptOrderId recordVenueOrderId pendingTerms applyReplace nextSequence nextExec bitIf termsBits noteBits report cancelReject toVenue newOrder cancelRequest replaceRequest isFirst isReplace isGateway isCancel isAnswered unchanged refusing answering superseding adding telling alarming nextLink nextNumber nextDownstream nextRequest numberedOrder outstandingCancel gatewayCancelInFlight begun trySent givenUp sendGatewayCancel cancelOrder gatewayCancelWaiting resumeGatewayCancel stuck retryGatewayCancel saysGone gatewayCancelRefused matches amendRefusal refuse statusReport alreadyTaken cancelRefusal cancelGoes cancel pricedRight notPending refusedOrder refusedNote refuseRequest venueNote venueCancelReject sendRefused firstFailed sendFailed resendable unsent saysUnknownAtVenue unknownAtVenue isRejection pendingHere behind stale repeats droppedStale droppedRepeat statusTaken accepts answersRequest orderedQty reportedOrder fillPriceOf reportNote clientReport settles applyReport venueReport findName findDownstream findClordid ofClient countClordids orderOf latestCancel orderAtLink factsOf bookedOrder firstRequest unused bookOrder amending onRequest onReport onName changeOf hasRoom stepOf answerLink ordersAfter requestsAfter after isSide isOrdtype isTimeinforce isStatus isQty isPrice textWithin sides ordtypes timesinforce statuses isAlnum isNone isName nameRange rules namesRange forceRange pricedRange termsRange pendingRange gatewayRange orderRange requestRange linked currentRule cancelRule pendingRule filledRule statusRule doneRule triesRule amendmentsRule orderRule numberIn nameNumber numberRule inFlightRule requestRule sameKey comesTo spoken messagesOf leftBy starts cancelsIn once putOutBy
+unfolding event numbered books cancels asks fills rejectsFor rejects fails sendsAgain countsOf standing filled allBelow firstBelow countBelow if_then_else_ maybe textOf contents sameText isText numberedText decimal digitsOf fillPrice implied told nearest up atHalf oneMore hasPending hasGateway limitPrice isDone leavesQty statusAt setStatus keptOrderId recordVenueOrderId pendingTerms applyReplace nextSequence nextExec bitIf termsBits noteBits report cancelReject toVenue newOrder cancelRequest replaceRequest isFirst isReplace isGateway isCancel isAnswered unchanged refusing answering superseding adding telling alarming nextLink nextNumber nextDownstream nextRequest numberedOrder outstandingCancel gatewayCancelInFlight begun trySent givenUp sendGatewayCancel cancelOrder gatewayCancelWaiting resumeGatewayCancel stuck retryGatewayCancel saysGone gatewayCancelRefused matches amendRefusal refuse statusReport alreadyTaken cancelRefusal cancelGoes cancel pricedRight notPending refusedOrder refusedNote refuseRequest venueNote venueCancelReject sendRefused firstFailed sendFailed resendable unsent saysUnknownAtVenue unknownAtVenue isRejection pendingHere behind stale repeats droppedStale droppedRepeat statusTaken accepts answersRequest orderedQty reportedOrder fillPriceOf reportNote clientReport settles applyReport venueReport findName findDownstream findClordid ofClient countClordids orderOf latestCancel orderAtLink factsOf bookedOrder firstRequest unused bookOrder amending onRequest onReport onName changeOf hasRoom stepOf answerLink ordersAfter requestsAfter after isSide isOrdtype isTimeinforce isStatus isQty isPrice textWithin sides ordtypes timesinforce statuses isAlnum isNone isName nameRange rules namesRange forceRange pricedRange termsRange pendingRange gatewayRange orderRange requestRange linked currentRule cancelRule pendingRule filledRule statusRule doneRule triesRule amendmentsRule orderRule numberIn nameNumber numberRule inFlightRule requestRule sameKey comesTo spoken messagesOf leftBy starts cancelsIn once putOutBy
 facts = record { twice = refl; again = refl; unsent! = refl; over = refl; waits = refl; resumed = refl; retried = refl; refused = refl }
+
+-- ---- since an image: what a first list of calls leaves is the image of a second
+
+record Since : Type 0 where
+  new : List (List ℕ)
+  -- of the image, what counts still: its gateway cancel requests, and its tries
+  held : List (List ℕ)
+  base : ℕ
+  failures : ℕ
+  tries : ℕ
+
+sinceOf : (before after : List Decoded) → Since
+sinceOf before after =
+    let image : Book = run (λ i. i) (start 10000) before .book in
+    let s : State = run (λ i. i) (fresh image) after in
+    let out : List Text = newOut image (textOf (88 ∷ [])) (s .past) in
+    let held : List Text = baseOut image (textOf (88 ∷ [])) (s .past) in
+    record {
+      new = map contents out;
+      held = map contents held;
+      base = baseTries image (textOf (88 ∷ [])) (s .past);
+      failures = howMany (failed (s .past)) out + howMany (failed (s .past)) held;
+      tries = orderIn (s .book) 0 .gateway .tries;
+    }
+
+counted : (new held : List (List ℕ)) (base failures tries : ℕ) → Since
+counted new held base failures tries = record { new = new; held = held; base = base; failures = failures; tries = tries }
+
+-- each rules out a near reading
+record SinceFacts : Type 0 where
+  -- the image's request sent again is not new
+  again : sinceOf (books ∷ asks ∷ []) (sendsAgain 1 ∷ []) ≡ counted [] (numbered 1 ∷ []) 1 0 1
+  -- the send of an image's request fails: it comes off the image's tries
+  unsent! : sinceOf (books ∷ asks ∷ []) (fails 1 ∷ []) ≡ counted [] (numbered 1 ∷ []) 1 1 0
+  -- a client's does not
+  client : sinceOf (books ∷ cancels ∷ asks ∷ []) (fails 1 ∷ []) ≡ counted [] [] 0 0 0
+  -- begun again, nothing of the image counts
+  over : sinceOf (books ∷ asks ∷ rejectsFor 1 1 ∷ []) (asks ∷ []) ≡ counted (numbered 2 ∷ []) [] 0 0 1
+  -- the image's tries are not its requests: one whose send failed before is still among them
+  before : sinceOf (books ∷ asks ∷ fails 1 ∷ []) [] ≡ counted [] (numbered 1 ∷ []) 0 0 0
+  -- a refusal is no failed send
+  refused : sinceOf (books ∷ asks ∷ []) (rejects 1 ∷ []) ≡ counted (numbered 2 ∷ []) (numbered 1 ∷ []) 1 0 2
+
+since-facts : SinceFacts
+unfolding event numbered books cancels asks fills rejectsFor rejects fails sendsAgain sinceOf counted allBelow firstBelow countBelow if_then_else_ maybe textOf contents sameText isText numberedText decimal digitsOf fillPrice implied told nearest up atHalf oneMore hasPending hasGateway limitPrice isDone leavesQty statusAt setStatus keptOrderId recordVenueOrderId pendingTerms applyReplace nextSequence nextExec bitIf termsBits noteBits report cancelReject toVenue newOrder cancelRequest replaceRequest isFirst isReplace isGateway isCancel isAnswered unchanged refusing answering superseding adding telling alarming nextLink nextNumber nextDownstream nextRequest numberedOrder outstandingCancel gatewayCancelInFlight begun trySent givenUp sendGatewayCancel cancelOrder gatewayCancelWaiting resumeGatewayCancel stuck retryGatewayCancel saysGone gatewayCancelRefused matches amendRefusal refuse statusReport alreadyTaken cancelRefusal cancelGoes cancel pricedRight notPending refusedOrder refusedNote refuseRequest venueNote venueCancelReject sendRefused firstFailed sendFailed resendable unsent saysUnknownAtVenue unknownAtVenue isRejection pendingHere behind stale repeats droppedStale droppedRepeat statusTaken accepts answersRequest orderedQty reportedOrder fillPriceOf reportNote clientReport settles applyReport venueReport findName findDownstream findClordid ofClient countClordids orderOf latestCancel orderAtLink factsOf bookedOrder firstRequest unused bookOrder amending onRequest onReport onName changeOf hasRoom stepOf answerLink ordersAfter requestsAfter after isSide isOrdtype isTimeinforce isStatus isQty isPrice textWithin sides ordtypes timesinforce statuses isAlnum isNone isName nameRange rules namesRange forceRange pricedRange termsRange pendingRange gatewayRange orderRange requestRange linked currentRule cancelRule pendingRule filledRule statusRule doneRule triesRule amendmentsRule orderRule numberIn nameNumber numberRule inFlightRule requestRule sameKey comesTo spoken messagesOf leftBy starts cancelsIn once downstreams newBy
+since-facts = record { again = refl; unsent! = refl; client = refl; over = refl; before = refl; refused = refl }

@@ -11,6 +11,7 @@ pub mod Ranges
 pub mod Rules
 pub mod History
 pub mod Claim
+pub mod Since
 pub mod Counted
 pub mod Calls
 pub mod Events
@@ -19,3 +20,5 @@ pub mod Whole
 pub mod Broken
 pub mod Reads
 pub mod Said
+pub mod Exchange
+pub mod ExchangeDay

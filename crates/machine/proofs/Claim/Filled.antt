@@ -1,21 +1,20 @@
--- The first three parts of demand 3: LastQty, the quantity ordered, and a done status. Rests on Walk and Moves.
+-- The first three parts of demand 3, call by call: what was told and filled, the quantity ordered, and a done status. Rests on Walk and Moves.
 use Prim.Native.Nat.{ℕ, _+_, _-_, _≤_, _<_}
-use native.Mathlib.Nat.{not-suc-le-zero}
 use native.Mathlib.Decide.{ℕ-discrete, decLt}
 use native.Mathlib.Omega.{arith}
 use mathlib.Core.Path.{_≡_, refl, sym, ap, _∙_, subst}
 use mathlib.Core.Logic.{_⊎_, inl, inr}
-use mathlib.Core.Bool.{true, false}
+use mathlib.Core.Bool.{Bool, true, false}
 use mathlib.Core.Option.{Option, none, some}
 use mathlib.Core.List.{List, [], _∷_, _++_}
 use lib.Dec.{eqb}
 use lib.ListN.{length, getD, set, length-append, length-set, List·getD-append}
 use lib.Seq.{getD-at, getD-set-same, getD-set-other}
-use borrow.Author.Tests.{eqb-true, eq-eqb, ne-eqb, le-leb, lt-leb}
-use Rattle.prelude.specs.Below.{first-some, first-elim, first-hit, first-ext, First}
+use borrow.Author.Tests.{leb-true, eqb-true, eq-eqb, ne-eqb, le-leb, lt-leb}
+use Rattle.prelude.specs.Below.{first-some, first-hit, first-ext, First}
 use Rattle.prelude.specs.Cases.{if_then_else_, maybe, split-if, if-true, if-false, true-or-false, none-some}
 use Rattle.prelude.specs.Texts.{sameText}
-use Rattle.prelude.specs.Totals.{totalOf, Every, every[], every∷, every-map}
+use Rattle.prelude.specs.Totals.{totalOf, Every, every[], every∷, total-append, every-map}
 use Rattle.prelude.specs.declared.Text.{Text}
 use Rattle.store.specs.declared.Order.{Order}
 use Rattle.store.specs.Book.{Book, orderIn, requestIn}
@@ -25,13 +24,15 @@ use Rattle.machine.specs.Changes.{Event, Message, unchanged, refusing, a
 use Rattle.machine.specs.Amend.{cancel, replace}
 use Rattle.store.specs.Finds.{findName}
 use Rattle.machine.specs.Machine.{factsOf, bookedOrder, ordersAfter, after, onReport, stepOf}
-use Rattle.machine.specs.Rules.{rules}
-use Rattle.machine.specs.History.{Decoded, unread, readAs, comesTo, spoken, messagesOf, leftBy, lineOf, State, start, next, run}
-use Rattle.machine.specs.Claim.{lastQty, toldOf, statusOf, Each}
+use Rattle.machine.specs.Rules.{rules, filledRule}
+use Rattle.machine.specs.History.{Decoded, unread, readAs, comesTo, spoken, messagesOf, leftBy, lineOf, State, next, run}
+use Rattle.machine.specs.Claim.{statusOf, Each}
+use Rattle.machine.specs.Since.{fresh}
 use Rattle.machine.specs.declared.Change.{Change}
-use Rattle.machine.proofs.Claim.Laws.{tells}
+use Rattle.machine.proofs.Kept.Lift.{BookKept}
+use Rattle.machine.proofs.Claim.Laws.{tells, Whose, whose, toldBy, filledBy, total-set}
 use Rattle.machine.proofs.Claim.Moves.{Moves, more-moves, cancelOrder-moves, failed-moves, unsent-moves, told-refusal, status-moves, cancel-goes-moves, replace-goes-moves, unknown-moves, reject-moves, report-moves}
-use Rattle.machine.proofs.Claim.Ruled.{Ruled, ruled, one-name}
+use Rattle.machine.proofs.Claim.Ruled.{ruled}
 use Rattle.machine.proofs.Claim.Walk.{booking, Did, Roomy, turned-away, no-order, on-order, new-order, found-order, Either, Handles, step-walk, refusing-bystands, refusing-away}
 
 -- ---- every handler moves its order
@@ -82,33 +83,29 @@ pub orders-more : (os : List Order) (c : Change) → c .place ≡ length os + 1 
 unfolding ordersAfter
 orders-more os c p = if-false _ _ _ (ne-eqb (c .place) 0 (λ z. omega arith)) ∙ if-false _ _ _ (lt-leb (c .place) (length os) (omega arith))
 
--- ---- a book after another: no order is lost, and each keeps its name and a done status
+-- ---- a book after another: no order is lost, and each keeps what never changes and a done status
 
 pub record Persists (b b′ : Book) : Type 0 where
   pub longer : length (b .orders) ≤ length (b′ .orders)
-  pub names : (i : ℕ) → i < length (b .orders) → orderIn b′ i .names .name ≡ orderIn b i .names .name
+  pub same : (i : ℕ) → i < length (b .orders) → whose (orderIn b′ i) ≡ whose (orderIn b i)
   pub done : (i : ℕ) → i < length (b .orders) → isDone (orderIn b i .state .status) ≡ true → orderIn b′ i .state .status ≡ orderIn b i .state .status
 
 pub persists-same : (b : Book) → Persists b b
-persists-same b = record { longer = omega arith; names = λ i h. refl; done = λ i h d. refl }
+persists-same b = record { longer = omega arith; same = λ i h. refl; done = λ i h d. refl }
 
 module _ (b b′ : Book) (p : Persists b b′) where
+  pub same-name : (i : ℕ) → i < length (b .orders) → orderIn b′ i .names .name ≡ orderIn b i .names .name
+  same-name i h = ap (λ (w : Whose). w .name) (p .same i h)
+
   pub name-stays : (t : Text) (i : ℕ) → findName b t ≡ some i → findName b′ t ≡ some i
   unfolding findName
   name-stays t i h =
       let f : First (λ k. sameText (orderIn b k .names .name) t) (length (b .orders)) i = first-some _ _ i h in
       first-hit (λ k. sameText (orderIn b′ k .names .name) t) (length (b′ .orders)) i (let l = f .below in omega (arith, p .longer))
       (first-ext (λ k. sameText (orderIn b′ k .names .name) t) (λ k. sameText (orderIn b k .names .name) t) i
-      (λ k l. ap (λ (x : Text). sameText x t) (p .names k (let m = f .below in omega arith)))
+      (λ k l. ap (λ (x : Text). sameText x t) (same-name k (let m = f .below in omega arith)))
       ∙ f .least)
-      (ap (λ (x : Text). sameText x t) (p .names i (f .below)) ∙ f .passes)
-
-  pub still-unused : (t : Text) → findName b′ t ≡ none → findName b t ≡ none
-  still-unused t h = go (findName b t) refl
-    where
-      go : (x : Option ℕ) → findName b t ≡ x → x ≡ none
-      go none e = refl
-      go (some i) e = none-some h (name-stays t i e)
+      (ap (λ (x : Text). sameText x t) (same-name i (f .below)) ∙ f .passes)
 
   pub status-stays : (t : Text) (s : ℕ) → statusOf t b ≡ some s → isDone s ≡ true → statusOf t b′ ≡ some s
   unfolding maybe
@@ -124,35 +121,31 @@ module _ (b b′ : Book) (p : Persists b b′) where
 pub persists-trans : (a b c : Book) → Persists a b → Persists b c → Persists a c
 persists-trans a b c p q = record {
   longer = omega (arith, p .longer, q .longer);
-  names = λ i h. q .names i (omega (arith, p .longer)) ∙ p .names i h;
+  same = λ i h. q .same i (omega (arith, p .longer)) ∙ p .same i h;
   done = λ i h d. q .done i (omega (arith, p .longer)) (ap isDone (p .done i h d) ∙ d) ∙ p .done i h d;
 }
 
--- ---- one call: `old` stands for what has been told before it
+-- ---- one call
 
 pub record Advances (b : Book) (ms : List Message) (b′ : Book) : Type 0 where
   pub persists : Persists b b′
-  pub filled : (old : ℕ → Text → ℕ) → ((i : ℕ) → i < length (b .orders) → old (orderIn b i .client) (orderIn b i .names .name) ≡ orderIn b i .state .cumqty)
-      → ((client : ℕ) (t : Text) → findName b t ≡ none → old client t ≡ 0)
-      → (i : ℕ) → i < length (b′ .orders)
-      → totalOf (lastQty (orderIn b′ i .client) (orderIn b′ i .names .name)) ms + old (orderIn b′ i .client) (orderIn b′ i .names .name) ≡ orderIn b′ i .state .cumqty
-  pub quiet : (client : ℕ) (t : Text) → findName b′ t ≡ none → totalOf (lastQty client t) ms ≡ 0
+  -- whichever orders are looked at: what is told is what is filled
+  pub net : (t : Whose → Bool) → totalOf (filledBy t) (b .orders) + totalOf (toldBy t) ms ≡ totalOf (filledBy t) (b′ .orders)
   pub ordered : ((i : ℕ) → i < length (b .orders) → orderIn b i .state .cumqty ≤ orderIn b i .terms .qty)
       → (i : ℕ) → i < length (b′ .orders) → orderIn b′ i .state .cumqty ≤ orderIn b′ i .terms .qty
 
 -- the orders stay, and no report goes out
-still : (b : Book) (ms : List Message) (b′ : Book) → b′ .orders ≡ b .orders → ((client : ℕ) (t : Text) → totalOf (lastQty client t) ms ≡ 0) → Advances b ms b′
+still : (b : Book) (ms : List Message) (b′ : Book) → b′ .orders ≡ b .orders → ((t : Whose → Bool) → totalOf (toldBy t) ms ≡ 0) → Advances b ms b′
 still b ms b′ e q =
     subst (λ (os : List Order). Advances b ms (record { setting = b′ .setting; orders = os; requests = b′ .requests })) (sym e)
     (record {
-      persists = record { longer = omega arith; names = λ i h. refl; done = λ i h d. refl };
-      filled = λ old f u i h. let z = f i h in omega (arith, q (orderIn b i .client) (orderIn b i .names .name));
-      quiet = λ client t h. q client t;
+      persists = record { longer = omega arith; same = λ i h. refl; done = λ i h d. refl };
+      net = λ t. omega (arith, q t);
       ordered = λ f. f;
     })
 
 -- one order is changed
-module _ (b : Book) (r : Ruled b) (c : Change) (i : ℕ) (h : i < length (b .orders)) (m : Moves 2 (i + 1) (orderIn b i) c) (b′ : Book) (e : b′ .orders ≡ set (b .orders) i (c .order)) where
+module _ (b : Book) (c : Change) (i : ℕ) (h : i < length (b .orders)) (m : Moves 2 (i + 1) (orderIn b i) c) (b′ : Book) (e : b′ .orders ≡ set (b .orders) i (c .order)) where
   pub long : length (b′ .orders) ≡ length (b .orders)
   long = ap length e ∙ length-set (b .orders) i (c .order)
 
@@ -161,9 +154,6 @@ module _ (b : Book) (r : Ruled b) (c : Change) (i : ℕ) (h : i < length (b .ord
 
   pub beside : (j : ℕ) → (j ≡ i → ⊥) → orderIn b′ j ≡ orderIn b j
   beside j n = ap (λ (os : List Order). getD os j noOrder) e ∙ getD-set-other (b .orders) i j (c .order) noOrder n
-
-  name-at : orderIn b′ i .names .name ≡ orderIn b i .names .name
-  name-at = ap (λ (o : Order). o .names .name) at ∙ m .same-name
 
   -- what holds of the changed order and of the others
   each : (Q : ℕ → Order → Type 0) → Q i (c .order) → ((j : ℕ) → (j ≡ i → ⊥) → j < length (b .orders) → Q j (orderIn b j)) → (j : ℕ) → j < length (b′ .orders) → Q j (orderIn b′ j)
@@ -176,30 +166,16 @@ module _ (b : Book) (r : Ruled b) (c : Change) (i : ℕ) (h : i < length (b .ord
   pub changed-persists : Persists b b′
   changed-persists = record {
     longer = omega (arith, long);
-    names = λ j l. each (λ k o. o .names .name ≡ orderIn b k .names .name) (m .same-name) (λ k n u. refl) j (omega (arith, long));
+    same = λ j l. each (λ k o. whose o ≡ whose (orderIn b k)) (m .same) (λ k n u. refl) j (omega (arith, long));
     done = λ j l. each (λ k o. isDone (orderIn b k .state .status) ≡ true → o .state .status ≡ orderIn b k .state .status) (m .done) (λ k n u d. refl) j (omega (arith, long));
   }
-
-  apart : (j : ℕ) → (j ≡ i → ⊥) → j < length (b .orders) → sameText (orderIn b i .names .name) (orderIn b j .names .name) ≡ false
-  apart j n l = go (true-or-false _)
-    where
-      go : (sameText (orderIn b i .names .name) (orderIn b j .names .name) ≡ true) ⊎ (sameText (orderIn b i .names .name) (orderIn b j .names .name) ≡ false)
-          → sameText (orderIn b i .names .name) (orderIn b j .names .name) ≡ false
-      go (inl z) = absurd (n (sym (one-name b r i j h l z)))
-      go (inr z) = z
 
   changed-advances : Advances b (tells c) b′
   changed-advances = record {
     persists = changed-persists;
-    filled = λ old f u. each (λ k o. totalOf (lastQty (o .client) (o .names .name)) (tells c) + old (o .client) (o .names .name) ≡ o .state .cumqty)
-        (rw (m .same-client, m .same-name) (omega (arith, f i h, m .told)))
-        (λ j n l. omega (arith, f j l, m .others (orderIn b j .client) (orderIn b j .names .name) (apart j n l)));
-    quiet = λ client t w. m .others client t (bare t (still-unused b b′ changed-persists t w));
+    net = λ t. omega (arith, ap (totalOf (filledBy t)) e, total-set (filledBy t) (b .orders) i (c .order) noOrder h, m .told t);
     ordered = λ f. each (λ k o. o .state .cumqty ≤ o .terms .qty) (m .ordered (f i h)) (λ j n l. f j l);
   }
-    where
-      bare : (t : Text) → findName b t ≡ none → sameText (orderIn b i .names .name) t ≡ false
-      bare t w = unfold findName in first-elim (λ k. sameText (orderIn b k .names .name) t) (length (b .orders)) w i h
 
 -- an order is booked
 module _ (b : Book) (o : Order) (b′ : Book) (e : b′ .orders ≡ b .orders ++ (o ∷ [])) where
@@ -222,15 +198,15 @@ module _ (b : Book) (o : Order) (b′ : Book) (e : b′ .orders ≡ b .orders ++
   pub more-persists : Persists b b′
   more-persists = record {
     longer = omega (arith, more-long);
-    names = λ j l. ap (λ (x : Order). x .names .name) (more-beside j l);
+    same = λ j l. ap whose (more-beside j l);
     done = λ j l d. ap (λ (x : Order). x .state .status) (more-beside j l);
   }
 
-  booked-advances : findName b (o .names .name) ≡ none → o .state .cumqty ≡ 0 → Advances b [] b′
-  booked-advances free none-yet = record {
+  booked-advances : o .state .cumqty ≡ 0 → Advances b [] b′
+  booked-advances none-yet = record {
     persists = more-persists;
-    filled = λ old f u. more-each (λ k x. 0 + old (x .client) (x .names .name) ≡ x .state .cumqty) (omega (arith, u (o .client) (o .names .name) free)) (λ j l. omega (arith, f j l));
-    quiet = λ client t w. refl;
+    net = λ t.
+        omega (arith, ap (totalOf (filledBy t)) e, total-append (filledBy t) (b .orders) (o ∷ []), split-if (λ (n : ℕ). n ≡ 0) (t (whose o)) {x = o .state .cumqty} {y = 0} (λ z. none-yet) (λ z. refl));
     ordered = λ f. more-each (λ k x. x .state .cumqty ≤ x .terms .qty) (omega arith) f;
   }
 
@@ -267,28 +243,27 @@ pub booking-silent : (b : Book) (e : Event) → tells (booking b e) ≡ []
 unfolding adding unchanged spoken if_then_else_
 booking-silent b e = refl
 
-booked-fields : (b : Book) (e : Event) → (bookedOrder b e .names .name ≡ e .ids .name) × (bookedOrder b e .state .cumqty ≡ 0)
+booked-none : (b : Book) (e : Event) → bookedOrder b e .state .cumqty ≡ 0
 unfolding bookedOrder
-booked-fields b e = (refl, refl)
+booked-none b e = refl
 
-module _ (b : Book) (r : Ruled b) (e : Event) where
+module _ (b : Book) (e : Event) where
   did-advances : (i : Decoded) (c : Change) → Did (Roomy (Moved b e) b) b e c → Advances b (lineOf b i c .messages) (lineOf b i c .left)
   unfolding Moved Roomy
-  did-advances i c (turned-away z) = refused-of (Advances b) b i c z (still b [] b refl (λ client t. refl))
+  did-advances i c (turned-away z) = refused-of (Advances b) b i c z (still b [] b refl (λ t. refl))
   did-advances i c (no-order s n) =
       line-of (Advances b) b i c (s .taken) (still b (tells c) (after b c) (after-orders b c ∙ orders-same (b .orders) c (s .nowhere)) (s .no-report))
   did-advances i c (on-order j h t p) =
       let m = p .0 in
-      line-of (Advances b) b i c t (changed-advances b r c j h m (after b c) (after-orders b c ∙ orders-set (b .orders) c j h (m .there)))
+      line-of (Advances b) b i c t (changed-advances b c j h m (after b c) (after-orders b c ∙ orders-set (b .orders) c j h (m .there)))
   did-advances i c (new-order k u) =
       let p = booking-place b e in
       let o = bookedOrder b e in
-      let s = booked-fields b e in
       line-of (Advances b) b i (booking b e) (p .0)
       (subst (λ (ms : List Message). Advances b ms (after b (booking b e))) (sym (booking-silent b e))
       (booked-advances b o (after b (booking b e))
       (after-orders b (booking b e) ∙ orders-more (b .orders) (booking b e) (p .1) ∙ ap (λ (x : Order). b .orders ++ (x ∷ [])) (p .2))
-      (ap (findName b) (s .0) ∙ u) (s .1)))
+      (booked-none b e)))
 
 refusing-advances : (b : Book) (i : Decoded) (n : ℕ) → Advances b (lineOf b i (refusing n) .messages) (lineOf b i (refusing n) .left)
 refusing-advances b i n = go (true-or-false (eqb n 0))
@@ -298,7 +273,7 @@ refusing-advances b i n = go (true-or-false (eqb n 0))
         subst (λ (k : ℕ). Advances b (lineOf b i (refusing k) .messages) (lineOf b i (refusing k) .left)) (sym (eqb-true n 0 z))
         (line-of (Advances b) b i (refusing 0) (refusing-bystands .taken)
         (still b (tells (refusing 0)) (after b (refusing 0)) (after-orders b (refusing 0) ∙ orders-same (b .orders) (refusing 0) (refusing-bystands .nowhere)) (refusing-bystands .no-report)))
-    go (inr z) = refused-of (Advances b) b i (refusing n) (refusing-away n z) (still b [] b refl (λ client t. refl))
+    go (inr z) = refused-of (Advances b) b i (refusing n) (refusing-away n z) (still b [] b refl (λ t. refl))
 
 pub call-advances : (b : Book) (i : Decoded) → Advances b (lineOf b i (comesTo b i) .messages) (lineOf b i (comesTo b i) .left)
 unfolding comesTo
@@ -306,34 +281,40 @@ call-advances b (unread n) =
     split-if (λ c. Advances b (lineOf b (unread n) c .messages) (lineOf b (unread n) c .left)) (rules b) (λ h. refusing-advances b (unread n) n) (λ h. refusing-advances b (unread n) 1)
 call-advances b (readAs e) =
     split-if (λ c. Advances b (lineOf b (readAs e) c .messages) (lineOf b (readAs e) c .left)) (rules b)
-    (λ h. did-advances b (ruled b h) e (readAs e) (stepOf b e) (step-walk (Moved b e) b e (ruled b h) (handles-moved b e)))
+    (λ h. did-advances b e (readAs e) (stepOf b e) (step-walk (Moved b e) b e (ruled b h) (handles-moved b e)))
     (λ h. refusing-advances b (readAs e) 1)
 
--- ---- the list
+-- ---- the list, from an image that keeps its rules: what stays
 
-pub record First3 (s : State) : Type 0 where
-  pub filled : Each s (λ o. toldOf (o .client) (o .names .name) (s .past) ≡ o .state .cumqty)
-  pub unbooked : (client : ℕ) (t : Text) → findName (s .book) t ≡ none → toldOf client t (s .past) ≡ 0
+pub record Steady (image : Book) (s : State) : Type 0 where
+  pub since : Persists image (s .book)
   pub ordered : Each s (λ o. o .state .cumqty ≤ o .terms .qty)
   pub done : Every (λ e. (name : Text) (st : ℕ) → statusOf name (e .left) ≡ some st → isDone st ≡ true → statusOf name (s .book) ≡ some st) (s .past)
 
-start-first : (setting : ℕ) → First3 (start setting)
-start-first setting = record { filled = λ i h. absurd (not-suc-le-zero h); unbooked = λ client t h. refl; ordered = λ i h. absurd (not-suc-le-zero h); done = every[] }
+filled-within : (o : Order) → filledRule o ≡ true → o .state .cumqty ≤ o .terms .qty
+unfolding filledRule
+filled-within o e = leb-true _ _ e
 
-next-first : (s : State) (i : Decoded) → First3 s → First3 (next s i)
-next-first s i f =
+start-steady : (image : Book) → BookKept image → Steady image (fresh image)
+start-steady image good = record {
+  since = persists-same image;
+  ordered = λ i h. filled-within (orderIn image i) (good .order i h .filled);
+  done = every[];
+}
+
+next-steady : (image : Book) (s : State) (i : Decoded) → Steady image s → Steady image (next s i)
+next-steady image s i f =
     let a = call-advances (s .book) i in
     record {
-      filled = a .filled (λ client t. toldOf client t (s .past)) (f .filled) (f .unbooked);
-      unbooked = λ client t h. omega (arith, a .quiet client t h, f .unbooked client t (still-unused (s .book) _ (a .persists) t h));
+      since = persists-trans image (s .book) _ (f .since) (a .persists);
       ordered = a .ordered (f .ordered);
       done = every∷ (λ name st h d. h) (every-map (λ e k name st h d. status-stays (s .book) _ (a .persists) name st (k name st h d) d) (f .done));
     }
 
-module _ {In : Type 0} (read : In → Decoded) where
-  run-first : (s : State) (is : List In) → First3 s → First3 (run read s is)
-  run-first s [] f = f
-  run-first s (i ∷ is) f = run-first (next s (read i)) is (next-first s (read i) f)
+module _ {In : Type 0} (read : In → Decoded) (image : Book) where
+  run-steady : (s : State) (is : List In) → Steady image s → Steady image (run read s is)
+  run-steady s [] f = f
+  run-steady s (i ∷ is) f = run-steady (next s (read i)) is (next-steady image s (read i) f)
 
-  pub first-three : (setting : ℕ) (is : List In) → First3 (run read (start setting) is)
-  first-three setting is = run-first (start setting) is (start-first setting)
+  pub steady : BookKept image → (is : List In) → Steady image (run read (fresh image) is)
+  steady good is = run-steady (fresh image) is (start-steady image good)

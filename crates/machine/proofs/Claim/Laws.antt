@@ -1,18 +1,52 @@
--- Laws of messages that the claim's proofs share. Rests on the definitions alone.
-use Prim.Native.Nat.{ℕ, suc, _+_, _≤_}
+-- Words and laws of messages that the claim's proofs share. Rests on the definitions alone.
+use Prim.Native.Nat.{ℕ, zero, suc, _+_, _≤_, _<_}
+use native.Mathlib.Nat.{not-suc-le-zero, le-of-suc-le-suc}
 use native.Mathlib.Omega.{arith}
-use mathlib.Core.Path.{_≡_, refl}
-use mathlib.Core.Bool.{Bool, true, false}
+use mathlib.Core.Path.{_≡_, refl, sym, ap, _∙_}
+use mathlib.Core.Bool.{Bool, true, false, _&&_}
 use mathlib.Core.List.{List, [], _∷_, _++_}
 use lib.Dec.{eqb}
+use lib.ListN.{length, getD, set}
 use borrow.Author.Tests.{eqb-false, eq-eqb}
 use Rattle.prelude.specs.Cases.{if_then_else_, split-if}
+use Rattle.prelude.specs.Texts.{sameText}
+use Rattle.prelude.specs.Totals.{totalOf}
+use Rattle.prelude.specs.declared.Text.{Text}
+use Rattle.store.specs.declared.Order.{Order}
+use Rattle.machine.specs.Codes.{reportKind}
 use Rattle.machine.specs.Changes.{Message, telling}
 use Rattle.machine.specs.History.{spoken}
 use Rattle.machine.specs.declared.Change.{Change}
 
 abbrev pub tells : Change → List Message
 tells c = spoken (c .output .count) (c .output .first) (c .output .second)
+
+-- what never changes of an order, and what a report of it says
+pub record Whose : Type 0 where
+  pub client : ℕ
+  pub name : Text
+  pub symbol : Text
+  pub side : ℕ
+
+abbrev pub whose : Order → Whose
+whose o = record { client = o .client; name = o .names .name; symbol = o .names .symbol; side = o .terms .side }
+
+abbrev pub said : Message → Whose
+said m = record { client = m .client; name = m .ids .name; symbol = m .ids .symbol; side = m .terms .side }
+
+-- of the orders that pass a test: the LastQty of a report, and what is filled
+abbrev pub toldBy : (Whose → Bool) → Message → ℕ
+toldBy p m = if eqb (m .kind) reportKind && p (said m) then m .exec .lastqty else 0
+
+abbrev pub filledBy : (Whose → Bool) → Order → ℕ
+filledBy p o = if p (whose o) then o .state .cumqty else 0
+
+-- the test by client and name
+abbrev pub bears : (client : ℕ) (name : Text) → Whose → Bool
+bears client name w = eqb (w .client) client && sameText (w .name) name
+
+pub filled-same : (p : Whose → Bool) (o q : Order) (n : ℕ) → whose q ≡ whose o → q .state .cumqty ≡ n → filledBy p q ≡ (if p (whose o) then n else 0)
+filled-same p o q n w c = ap (λ (x : Whose). if p x then q .state .cumqty else 0) w ∙ ap (λ (x : ℕ). if p (whose o) then x else 0) c
 
 -- a message goes behind the one that is there
 pub tells-more : (m : Message) (c : Change) → c .output .count ≤ 1 → tells (telling m c) ≡ tells c ++ (m ∷ [])
@@ -33,3 +67,24 @@ unfolding telling
 count-more m c n h =
     split-if (λ (x : ℕ). x ≤ suc n) (eqb (c .output .count) 0) (λ e. omega arith)
     (λ e. let z : (c .output .count ≡ 0 → ⊥) = eqb-false (c .output .count) 0 e in omega arith)
+
+-- ---- what a list comes to
+
+module _ {A : Type 0} (f : A → ℕ) where
+  -- one is changed: what they come to changes by its part
+  pub total-set : (l : List A) (i : ℕ) (x d : A) → i < length l → totalOf f (set l i x) + f (getD l i d) ≡ totalOf f l + f x
+  total-set [] i x d h = absurd (not-suc-le-zero h)
+  total-set (y ∷ l) zero x d h = omega arith
+  total-set (y ∷ l) (suc i) x d h = let r : totalOf f (set l i x) + f (getD l i d) ≡ totalOf f l + f x = total-set l i x d (le-of-suc-le-suc h) in omega arith
+
+  total-none : (l : List A) (d : A) → ((i : ℕ) → i < length l → f (getD l i d) ≡ 0) → totalOf f l ≡ 0
+  total-none [] d n = refl
+  total-none (x ∷ l) d n = omega (arith, n 0 (omega arith), total-none l d (λ i h. n (suc i) (omega arith)))
+
+  -- one alone counts
+  pub total-one : (l : List A) (j : ℕ) (d : A) → f d ≡ 0 → ((i : ℕ) → i < length l → (i ≡ j → ⊥) → f (getD l i d) ≡ 0) → totalOf f l ≡ f (getD l j d)
+  total-one [] j d z n = sym z
+  total-one (x ∷ l) zero d z n = omega (arith, total-none l d (λ i h. n (suc i) (omega arith) (λ w. omega arith)))
+  total-one (x ∷ l) (suc j) d z n =
+      let r : totalOf f l ≡ f (getD l j d) = total-one l j d z (λ i h w. n (suc i) (omega arith) (λ v. w (omega arith))) in
+      omega (arith, n 0 (omega arith) (λ w. omega arith))

@@ -5,9 +5,9 @@ use mathlib.Core.Path.{_≡_, refl, sym, ap, _∙_}
 use mathlib.Core.Bool.{Bool, true, false, not, _&&_, _||_}
 use mathlib.Core.List.{List, [], _∷_, _++_}
 use lib.Dec.{eqb, ltb}
-use borrow.Author.Tests.{ltb-false, eqb-true, eq-eqb, not-false}
-use Rattle.prelude.specs.Cases.{if_then_else_, split-if, clash, both-true, both-hold, either-false, if-true}
-use Rattle.prelude.specs.Texts.{sameText, same-self}
+use borrow.Author.Tests.{ltb-false, eqb-true, not-false}
+use Rattle.prelude.specs.Cases.{if_then_else_, split-if, clash, both-true, both-false, either-false, if-false}
+use Rattle.prelude.specs.Texts.{sameText}
 use Rattle.prelude.specs.Totals.{totalOf, total-append}
 use Rattle.prelude.specs.declared.Text.{Text}
 use Rattle.prelude.specs.declared.Terms.{Terms}
@@ -29,25 +29,23 @@ use Rattle.machine.specs.declared.Note.{Note}
 use Rattle.machine.specs.declared.Refusal.{Refusal}
 use Rattle.machine.specs.declared.Refused.{Refused}
 use Rattle.machine.specs.declared.Change.{Change}
-use Rattle.machine.proofs.Claim.Laws.{tells, tells-more, count-more}
+use Rattle.machine.proofs.Claim.Laws.{tells, Whose, whose, toldBy, filledBy, bears, filled-same, tells-more, count-more}
 
 -- ---- the order alone
 
 -- another state of the same order: what was filled and ordered stays, and so does a done status
 pub record Keeps (o p : Order) : Type 0 where
-  pub same-client : p .client ≡ o .client
-  pub same-name : p .names .name ≡ o .names .name
+  pub same : whose p ≡ whose o
   pub same-cum : p .state .cumqty ≡ o .state .cumqty
   pub same-qty : p .terms .qty ≡ o .terms .qty
   pub done : isDone (o .state .status) ≡ true → p .state .status ≡ o .state .status
 
 pub same-keeps : (o : Order) → Keeps o o
-same-keeps o = record { same-client = refl; same-name = refl; same-cum = refl; same-qty = refl; done = λ h. refl }
+same-keeps o = record { same = refl; same-cum = refl; same-qty = refl; done = λ h. refl }
 
 keeps-trans : (o p q : Order) → Keeps o p → Keeps p q → Keeps o q
 keeps-trans o p q k l = record {
-  same-client = l .same-client ∙ k .same-client;
-  same-name = l .same-name ∙ k .same-name;
+  same = l .same ∙ k .same;
   same-cum = l .same-cum ∙ k .same-cum;
   same-qty = l .same-qty ∙ k .same-qty;
   done = λ h. l .done (ap isDone (k .done h) ∙ h) ∙ k .done h;
@@ -55,26 +53,26 @@ keeps-trans o p q k l = record {
 
 numbered-keeps : (f : Facts) (cancels : Bool) (o : Order) → Keeps o (numberedOrder f cancels o)
 unfolding numberedOrder
-numbered-keeps f cancels o = record { same-client = refl; same-name = refl; same-cum = refl; same-qty = refl; done = λ h. refl }
+numbered-keeps f cancels o = record { same = refl; same-cum = refl; same-qty = refl; done = λ h. refl }
 
 pending-keeps : (p : Pending) (o : Order) → Keeps o (withPending p o)
-pending-keeps p o = record { same-client = refl; same-name = refl; same-cum = refl; same-qty = refl; done = λ h. refl }
+pending-keeps p o = record { same = refl; same-cum = refl; same-qty = refl; done = λ h. refl }
 
 gateway-keeps : (g : GatewayCancel) (o : Order) → Keeps o (withGateway g o)
-gateway-keeps g o = record { same-client = refl; same-name = refl; same-cum = refl; same-qty = refl; done = λ h. refl }
+gateway-keeps g o = record { same = refl; same-cum = refl; same-qty = refl; done = λ h. refl }
 
 named-keeps : (given : Text) (replaced : Bool) (o : Order) → Keeps o (recordVenueOrderId given replaced o)
 unfolding recordVenueOrderId
-named-keeps given replaced o = record { same-client = refl; same-name = refl; same-cum = refl; same-qty = refl; done = λ h. refl }
+named-keeps given replaced o = record { same = refl; same-cum = refl; same-qty = refl; done = λ h. refl }
 
 told-keeps : (o : Order) → Keeps o (nextExec o)
 unfolding nextExec
-told-keeps o = record { same-client = refl; same-name = refl; same-cum = refl; same-qty = refl; done = λ h. refl }
+told-keeps o = record { same = refl; same-cum = refl; same-qty = refl; done = λ h. refl }
 
 -- a live order's status may change
 live-keeps : (o : Order) (s : ℕ) → isDone (o .state .status) ≡ false → Keeps o (setStatus s o)
 unfolding setStatus
-live-keeps o s e = record { same-client = refl; same-name = refl; same-cum = refl; same-qty = refl; done = λ h. clash (isDone (o .state .status)) h e }
+live-keeps o s e = record { same = refl; same-cum = refl; same-qty = refl; done = λ h. clash (isDone (o .state .status)) h e }
 
 not-pending-keeps : (o : Order) → isDone (o .state .status) ≡ false → Keeps o (notPending o)
 unfolding notPending
@@ -87,19 +85,17 @@ refused-keeps k r o =
     (λ e. split-if (Keeps o) _ (λ h. keeps-trans o _ _ first (live-keeps _ (r .status) e)) (λ h. keeps-trans o _ _ first (not-pending-keeps _ e)))
   where
     first : Keeps o (withPending (if eqb (o .pending .request) k then noPending else o .pending) (recordVenueOrderId (r .venueorderid) false o))
-    first = record { same-client = refl; same-name = refl; same-cum = refl; same-qty = refl; done = λ h. refl }
+    first = record { same = refl; same-cum = refl; same-qty = refl; done = λ h. refl }
 
 -- ---- the change
 
--- the change is taken, at that place, with at most n messages. It tells the order's client of each rise, and nobody of another order.
+-- the change is taken, at that place, with at most n messages. Whichever orders are looked at, it tells of their rise: by its own order's reports.
 pub record Moves (n p : ℕ) (o : Order) (c : Change) : Type 0 where
   pub taken : c .refusal ≡ 0
   pub there : c .place ≡ p
   pub within : c .output .count ≤ n
-  pub same-client : c .order .client ≡ o .client
-  pub same-name : c .order .names .name ≡ o .names .name
-  pub told : totalOf (lastQty (o .client) (o .names .name)) (tells c) + o .state .cumqty ≡ c .order .state .cumqty
-  pub others : (client : ℕ) (name : Text) → sameText (o .names .name) name ≡ false → totalOf (lastQty client name) (tells c) ≡ 0
+  pub same : whose (c .order) ≡ whose o
+  pub told : (t : Whose → Bool) → totalOf (toldBy t) (tells c) + filledBy t o ≡ filledBy t (c .order)
   pub ordered : o .state .cumqty ≤ o .terms .qty → c .order .state .cumqty ≤ c .order .terms .qty
   pub done : isDone (o .state .status) ≡ true → c .order .state .status ≡ o .state .status
 
@@ -108,10 +104,8 @@ more-moves n m p o c l k = record {
   taken = k .taken;
   there = k .there;
   within = omega (arith, k .within);
-  same-client = k .same-client;
-  same-name = k .same-name;
+  same = k .same;
   told = k .told;
-  others = k .others;
   ordered = k .ordered;
   done = k .done;
 }
@@ -122,10 +116,8 @@ unchanged-moves p o q k = record {
   taken = refl;
   there = refl;
   within = omega arith;
-  same-client = k .same-client;
-  same-name = k .same-name;
-  told = omega (arith, k .same-cum);
-  others = λ cl t h. refl;
+  same = k .same;
+  told = λ t. omega (arith, filled-same t o q _ (k .same) (k .same-cum));
   ordered = λ h. omega (arith, k .same-cum, k .same-qty);
   done = k .done;
 }
@@ -137,10 +129,8 @@ module _ (n p : ℕ) (o : Order) (c : Change) (m : Moves n p o c) where
     taken = m .taken;
     there = m .there;
     within = m .within;
-    same-client = m .same-client;
-    same-name = m .same-name;
+    same = m .same;
     told = m .told;
-    others = m .others;
     ordered = m .ordered;
     done = m .done;
   }
@@ -151,10 +141,8 @@ module _ (n p : ℕ) (o : Order) (c : Change) (m : Moves n p o c) where
     taken = m .taken;
     there = m .there;
     within = m .within;
-    same-client = m .same-client;
-    same-name = m .same-name;
+    same = m .same;
     told = m .told;
-    others = m .others;
     ordered = m .ordered;
     done = m .done;
   }
@@ -165,10 +153,8 @@ module _ (n p : ℕ) (o : Order) (c : Change) (m : Moves n p o c) where
     taken = m .taken;
     there = m .there;
     within = m .within;
-    same-client = m .same-client;
-    same-name = m .same-name;
+    same = m .same;
     told = m .told;
-    others = m .others;
     ordered = m .ordered;
     done = m .done;
   }
@@ -178,59 +164,66 @@ module _ (n p : ℕ) (o : Order) (c : Change) (m : Moves n p o c) where
     taken = m .taken;
     there = m .there;
     within = m .within;
-    same-client = k .same-client ∙ m .same-client;
-    same-name = k .same-name ∙ m .same-name;
-    told = m .told ∙ sym (k .same-cum);
-    others = m .others;
+    same = k .same ∙ m .same;
+    told = λ t. m .told t ∙ sym (filled-same t (c .order) q _ (k .same) (k .same-cum));
     ordered = λ h. omega (arith, k .same-cum, k .same-qty, m .ordered h);
     done = λ h. k .done (ap isDone (m .done h) ∙ h) ∙ m .done h;
   }
 
   -- a message that reports no rise
-  telling-moves : (x : Message) → n ≤ 1 → ((client : ℕ) (name : Text) → lastQty client name x ≡ 0) → Moves (suc n) p o (telling x c)
+  telling-moves : (x : Message) → n ≤ 1 → ((t : Whose → Bool) → toldBy t x ≡ 0) → Moves (suc n) p o (telling x c)
   unfolding telling
   telling-moves x l q = record {
     taken = m .taken;
     there = m .there;
     within = count-more x c n (m .within);
-    same-client = m .same-client;
-    same-name = m .same-name;
-    told =
+    same = m .same;
+    told = λ t.
         let w : c .output .count ≤ 1 = omega (arith, m .within) in
-        ap (λ (ms : List Message). totalOf (lastQty (o .client) (o .names .name)) ms + o .state .cumqty) (tells-more x c w)
-        ∙ ap (λ (k : ℕ). k + o .state .cumqty) (still (o .client) (o .names .name))
-        ∙ m .told;
-    others = λ cl t h. let w : c .output .count ≤ 1 = omega (arith, m .within) in ap (totalOf (lastQty cl t)) (tells-more x c w) ∙ still cl t ∙ m .others cl t h;
+        ap (λ (ms : List Message). totalOf (toldBy t) ms + filledBy t o) (tells-more x c w) ∙ ap (λ (k : ℕ). k + filledBy t o) (still t) ∙ m .told t;
     ordered = m .ordered;
     done = m .done;
   }
     where
-      still : (cl : ℕ) (t : Text) → totalOf (lastQty cl t) (tells c ++ (x ∷ [])) ≡ totalOf (lastQty cl t) (tells c)
-      still cl t = rw total-append (omega (arith, q cl t))
+      still : (t : Whose → Bool) → totalOf (toldBy t) (tells c ++ (x ∷ [])) ≡ totalOf (toldBy t) (tells c)
+      still t = rw total-append (omega (arith, q t))
+
+-- of an order of another name nothing is told
+module _ {n p : ℕ} {o : Order} {c : Change} (m : Moves n p o c) where
+  pub told-others : (client : ℕ) (name : Text) → sameText (o .names .name) name ≡ false → totalOf (lastQty client name) (tells c) ≡ 0
+  told-others client name h =
+      let other : bears client name (whose o) ≡ false = ap (λ (x : Bool). eqb (o .client) client && x) h ∙ both-false (eqb (o .client) client) in
+      omega (
+        arith,
+        m .told (bears client name),
+        if-false _ (o .state .cumqty) 0 other,
+        filled-same (bears client name) o (c .order) _ (m .same) refl,
+        if-false _ (c .order .state .cumqty) 0 other,
+      )
 
 -- ---- messages that report no rise
 
-quiet-cancel : (o : Order) (d : Text) (client : ℕ) (name : Text) → lastQty client name (cancelRequest o d) ≡ 0
+quiet-cancel : (o : Order) (d : Text) (t : Whose → Bool) → toldBy t (cancelRequest o d) ≡ 0
 unfolding cancelRequest toVenue if_then_else_
-quiet-cancel o d client name = refl
+quiet-cancel o d t = refl
 
-quiet-replace : (o : Order) (d : Text) (t : Terms) (client : ℕ) (name : Text) → lastQty client name (replaceRequest o d t) ≡ 0
+quiet-replace : (o : Order) (d : Text) (terms : Terms) (t : Whose → Bool) → toldBy t (replaceRequest o d terms) ≡ 0
 unfolding replaceRequest toVenue if_then_else_
-quiet-replace o d t client name = refl
+quiet-replace o d terms t = refl
 
-quiet-new : (o : Order) (d : Text) (client : ℕ) (name : Text) → lastQty client name (newOrder o d) ≡ 0
+quiet-new : (o : Order) (d : Text) (t : Whose → Bool) → toldBy t (newOrder o d) ≡ 0
 unfolding newOrder toVenue if_then_else_
-quiet-new o d client name = refl
+quiet-new o d t = refl
 
-quiet-reject : (client′ : ℕ) (name′ : Text) (status : ℕ) (clordid origclordid : Text) (responseto : ℕ) (n : Note) (client : ℕ) (name : Text)
-    → lastQty client name (cancelReject client′ name′ status clordid origclordid responseto n) ≡ 0
+quiet-reject : (client : ℕ) (name : Text) (status : ℕ) (clordid origclordid : Text) (responseto : ℕ) (n : Note) (t : Whose → Bool)
+    → toldBy t (cancelReject client name status clordid origclordid responseto n) ≡ 0
 unfolding cancelReject if_then_else_
-quiet-reject client′ name′ status clordid origclordid responseto n client name = refl
+quiet-reject client name status clordid origclordid responseto n t = refl
 
-quiet-report : (o : Order) (clordid origclordid : Text) (exectype : ℕ) (price : List ℕ) (n : Note) (client : ℕ) (name : Text)
-    → lastQty client name (report o clordid origclordid exectype 0 price n) ≡ 0
+quiet-report : (o : Order) (clordid origclordid : Text) (exectype : ℕ) (price : List ℕ) (n : Note) (t : Whose → Bool)
+    → toldBy t (report o clordid origclordid exectype 0 price n) ≡ 0
 unfolding report
-quiet-report o clordid origclordid exectype price n client name = split-if (λ (x : ℕ). x ≡ 0) _ (λ e. refl) (λ e. refl)
+quiet-report o clordid origclordid exectype price n t = split-if (λ (x : ℕ). x ≡ 0) _ (λ e. refl) (λ e. refl)
 
 -- ---- the gateway's cancel
 
@@ -330,7 +323,7 @@ unsent-moves f k q venue o =
     M : Change → Type 0
     M = Moves 1 (f .place) o
 
-    again : (x : Message) → ((client : ℕ) (name : Text) → lastQty client name x ≡ 0) → M (telling x (unchanged (f .place) o))
+    again : (x : Message) → ((t : Whose → Bool) → toldBy t x ≡ 0) → M (telling x (unchanged (f .place) o))
     again x q = telling-moves 0 (f .place) o _ (unchanged-moves (f .place) o o (same-keeps o)) x (omega arith) q
 
 -- ---- the client's requests
@@ -376,19 +369,18 @@ reject-moves f k q o e = resume-moves (f .place) o f _ (refuse-moves f k q (e .v
 
 -- the order with the report's cumulative quantity, and the quantity that it may not pass
 record Grown (o q : Order) (cum qty : ℕ) : Type 0 where
-  same-client : q .client ≡ o .client
-  same-name : q .names .name ≡ o .names .name
+  same : whose q ≡ whose o
   now : q .state .cumqty ≡ cum
   most : q .terms .qty ≡ qty
 
 reported-grown : (accepted : Bool) (s : ℕ) (q : Request) (o : Order) (e : Event) → Grown o (reportedOrder accepted s q o e) (e .exec .cumqty) (orderedQty accepted o)
 unfolding reportedOrder setStatus recordVenueOrderId applyReplace pendingTerms orderedQty if_then_else_
-reported-grown true s q o e = record { same-client = refl; same-name = refl; now = refl; most = refl }
-reported-grown false s q o e = record { same-client = refl; same-name = refl; now = refl; most = refl }
+reported-grown true s q o e = record { same = refl; now = refl; most = refl }
+reported-grown false s q o e = record { same = refl; now = refl; most = refl }
 
 told-grown : (o q : Order) (cum qty : ℕ) → Grown o q cum qty → Grown o (nextExec q) cum qty
 unfolding nextExec
-told-grown o q cum qty g = record { same-client = g .same-client; same-name = g .same-name; now = g .now; most = g .most }
+told-grown o q cum qty g = record { same = g .same; now = g .now; most = g .most }
 
 -- a change that leaves the order so, with no message yet
 record Bare (p : ℕ) (q : Order) (c : Change) : Type 0 where
@@ -412,37 +404,36 @@ unfolding spoken if_then_else_
 none-told c e = rw e
 
 module _ (p : ℕ) (o x : Order) (cum qty : ℕ) (g : Grown o x cum qty) (fits : cum ≤ qty) (live : isDone (o .state .status) ≡ false) (c : Change) (b : Bare p x c) where
+  now-filled : c .order .state .cumqty ≡ cum
+  now-filled = ap (λ (y : Order). y .state .cumqty) (b .left) ∙ g .now
+
   -- no rise, and nobody is told
   bare-moves : cum ≡ o .state .cumqty → Moves 1 p o c
   bare-moves same = record {
     taken = b .taken;
     there = b .there;
     within = omega (arith, b .none-yet);
-    same-client = ap (λ (y : Order). y .client) (b .left) ∙ g .same-client;
-    same-name = ap (λ (y : Order). y .names .name) (b .left) ∙ g .same-name;
-    told =
-        ap (λ (ms : List Message). totalOf (lastQty (o .client) (o .names .name)) ms + o .state .cumqty) (none-told c (b .none-yet))
-        ∙ (omega (arith, ap (λ (y : Order). y .state .cumqty) (b .left), g .now));
-    others = λ cl t h. ap (totalOf (lastQty cl t)) (none-told c (b .none-yet));
+    same = ap whose (b .left) ∙ g .same;
+    told = λ t.
+        ap (λ (ms : List Message). totalOf (toldBy t) ms + filledBy t o) (none-told c (b .none-yet))
+        ∙ (omega (arith, filled-same t o (c .order) (o .state .cumqty) (ap whose (b .left) ∙ g .same) (now-filled ∙ same)));
     ordered = λ h. omega (arith, ap (λ (y : Order). y .state .cumqty) (b .left), ap (λ (y : Order). y .terms .qty) (b .left), g .now, g .most);
     done = λ h. clash _ h live;
   }
 
   -- the client is told of the rise
   rise-moves : (m : Message) (rise : ℕ) → rise + o .state .cumqty ≡ cum
-      → ((client : ℕ) (name : Text) → lastQty client name m ≡ (if eqb (x .client) client && sameText (x .names .name) name then rise else 0))
+      → ((t : Whose → Bool) → toldBy t m ≡ (if t (whose x) then rise else 0))
       → Moves 1 p o (telling m c)
   unfolding telling
   rise-moves m rise up says = record {
     taken = b .taken;
     there = b .there;
     within = count-more m c 0 (omega (arith, b .none-yet));
-    same-client = ap (λ (y : Order). y .client) (b .left) ∙ g .same-client;
-    same-name = ap (λ (y : Order). y .names .name) (b .left) ∙ g .same-name;
-    told =
-        ap (λ (ms : List Message). totalOf (lastQty (o .client) (o .names .name)) ms + o .state .cumqty) only
-        ∙ (omega (arith, own, up, ap (λ (y : Order). y .state .cumqty) (b .left), g .now));
-    others = λ cl t h. ap (totalOf (lastQty cl t)) only ∙ (omega (arith, other cl t h));
+    same = ap whose (b .left) ∙ g .same;
+    told = λ t.
+        ap (λ (ms : List Message). totalOf (toldBy t) ms + filledBy t o) only
+        ∙ rise-of (t (whose o)) (says t ∙ ap (λ (w : Whose). if t w then rise else 0) (g .same)) (filled-same t o (c .order) cum (ap whose (b .left) ∙ g .same) now-filled);
     ordered = λ h. omega (arith, ap (λ (y : Order). y .state .cumqty) (b .left), ap (λ (y : Order). y .terms .qty) (b .left), g .now, g .most);
     done = λ h. clash _ h live;
   }
@@ -450,24 +441,14 @@ module _ (p : ℕ) (o x : Order) (cum qty : ℕ) (g : Grown o x cum qty) (fits :
       only : tells (telling m c) ≡ m ∷ []
       only = tells-more m c (omega (arith, b .none-yet)) ∙ ap (λ (ms : List Message). ms ++ (m ∷ [])) (none-told c (b .none-yet))
 
-      own : lastQty (o .client) (o .names .name) m ≡ rise
-      own =
-          says (o .client) (o .names .name)
-          ∙ if-true _ rise 0 (both-hold _ _ (eq-eqb (x .client) (o .client) (g .same-client))
-          (ap (λ (t : Text). sameText t (o .names .name)) (g .same-name) ∙ same-self (o .names .name)))
+      rise-of : (x : Bool) {l r : ℕ} → l ≡ (if x then rise else 0) → r ≡ (if x then cum else 0) → l + 0 + (if x then o .state .cumqty else 0) ≡ r
+      rise-of true e f = unfold if_then_else_ in omega (arith, e, f, up)
+      rise-of false e f = unfold if_then_else_ in omega (arith, e, f)
 
-      other : (cl : ℕ) (t : Text) → sameText (o .names .name) t ≡ false → lastQty cl t m ≡ 0
-      other cl t h =
-          says cl t
-          ∙ split-if (λ (y : ℕ). y ≡ 0) _
-          (λ z. clash (sameText (o .names .name) t)
-          (sym (ap (λ (u : Text). sameText u t) (g .same-name)) ∙ both-true (eqb (x .client) cl) (sameText (x .names .name) t) z .1) h)
-          (λ z. refl)
-
-says-report : (answers : Bool) (rise : ℕ) (q : Request) (price : List ℕ) (x : Order) (e : Event) (client : ℕ) (name : Text)
-    → lastQty client name (clientReport answers rise q price x e) ≡ (if eqb (x .client) client && sameText (x .names .name) name then rise else 0)
+says-report : (answers : Bool) (rise : ℕ) (q : Request) (price : List ℕ) (x : Order) (e : Event) (t : Whose → Bool)
+    → toldBy t (clientReport answers rise q price x e) ≡ (if t (whose x) then rise else 0)
 unfolding clientReport report
-says-report answers rise q price x e client name = refl
+says-report answers rise q price x e t = refl
 
 apply-moves : (f : Facts) (k : ℕ) (q : Request) (o : Order) (e : Event) → isDone (o .state .status) ≡ false → o .state .cumqty ≤ e .exec .cumqty
     → e .exec .cumqty ≤ orderedQty (accepts k q o e) o → Moves 1 (f .place) o (applyReport f k q o e)

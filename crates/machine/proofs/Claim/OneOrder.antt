@@ -28,7 +28,8 @@ use Rattle.machine.specs.Rules.{rules, nameNumber, numberIn}
 use Rattle.machine.specs.History.{readAs, comesTo, lineOf}
 use Rattle.machine.specs.Claim.{lastQty, StaysOne}
 use Rattle.machine.specs.declared.Change.{Change}
-use Rattle.machine.proofs.Claim.Laws.{tells}
+use Rattle.machine.proofs.Claim.Laws.{tells, Whose, bears}
+use Rattle.machine.proofs.Claim.Moves.{told-others}
 use Rattle.machine.proofs.Claim.Ruled.{Ruled, ruled, one-name, order-ruled, request-ruled}
 use Rattle.machine.proofs.Claim.Walk.{Did, Roomy, turned-away, no-order, on-order, new-order, found-request, found-text, Either, Handles, step-walk, refusing-away}
 use Rattle.machine.proofs.Claim.Filled.{Moved, handles-moved, orders-set, after-orders, at, beside, long, line-of, refused-of}
@@ -155,20 +156,20 @@ module _ (b : Book) (r : Ruled b) (e : Event) (low : 4 ≤ e .kind) (high : e .k
   did-alone c (turned-away z) = refused-of (Alone b (requestIn b k .order)) b (readAs e) c z (still-alone b _ [] (λ client name. refl))
   did-alone c (no-order s n) =
       line-of (Alone b (requestIn b k .order)) b (readAs e) c (s .taken)
-      (subst (Alone b (requestIn b k .order) (tells c)) (sym (after-same b c s)) (still-alone b _ (tells c) (s .no-report)))
+      (subst (Alone b (requestIn b k .order) (tells c)) (sym (after-same b c s)) (still-alone b _ (tells c) (λ client name. s .no-report (bears client name))))
   did-alone c (on-order i h t p) =
       let (m, z, x) = p .0 in
       let o : after b c .orders ≡ set (b .orders) i (c .order) = after-orders b c ∙ orders-set (b .orders) c i h (m .there) in
       subst (λ (j : ℕ). Alone b j (lineOf b (readAs e) c .messages) (lineOf b (readAs e) c .left)) z
       (line-of (Alone b i) b (readAs e) c t
       (record {
-        count = long b r c i h m (after b c) o;
-        others = beside b r c i h m (after b c) o;
+        count = long b c i h m (after b c) o;
+        others = beside b c i h m (after b c) o;
         requests = λ j l n. there-other b c j l (not-answered c i h z x j n) (not-superseded c i h z x j n);
         added = own-added c i h z x;
-        same-client = ap (λ (y : Order). y .client) (at b r c i h m (after b c) o) ∙ m .same-client;
-        same-name = ap (λ (y : Order). y .names .name) (at b r c i h m (after b c) o) ∙ m .same-name;
-        silent = m .others;
+        same-client = ap (λ (y : Order). y .client) (at b c i h m (after b c) o) ∙ ap (λ (w : Whose). w .client) (m .same);
+        same-name = ap (λ (y : Order). y .names .name) (at b c i h m (after b c) o) ∙ ap (λ (w : Whose). w .name) (m .same);
+        silent = told-others m;
       }))
   did-alone c (new-order z u) = not-here 1 (omega arith) z
 

@@ -163,13 +163,15 @@ module _ (b : Book) (r : Ruled b) where
   pub request-ruled : (k : ℕ) → k < length (b .requests) → RequestRules b k
   request-ruled k h = request-rules b k (r .requests k h)
 
--- an unanswered gateway cancel of a live order is its latest cancel
+-- an unanswered gateway cancel of a live order is its latest cancel, with tries above 0
 pub latest-cancel : (link : ℕ) (q : Request) (o : Order) → inFlightRule link q o ≡ true → isGateway q ≡ true → isAnswered q ≡ false → isDone (o .state .status) ≡ false
-    → o .links .cancel ≡ link
+    → (o .links .cancel ≡ link) × (0 < o .gateway .tries)
 unfolding inFlightRule
 latest-cancel link q o e g a d =
     let x : Bool = eqb (o .links .cancel) link in
-    eqb-true _ _ (front x _ (front (x && _) _ (front (x && _ && _) _ (last (isGateway q) (isAnswered q) (isDone (o .state .status)) g a d e))))
+    let y : Bool = ltb 0 (o .gateway .tries) in
+    let z = both-true x y (front (x && y) _ (front (x && y && _) _ (last (isGateway q) (isAnswered q) (isDone (o .state .status)) g a d e))) in
+    (eqb-true _ _ (z .0), ltb-true 0 _ (z .1))
   where
     last : {z : Bool} (x y w : Bool) → x ≡ true → y ≡ false → w ≡ false → not x || y || w || z ≡ true → z ≡ true
     last true false false p q r h = h

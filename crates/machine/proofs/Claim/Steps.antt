@@ -30,7 +30,8 @@ use Rattle.machine.specs.declared.Facts.{Facts}
 use Rattle.machine.specs.declared.Change.{Change}
 use Rattle.machine.proofs.Claim.Laws.{tells}
 use Rattle.machine.proofs.Claim.Moves.{Moves}
-use Rattle.machine.proofs.Claim.Ruled.{Ruled, order-ruled, request-ruled, latest-cancel}
+use Rattle.machine.proofs.Kept.Laws.{untrue}
+use Rattle.machine.proofs.Claim.Ruled.{Ruled, order-ruled, request-ruled, done-none, latest-cancel}
 use Rattle.machine.proofs.Claim.Walk.{found-request, found-text}
 use Rattle.machine.proofs.Claim.Filled.{orders-set, after-orders, at, beside}
 use Rattle.machine.proofs.Claim.Fresh.{fresh-text}
@@ -149,7 +150,7 @@ begins-answered b r e i h d w = go (true-or-false (isAnswered (requestIn b (w .a
         let z : orderIn b i .links .cancel ≡ w .at + 1 =
         subst (λ (j : ℕ). orderIn b j .links .cancel ≡ w .at + 1) (w .of-order)
         (latest-cancel (w .at + 1) (requestIn b (w .at)) (orderIn b (requestIn b (w .at) .order)) (q .in-flight) (w .by-gateway) a
-        (ap (λ (j : ℕ). isDone (orderIn b j .state .status)) (w .of-order) ∙ live)) in
+        (ap (λ (j : ℕ). isDone (orderIn b j .state .status)) (w .of-order) ∙ live) .0) in
         clash _ (flies (factsOf b (i + 1)) (orderIn b i) (requestIn b (w .at)) (facts-cancel b i (w .at) z) (λ y. omega arith) (w .by-gateway) a) calm
 
 -- ---- the six shapes of a change of the order at index i
@@ -202,7 +203,7 @@ module _ (laws : NumberedLaws) (b : Book) (r : Ruled b) (e : Event) (i : ℕ) (h
   orders = after-orders b c ∙ orders-set (b .orders) c i h (m .there)
 
   now : orderIn (after b c) i ≡ c .order
-  now = at b r c i h m (after b c) orders
+  now = at b c i h m (after b c) orders
 
   begins-at : (j : ℕ) → beginsAt j (line b (readAs e) c) ≡ asksAt j b (readAs e)
   unfolding beginsAt
@@ -221,7 +222,7 @@ module _ (laws : NumberedLaws) (b : Book) (r : Ruled b) (e : Event) (i : ℕ) (h
   -- the other orders
   other-tried : (g : Goes (line b (readAs e) c)) (j : ℕ) → (j ≡ i → ⊥) → newOf g j ≡ [] → hasGateway (orderIn (after b c) j) ≡ true → Tried j (line b (readAs e) c) (newOf g j)
   other-tried g j n z hg =
-      let same : orderIn (after b c) j ≡ orderIn b j = beside b r c i h m (after b c) orders j n in
+      let same : orderIn (after b c) j ≡ orderIn b j = beside b c i h m (after b c) orders j n in
       subst (Tried j (line b (readAs e) c)) (sym z)
       (goes-on (begins-at j ∙ s .alone j n) (sym (ap hasGateway same) ∙ hg)
       (λ d w. kept-fails j d w (λ y x. n (sym (w .of-order) ∙ s .spares y .1 (w .at) x)))
@@ -280,9 +281,18 @@ module _ (laws : NumberedLaws) (b : Book) (r : Ruled b) (e : Event) (i : ℕ) (h
       turn-of (silent q (none-new b (readAs e) c (inl n))) (λ j z. refl) (λ hg. begun (begins-at i ∙ a) (begins-answered b r e i a) (tries-now ∙ t))
   shape-turn (fails! a z d k w oi g u x y q n hg t) =
       turn-of (silent q (none-new b (readAs e) c (inl n))) (λ j z. refl)
-      (λ hg′. fell (begins-at i ∙ a) hg refl d (record { at = k; found = w; by-gateway = g; of-order = oi }) u
+      (λ hg′. fell (begins-at i ∙ a) hg (tried-yet hg) refl d (record { at = k; found = w; by-gateway = g; of-order = oi }) u
       (now-fails b e c d k w z u (there-answered b c k (found-request b d k w) x)) others (tries-now ∙ t))
     where
+      live : hasGateway (orderIn b i) ≡ true → isDone (orderIn b i .state .status) ≡ false
+      live hg = untrue _ (λ y. clash _ hg (done-none (orderIn b i) (order-ruled b r i h .done) y))
+
+      tried-yet : hasGateway (orderIn b i) ≡ true → 0 < orderIn b i .gateway .tries
+      tried-yet hg =
+          subst (λ (j : ℕ). 0 < orderIn b j .gateway .tries) oi
+          (latest-cancel (k + 1) (requestIn b k) (orderIn b (requestIn b k .order)) (request-ruled b r k (found-request b d k w) .in-flight) g u
+          (ap (λ (j : ℕ). isDone (orderIn b j .state .status)) oi ∙ live hg) .1)
+
       others : (d′ : Text) → sameText d d′ ≡ false → fails (line b (readAs e) c) d′ ≡ false
       others d′ ne = by (findDownstream b d′) refl
         where

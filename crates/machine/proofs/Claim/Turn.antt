@@ -1,6 +1,6 @@
 -- The tries of a gateway cancel: what holds of a book's requests and of one order, and how one call keeps it. Rests on Laws.
 -- Here an order is known by its index; Whole goes over to its name.
-use Prim.Native.Nat.{ℕ, _+_, _-_}
+use Prim.Native.Nat.{ℕ, _+_, _-_, _<_}
 use native.Mathlib.Omega.{arith}
 use mathlib.Core.Path.{_≡_, refl, sym, ap, _∙_, subst}
 use mathlib.Core.Logic.{_⊎_, inl, inr}
@@ -13,7 +13,7 @@ use borrow.Author.Tests.{eqb-true, eq-eqb}
 use Rattle.prelude.specs.Below.{first-ext}
 use Rattle.prelude.specs.Cases.{if_then_else_, maybe, split-if, clash, both-true, both-hold, both-false, either-true, if-true, if-false, maybe-none, maybe-some, true-or-false, none-some, same-some, or-both}
 use Rattle.prelude.specs.Texts.{sameText, same-self, same-back, same-trans, same-right, same-left}
-use Rattle.prelude.specs.Totals.{howMany, those, many-append, many-le}
+use Rattle.prelude.specs.Totals.{someOf, howMany, those, many-append}
 use Rattle.prelude.specs.declared.Text.{Text}
 use Rattle.store.specs.declared.Request.{Request}
 use Rattle.store.specs.Book.{Book, orderIn, requestIn}
@@ -23,7 +23,8 @@ use Rattle.machine.specs.Changes.{isFirst, isReplace, isGateway, isCance
 use Rattle.store.specs.Finds.{findName, findDownstream}
 use Rattle.machine.specs.History.{Decoded, unread, readAs, Entry}
 use Rattle.machine.specs.Claim.{holds, isEvent, starts, cancelsIn, once, sent, answeredIn, fails, failed}
-use Rattle.machine.proofs.Kept.Laws.{or-left, or-right}
+use Rattle.machine.specs.Since.{isHeld, known, downstreams}
+use Rattle.machine.proofs.Kept.Laws.{or-left, or-right, or-map}
 
 -- ---- the claim's words for the order at an index
 
@@ -37,12 +38,24 @@ asksAt j b (readAs e) = eqb (e .kind) 9 && maybe false (λ i. eqb i j && starts 
 unfoldable pub beginsAt : ℕ → Entry → Bool
 beginsAt j e = eqb (e .refusal) 0 && asksAt j (e .before) (e .input)
 
-unfoldable pub putOutByAt : ℕ → Entry → List Entry → List Text
-putOutByAt j e earlier = if isEvent 2 (e .input) then [] else those (λ d. isForAt j (e .left) d && not (sent d earlier)) (once (cancelsIn (e .messages)))
+unfoldable pub newByAt : Book → ℕ → Entry → List Entry → List Text
+newByAt image j e earlier = if isEvent 2 (e .input) then [] else those (λ d. isForAt j (e .left) d && not (known image d earlier)) (once (cancelsIn (e .messages)))
 
-abbrev pub putOutAt : ℕ → List Entry → List Text
-putOutAt j [] = []
-putOutAt j (e ∷ earlier) = putOutByAt j e earlier ++ (if beginsAt j e then [] else putOutAt j earlier)
+-- the image's
+abbrev pub mine : ℕ → Request → Bool
+mine j q = isGateway q && eqb (q .order) j
+
+abbrev pub heldAt : Book → ℕ → List Text
+heldAt image j = downstreams (mine j) (image .requests)
+
+-- all that count: the new ones, and the image's until the gateway cancel begins again
+abbrev pub outAt : Book → ℕ → List Entry → List Text
+outAt image j [] = heldAt image j
+outAt image j (e ∷ earlier) = newByAt image j e earlier ++ (if beginsAt j e then [] else outAt image j earlier)
+
+-- a number of the image's, until then
+abbrev pub stillAt : ℕ → List Entry → ℕ → ℕ
+stillAt j past n = if someOf (beginsAt j) past then 0 else n
 
 -- ---- lists of texts
 
@@ -120,10 +133,10 @@ gateway-cancels q g = let z : q .kind ≡ 3 = eqb-true _ 3 g in rw z
 
 -- ---- what holds of the requests, and of one order
 
-pub record Base (b : Book) (past : List Entry) : Type 0 where
-  -- what was sent has its record, and a cancel's record was sent
-  pub sent-has : (d : Text) → sent d past ≡ true → (k : ℕ) × (findDownstream b d ≡ some k)
-  pub cancel-sent : (d : Text) (k : ℕ) → findDownstream b d ≡ some k → isCancel (requestIn b k) ≡ true → sent d past ≡ true
+pub record Base (image b : Book) (past : List Entry) : Type 0 where
+  -- what is held or was sent has its record, and a cancel's record is held or was sent
+  pub sent-has : (d : Text) → known image d past ≡ true → (k : ℕ) × (findDownstream b d ≡ some k)
+  pub cancel-sent : (d : Text) (k : ℕ) → findDownstream b d ≡ some k → isCancel (requestIn b k) ≡ true → known image d past ≡ true
   -- a failed send's record is answered
   pub fail-answered : (d : Text) → failed past d ≡ true → (k : ℕ) × (findDownstream b d ≡ some k) × (isAnswered (requestIn b k) ≡ true)
 
@@ -134,13 +147,20 @@ pub record Own (j : ℕ) (b : Book) (d : Text) : Type 0 where
   pub by-gateway : isGateway (requestIn b at) ≡ true
   pub of-order : requestIn b at .order ≡ j
 
-pub record At (j : ℕ) (b : Book) (past : List Entry) : Type 0 where
+-- the tries are the image's and the requests that count, but for the image's, less those whose send failed
+abbrev pub TriesOf : (image : Book) (j : ℕ) (past : List Entry) → List Text → ℕ → Type 0
+TriesOf image j past l n = n + (howMany (failed past) l + stillAt j past (length (heldAt image j))) ≡ length l + stillAt j past (orderIn image j .gateway .tries)
+
+abbrev pub Tries : (image : Book) (j : ℕ) (past : List Entry) → ℕ → Type 0
+Tries image j past = TriesOf image j past (outAt image j past)
+
+pub record At (image : Book) (j : ℕ) (b : Book) (past : List Entry) : Type 0 where
   -- what is counted is the gateway's, and each once
-  pub own : (d : Text) → holds d (putOutAt j past) ≡ true → Own j b d
-  pub one : Distinct (putOutAt j past)
+  pub own : (d : Text) → holds d (outAt image j past) ≡ true → Own j b d
+  pub one : Distinct (outAt image j past)
   -- a gateway request that is not answered is counted
-  pub unanswered : hasGateway (orderIn b j) ≡ true → (d : Text) (w : Own j b d) → isAnswered (requestIn b (w .at)) ≡ false → holds d (putOutAt j past) ≡ true
-  pub tries : hasGateway (orderIn b j) ≡ true → orderIn b j .gateway .tries + howMany (failed past) (putOutAt j past) ≡ length (putOutAt j past)
+  pub unanswered : hasGateway (orderIn b j) ≡ true → (d : Text) (w : Own j b d) → isAnswered (requestIn b (w .at)) ≡ false → holds d (outAt image j past) ≡ true
+  pub tries : hasGateway (orderIn b j) ≡ true → Tries image j past (orderIn b j .gateway .tries)
 
 -- ---- one call
 
@@ -171,7 +191,7 @@ pub data Tried (j : ℕ) (e : Entry) (l : List Text) : Type 0 where
       → orderIn (e .left) j .gateway .tries ≡ length l → Tried j e l
   goes-on : beginsAt j e ≡ false → hasGateway (orderIn (e .before) j) ≡ true → ((d : Text) → Own j (e .before) d → fails e d ≡ false)
       → orderIn (e .left) j .gateway .tries ≡ orderIn (e .before) j .gateway .tries + length l → Tried j e l
-  fell : beginsAt j e ≡ false → hasGateway (orderIn (e .before) j) ≡ true → l ≡ [] → (d : Text) (w : Own j (e .before) d) → isAnswered (requestIn (e .before) (w .at)) ≡ false
+  fell : beginsAt j e ≡ false → hasGateway (orderIn (e .before) j) ≡ true → 0 < orderIn (e .before) j .gateway .tries → l ≡ [] → (d : Text) (w : Own j (e .before) d) → isAnswered (requestIn (e .before) (w .at)) ≡ false
       → fails e d ≡ true → ((d′ : Text) → sameText d d′ ≡ false → fails e d′ ≡ false)
       → orderIn (e .left) j .gateway .tries ≡ orderIn (e .before) j .gateway .tries - 1 → Tried j e l
 
@@ -198,12 +218,12 @@ once-none : once [] ≡ []
 unfolding once
 once-none = refl
 
-module _ (e : Entry) (past : List Entry) (s : Base (e .before) past) where
+module _ (image : Book) (e : Entry) (past : List Entry) (s : Base image (e .before) past) where
   -- a request that has no record has not gone out, and has not failed
-  unsent : (d : Text) → findDownstream (e .before) d ≡ none → sent d past ≡ false
-  unsent d h = go (true-or-false (sent d past))
+  unsent : (d : Text) → findDownstream (e .before) d ≡ none → known image d past ≡ false
+  unsent d h = go (true-or-false (known image d past))
     where
-      go : (sent d past ≡ true) ⊎ (sent d past ≡ false) → sent d past ≡ false
+      go : (known image d past ≡ true) ⊎ (known image d past ≡ false) → known image d past ≡ false
       go (inl w) = none-some h (s .sent-has d w .1)
       go (inr w) = w
 
@@ -226,30 +246,30 @@ module _ (e : Entry) (past : List Entry) (s : Base (e .before) past) where
   for-at j d k h = maybe-some _ k _ _ h
 
   -- what the line puts out
-  news : (g : Goes e) (j : ℕ) → putOutByAt j e past ≡ newOf g j
-  unfolding putOutByAt newOf if_then_else_
+  news : (g : Goes e) (j : ℕ) → newByAt image j e past ≡ newOf g j
+  unfolding newByAt newOf if_then_else_
   news (silent m n) j =
       split-if (λ (l : List Text). l ≡ []) (isEvent 2 (e .input)) (λ c. refl)
-      (λ c. ap (λ (l : List Text). those (λ d. isForAt j (e .left) d && not (sent d past)) (once l)) m ∙ ap (those (λ d. isForAt j (e .left) d && not (sent d past))) once-none)
+      (λ c. ap (λ (l : List Text). those (λ d. isForAt j (e .left) d && not (known image d past)) (once l)) m ∙ ap (those (λ d. isForAt j (e .left) d && not (known image d past))) once-none)
   news (repeated d k m w c n) j =
       split-if (λ (l : List Text). l ≡ []) (isEvent 2 (e .input)) (λ c. refl)
-      (λ c′. ap (λ (l : List Text). those (λ d. isForAt j (e .left) d && not (sent d past)) (once l)) m
-      ∙ ap (those (λ d. isForAt j (e .left) d && not (sent d past))) (once-one d)
+      (λ c′. ap (λ (l : List Text). those (λ d. isForAt j (e .left) d && not (known image d past)) (once l)) m
+      ∙ ap (those (λ d. isForAt j (e .left) d && not (known image d past))) (once-one d)
       ∙ if-false _ (d ∷ []) [] (ap (λ (x : Bool). isForAt j (e .left) d && not x) (s .cancel-sent d k w c) ∙ both-false (isForAt j (e .left) d)))
   news (fresh d k m w v g a n) j = go (isEvent 2 (e .input))
     where
-      held : (if isForAt j (e .left) d && not (sent d past) then d ∷ [] else []) ≡ (if eqb (requestIn (e .left) k .order) j then d ∷ [] else [])
+      held : (if isForAt j (e .left) d && not (known image d past) then d ∷ [] else []) ≡ (if eqb (requestIn (e .left) k .order) j then d ∷ [] else [])
       held = ap (λ (x : Bool). if isForAt j (e .left) d && not x then d ∷ [] else []) (unsent d w) ∙ ap (λ (x : Bool). if x then d ∷ [] else []) (and-true (isForAt j (e .left) d) ∙ for-at j d k v)
         where
           and-true : (x : Bool) → x && true ≡ x
           and-true true = refl
           and-true false = refl
 
-      go : (x : Bool) → (if x then [] else those (λ d. isForAt j (e .left) d && not (sent d past)) (once (cancelsIn (e .messages)))) ≡ (if not x && eqb (requestIn (e .left) k .order) j then d ∷ [] else [])
+      go : (x : Bool) → (if x then [] else those (λ d. isForAt j (e .left) d && not (known image d past)) (once (cancelsIn (e .messages)))) ≡ (if not x && eqb (requestIn (e .left) k .order) j then d ∷ [] else [])
       go true = refl
       go false =
-          ap (λ (l : List Text). those (λ d. isForAt j (e .left) d && not (sent d past)) (once l)) m
-          ∙ ap (those (λ d. isForAt j (e .left) d && not (sent d past))) (once-one d)
+          ap (λ (l : List Text). those (λ d. isForAt j (e .left) d && not (known image d past)) (once l)) m
+          ∙ ap (those (λ d. isForAt j (e .left) d && not (known image d past))) (once-one d)
           ∙ held
 
   module _ (t : Turn e) where
@@ -272,33 +292,41 @@ module _ (e : Entry) (past : List Entry) (s : Base (e .before) past) where
     new-cancel (repeated d₀ k₀ m w₀ c₀ n) d k h w c = clash _ c (n d k h w)
     new-cancel (fresh d₀ k₀ m w₀ v g a n) d k h w c = ap (holds d) m ∙ holds-self d d₀ [] (same-back d₀ d (n d k h w))
 
-    pub base-kept : Base (e .left) (e ∷ past)
+    pub base-kept : Base image (e .left) (e ∷ past)
     base-kept = record {
-      sent-has = λ d h. has d (either-true (holds d (cancelsIn (e .messages))) (sent d past) h);
+      sent-has = λ d h. has d (either-true (isHeld image d) (sent d (e ∷ past)) h);
       cancel-sent = λ d k h c. was d k h c (comes d k h);
       fail-answered = λ d h. answered d (either-true (fails e d) (failed past d) h);
     }
       where
-        has : (d : Text) → (holds d (cancelsIn (e .messages)) ≡ true) ⊎ (sent d past ≡ true) → (k : ℕ) × (findDownstream (e .left) d ≡ some k)
-        has d (inl p) = gone (t .goes) d p
-        has d (inr p) = let (k, w) = s .sent-has d p in (k, t .grows d k w .0)
+        had : (d : Text) → known image d past ≡ true → (k : ℕ) × (findDownstream (e .left) d ≡ some k)
+        had d p = let (k, w) = s .sent-has d p in (k, t .grows d k w .0)
+
+        sends : (d : Text) → (holds d (cancelsIn (e .messages)) ≡ true) ⊎ (sent d past ≡ true) → (k : ℕ) × (findDownstream (e .left) d ≡ some k)
+        sends d (inl p) = gone (t .goes) d p
+        sends d (inr p) = had d (or-right (isHeld image d) p)
+
+        has : (d : Text) → (isHeld image d ≡ true) ⊎ (sent d (e ∷ past) ≡ true) → (k : ℕ) × (findDownstream (e .left) d ≡ some k)
+        has d (inl p) = had d (or-left (sent d past) p)
+        has d (inr p) = sends d (either-true (holds d (cancelsIn (e .messages))) (sent d past) p)
 
         was : (d : Text) (k : ℕ) → findDownstream (e .left) d ≡ some k → isCancel (requestIn (e .left) k) ≡ true
-            → (findDownstream (e .before) d ≡ some k) ⊎ (findDownstream (e .before) d ≡ none) → sent d (e ∷ past) ≡ true
-        was d k h c (inl w) = or-right (holds d (cancelsIn (e .messages))) (s .cancel-sent d k w (sym (cancel-same _ _ (t .grows d k w .1)) ∙ c))
-        was d k h c (inr w) = or-left (sent d past) (new-cancel (t .goes) d k h w c)
+            → (findDownstream (e .before) d ≡ some k) ⊎ (findDownstream (e .before) d ≡ none) → known image d (e ∷ past) ≡ true
+        was d k h c (inl w) =
+            or-map (isHeld image d) (sent d past) (λ p. p) (λ p. or-right (holds d (cancelsIn (e .messages))) p) (s .cancel-sent d k w (sym (cancel-same _ _ (t .grows d k w .1)) ∙ c))
+        was d k h c (inr w) = or-right (isHeld image d) (or-left (sent d past) (new-cancel (t .goes) d k h w c))
 
         answered : (d : Text) → (fails e d ≡ true) ⊎ (failed past d ≡ true) → (k : ℕ) × (findDownstream (e .left) d ≡ some k) × (isAnswered (requestIn (e .left) k) ≡ true)
         answered d (inl p) = answered-some (e .left) d (both-true (not (answeredIn (e .before) d)) (answeredIn (e .left) d) (both-true (isEvent 7 (e .input)) _ p .1) .1)
         answered d (inr p) = let (k, w, a) = s .fail-answered d p in let (v, m) = t .grows d k w in (k, v, m .answered a)
 
-    module _ (j : ℕ) (a : At j (e .before) past) where
+    module _ (j : ℕ) (a : At image j (e .before) past) where
       -- what is counted after the call
-      counted : beginsAt j e ≡ false → putOutAt j (e ∷ past) ≡ newOf (t .goes) j ++ putOutAt j past
-      counted b = ap (λ (l : List Text). l ++ (if beginsAt j e then [] else putOutAt j past)) (news (t .goes) j) ∙ ap (λ (l : List Text). newOf (t .goes) j ++ l) (if-false _ _ _ b)
+      counted : beginsAt j e ≡ false → outAt image j (e ∷ past) ≡ newOf (t .goes) j ++ outAt image j past
+      counted b = ap (λ (l : List Text). l ++ (if beginsAt j e then [] else outAt image j past)) (news (t .goes) j) ∙ ap (λ (l : List Text). newOf (t .goes) j ++ l) (if-false _ _ _ b)
 
-      recounted : beginsAt j e ≡ true → putOutAt j (e ∷ past) ≡ newOf (t .goes) j ++ []
-      recounted b = ap (λ (l : List Text). l ++ (if beginsAt j e then [] else putOutAt j past)) (news (t .goes) j) ∙ ap (λ (l : List Text). newOf (t .goes) j ++ l) (if-true _ _ _ b)
+      recounted : beginsAt j e ≡ true → outAt image j (e ∷ past) ≡ newOf (t .goes) j ++ []
+      recounted b = ap (λ (l : List Text). l ++ (if beginsAt j e then [] else outAt image j past)) (news (t .goes) j) ∙ ap (λ (l : List Text). newOf (t .goes) j ++ l) (if-true _ _ _ b)
 
       older : (d : Text) → Own j (e .before) d → Own j (e .left) d
       older d w =
@@ -328,10 +356,10 @@ module _ (e : Entry) (past : List Entry) (s : Base (e .before) past) where
       distinct-new (repeated d₀ k m w c n) l u f = u
       distinct-new (fresh d₀ k m w v g a n) l u f = split-if (λ (x : List Text). Distinct (x ++ l)) _ (λ z. (f d₀ w, u)) (λ z. u)
 
-      unheld : (d : Text) → findDownstream (e .before) d ≡ none → holds d (putOutAt j past) ≡ false
-      unheld d w = go (true-or-false (holds d (putOutAt j past)))
+      unheld : (d : Text) → findDownstream (e .before) d ≡ none → holds d (outAt image j past) ≡ false
+      unheld d w = go (true-or-false (holds d (outAt image j past)))
         where
-          go : (holds d (putOutAt j past) ≡ true) ⊎ (holds d (putOutAt j past) ≡ false) → holds d (putOutAt j past) ≡ false
+          go : (holds d (outAt image j past) ≡ true) ⊎ (holds d (outAt image j past) ≡ false) → holds d (outAt image j past) ≡ false
           go (inl h) = none-some w (a .own d h .found)
           go (inr h) = h
 
@@ -360,15 +388,15 @@ module _ (e : Entry) (past : List Entry) (s : Base (e .before) past) where
           (eq-eqb _ _ (ap (λ (i : ℕ). requestIn (e .left) i .order) z ∙ w .of-order))))
           ∙ holds-self d d₀ [] p
 
-      unanswered-kept : hasGateway (orderIn (e .left) j) ≡ true → (d : Text) (w : Own j (e .left) d) → isAnswered (requestIn (e .left) (w .at)) ≡ false → holds d (putOutAt j (e ∷ past)) ≡ true
+      unanswered-kept : hasGateway (orderIn (e .left) j) ≡ true → (d : Text) (w : Own j (e .left) d) → isAnswered (requestIn (e .left) (w .at)) ≡ false → holds d (outAt image j (e ∷ past)) ≡ true
       unanswered-kept hg d w u = go (comes d (w .at) (w .found))
         where
-          old : (v : Own j (e .before) d) → isAnswered (requestIn (e .before) (v .at)) ≡ false → Tried j e (newOf (t .goes) j) → holds d (putOutAt j (e ∷ past)) ≡ true
+          old : (v : Own j (e .before) d) → isAnswered (requestIn (e .before) (v .at)) ≡ false → Tried j e (newOf (t .goes) j) → holds d (outAt image j (e ∷ past)) ≡ true
           old v x (begun b all m) = clash _ (all d v) x
-          old v x (goes-on b g f m) = ap (holds d) (counted b) ∙ still-held (newOf (t .goes) j) (putOutAt j past) d (a .unanswered g d v x)
-          old v x (fell b g l d₀ w₀ u₀ f fs m) = ap (holds d) (counted b) ∙ still-held (newOf (t .goes) j) (putOutAt j past) d (a .unanswered g d v x)
+          old v x (goes-on b g f m) = ap (holds d) (counted b) ∙ still-held (newOf (t .goes) j) (outAt image j past) d (a .unanswered g d v x)
+          old v x (fell b g z l d₀ w₀ u₀ f fs m) = ap (holds d) (counted b) ∙ still-held (newOf (t .goes) j) (outAt image j past) d (a .unanswered g d v x)
 
-          go : (findDownstream (e .before) d ≡ some (w .at)) ⊎ (findDownstream (e .before) d ≡ none) → holds d (putOutAt j (e ∷ past)) ≡ true
+          go : (findDownstream (e .before) d ≡ some (w .at)) ⊎ (findDownstream (e .before) d ≡ none) → holds d (outAt image j (e ∷ past)) ≡ true
           go (inl h) =
               let m = t .grows d (w .at) h .1 in
               old (record { at = w .at; found = h; by-gateway = sym (gateway-same _ _ m) ∙ w .by-gateway; of-order = sym (m .order) ∙ w .of-order })
@@ -379,8 +407,8 @@ module _ (e : Entry) (past : List Entry) (s : Base (e .before) past) where
               before (inl y) k = clash _ (k y) u
               before (inr y) k = y
           go (inr h) =
-              ap (λ (l : List Text). holds d (l ++ (if beginsAt j e then [] else putOutAt j past))) (news (t .goes) j)
-              ∙ new-held (newOf (t .goes) j) (if beginsAt j e then [] else putOutAt j past) d (new-put (t .goes) d w h)
+              ap (λ (l : List Text). holds d (l ++ (if beginsAt j e then [] else outAt image j past))) (news (t .goes) j)
+              ∙ new-held (newOf (t .goes) j) (if beginsAt j e then [] else outAt image j past) d (new-put (t .goes) d w h)
 
       -- a request put out now has not failed
       new-failed : (g : Goes e) → howMany (failed (e ∷ past)) (newOf g j) ≡ 0
@@ -396,40 +424,47 @@ module _ (e : Entry) (past : List Entry) (s : Base (e .before) past) where
               ∙ ap (λ (x : Bool). isEvent 7 (e .input) && x) (both-false (not (answeredIn (e .before) d)))
               ∙ both-false (isEvent 7 (e .input))
 
-      tries-kept : hasGateway (orderIn (e .left) j) ≡ true
-          → orderIn (e .left) j .gateway .tries + howMany (failed (e ∷ past)) (putOutAt j (e ∷ past)) ≡ length (putOutAt j (e ∷ past))
+      -- what is left of the image's number after the call
+      dropped : beginsAt j e ≡ true → (n : ℕ) → stillAt j (e ∷ past) n ≡ 0
+      dropped b n = if-true _ _ _ (or-left (someOf (beginsAt j) past) b)
+
+      left : beginsAt j e ≡ false → (n : ℕ) → stillAt j (e ∷ past) n ≡ stillAt j past n
+      left b n = ap (λ (x : Bool). if x || someOf (beginsAt j) past then 0 else n) b
+
+      tries-kept : hasGateway (orderIn (e .left) j) ≡ true → Tries image j (e ∷ past) (orderIn (e .left) j .gateway .tries)
       tries-kept hg = go (t .tried j hg)
         where
-          go : Tried j e (newOf (t .goes) j) → orderIn (e .left) j .gateway .tries + howMany (failed (e ∷ past)) (putOutAt j (e ∷ past)) ≡ length (putOutAt j (e ∷ past))
-          go (begun b all m) =
-              subst (λ (l : List Text). orderIn (e .left) j .gateway .tries + howMany (failed (e ∷ past)) l ≡ length l) (sym (recounted b ∙ append-nil (newOf (t .goes) j)))
-              (omega (arith, m, new-failed (t .goes)))
+          T : List Text → Type 0
+          T l = TriesOf image j (e ∷ past) l (orderIn (e .left) j .gateway .tries)
+
+          go : Tried j e (newOf (t .goes) j) → Tries image j (e ∷ past) (orderIn (e .left) j .gateway .tries)
+          go (begun b all m) = subst T (sym (recounted b ∙ append-nil (newOf (t .goes) j))) (omega (arith, m, new-failed (t .goes), dropped b (length (heldAt image j)), dropped b (orderIn image j .gateway .tries)))
           go (goes-on b g f m) =
-              let c : howMany (failed past) (putOutAt j past) ≡ howMany (failed (e ∷ past)) (putOutAt j past) =
-              many-same _ _ (putOutAt j past) (λ d h. sym (ap (λ (x : Bool). x || failed past d) (f d (a .own d h)))) in
-              subst (λ (l : List Text). orderIn (e .left) j .gateway .tries + howMany (failed (e ∷ past)) l ≡ length l) (sym (counted b))
-              (rw (many-append, length-append) (omega (arith, m, new-failed (t .goes), c, a .tries g)))
-          go (fell b g l d w u f fs m) =
-              let c : howMany (failed (e ∷ past)) (putOutAt j past) ≡ howMany (failed past) (putOutAt j past) + 1 =
-              many-one (failed past) (failed (e ∷ past)) d (putOutAt j past) (a .one) (a .unanswered g d w u)
+              let c : howMany (failed past) (outAt image j past) ≡ howMany (failed (e ∷ past)) (outAt image j past) =
+              many-same _ _ (outAt image j past) (λ d h. sym (ap (λ (x : Bool). x || failed past d) (f d (a .own d h)))) in
+              subst T (sym (counted b))
+              (rw (many-append, length-append) (omega (arith, m, new-failed (t .goes), c, a .tries g, left b (length (heldAt image j)), left b (orderIn image j .gateway .tries))))
+          go (fell b g z l d w u f fs m) =
+              let c : howMany (failed (e ∷ past)) (outAt image j past) ≡ howMany (failed past) (outAt image j past) + 1 =
+              many-one (failed past) (failed (e ∷ past)) d (outAt image j past) (a .one) (a .unanswered g d w u)
               (λ x q. (unfailed-yet x (w .at) (sym (find-cong (e .before) d x q) ∙ w .found) u, or-left (failed past x) (sym (fails-cong e d x q) ∙ f)))
               (λ x q. sym (ap (λ (y : Bool). y || failed past x) (fs x q))) in
-              subst (λ (l : List Text). orderIn (e .left) j .gateway .tries + howMany (failed (e ∷ past)) l ≡ length l) (sym (counted b ∙ ap (λ (l : List Text). l ++ putOutAt j past) l))
-              (omega (arith, m, c, a .tries g, many-le (failed (e ∷ past)) (putOutAt j past)))
+              subst T (sym (counted b ∙ ap (λ (l : List Text). l ++ outAt image j past) l))
+              (omega (arith, m, z, c, a .tries g, left b (length (heldAt image j)), left b (orderIn image j .gateway .tries)))
 
-      own-kept : (d : Text) → holds d (putOutAt j (e ∷ past)) ≡ true → Own j (e .left) d
+      own-kept : (d : Text) → holds d (outAt image j (e ∷ past)) ≡ true → Own j (e .left) d
       own-kept d h = go (true-or-false (beginsAt j e))
         where
           go : (beginsAt j e ≡ true) ⊎ (beginsAt j e ≡ false) → Own j (e .left) d
           go (inl b) = own-new (t .goes) [] (λ x z. clash false z refl) d (ap (holds d) (sym (recounted b)) ∙ h)
-          go (inr b) = own-new (t .goes) (putOutAt j past) (λ x z. older x (a .own x z)) d (ap (holds d) (sym (counted b)) ∙ h)
+          go (inr b) = own-new (t .goes) (outAt image j past) (λ x z. older x (a .own x z)) d (ap (holds d) (sym (counted b)) ∙ h)
 
-      one-kept : Distinct (putOutAt j (e ∷ past))
+      one-kept : Distinct (outAt image j (e ∷ past))
       one-kept = go (true-or-false (beginsAt j e))
         where
-          go : (beginsAt j e ≡ true) ⊎ (beginsAt j e ≡ false) → Distinct (putOutAt j (e ∷ past))
+          go : (beginsAt j e ≡ true) ⊎ (beginsAt j e ≡ false) → Distinct (outAt image j (e ∷ past))
           go (inl b) = subst Distinct (sym (recounted b)) (distinct-new (t .goes) [] (unfold Distinct in tt) (λ d w. refl))
-          go (inr b) = subst Distinct (sym (counted b)) (distinct-new (t .goes) (putOutAt j past) (a .one) unheld)
+          go (inr b) = subst Distinct (sym (counted b)) (distinct-new (t .goes) (outAt image j past) (a .one) unheld)
 
-      pub at-kept : At j (e .left) (e ∷ past)
+      pub at-kept : At image j (e .left) (e ∷ past)
       at-kept = record { own = own-kept; one = one-kept; unanswered = unanswered-kept; tries = tries-kept }

@@ -27,11 +27,11 @@ use Rattle.machine.specs.Report.{unknownAtVenue}
 use Rattle.store.specs.Finds.{findName, findDownstream, findClordid, countClordids}
 use Rattle.machine.specs.Machine.{orderLink, orderOf, orderAtLink, factsOf, bookedOrder, firstRequest, unused, bookOrder, Amending, amending, onRequest, nothing, unknownReport, textNote, onReport, onName, changeOf, hasRoom, stepOf}
 use Rattle.machine.specs.History.{spoken}
-use Rattle.machine.specs.Claim.{lastQty, cancelsIn}
+use Rattle.machine.specs.Claim.{cancelsIn}
 use Rattle.machine.specs.declared.Facts.{Facts}
 use Rattle.machine.specs.declared.Refusal.{Refusal}
 use Rattle.machine.specs.declared.Change.{Change}
-use Rattle.machine.proofs.Claim.Laws.{tells}
+use Rattle.machine.proofs.Claim.Laws.{tells, Whose, toldBy}
 use Rattle.machine.proofs.Claim.Ruled.{Ruled, request-ruled}
 use Rattle.machine.proofs.Kept.Tables.{at-link}
 
@@ -42,7 +42,7 @@ pub record Bystands (c : Change) : Type 0 where
   pub answers : c .requests .answered ≡ 0
   pub supersedes : c .requests .superseded ≡ 0
   pub adds : c .requests .added ≡ 0
-  pub no-report : (client : ℕ) (name : Text) → totalOf (lastQty client name) (tells c) ≡ 0
+  pub no-report : (t : Whose → Bool) → totalOf (toldBy t) (tells c) ≡ 0
   pub no-cancel : cancelsIn (tells c) ≡ []
 
 -- the change that books an order
@@ -91,7 +91,7 @@ refuse-bystands f responseto o e r p = record {
   answers = refl;
   supersedes = refl;
   adds = refl;
-  no-report = λ cl t. refl;
+  no-report = λ t. refl;
   no-cancel = refl;
 }
 
@@ -125,15 +125,15 @@ replace-none f order full o e p =
 
 nothing-bystands : Bystands nothing
 unfolding unchanged spoken if_then_else_ cancelsIn
-nothing-bystands = record { taken = refl; nowhere = refl; answers = refl; supersedes = refl; adds = refl; no-report = λ cl t. refl; no-cancel = refl }
+nothing-bystands = record { taken = refl; nowhere = refl; answers = refl; supersedes = refl; adds = refl; no-report = λ t. refl; no-cancel = refl }
 
 unknown-bystands : Bystands unknownReport
 unfolding unchanged alarming spoken if_then_else_ cancelsIn
-unknown-bystands = record { taken = refl; nowhere = refl; answers = refl; supersedes = refl; adds = refl; no-report = λ cl t. refl; no-cancel = refl }
+unknown-bystands = record { taken = refl; nowhere = refl; answers = refl; supersedes = refl; adds = refl; no-report = λ t. refl; no-cancel = refl }
 
 pub refusing-bystands : Bystands (refusing 0)
 unfolding refusing spoken if_then_else_ cancelsIn
-refusing-bystands = record { taken = refl; nowhere = refl; answers = refl; supersedes = refl; adds = refl; no-report = λ cl t. refl; no-cancel = refl }
+refusing-bystands = record { taken = refl; nowhere = refl; answers = refl; supersedes = refl; adds = refl; no-report = λ t. refl; no-cancel = refl }
 
 pub refusing-away : (n : ℕ) → eqb n 0 ≡ false → eqb (refusing n .refusal) 0 ≡ false
 unfolding refusing

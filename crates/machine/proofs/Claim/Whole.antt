@@ -1,40 +1,45 @@
--- Demand 3, whole: the rounds, the list, and from an order's index to its name. Rests on Filled, Turn and Events.
+-- Demand 3 from any image, whole: the rounds, the list, and from an order's index to its name. Rests on Net, Turn, Image and Events.
 use Prim.Native.Nat.{ℕ, _+_, _≤_, _<_}
-use native.Mathlib.Nat.{not-suc-le-zero}
 use native.Mathlib.Decide.{ℕ-discrete, decLt}
 use native.Mathlib.Omega.{arith}
 use mathlib.Core.Path.{_≡_, refl, sym, ap, _∙_, subst}
 use mathlib.Core.Logic.{_⊎_, inl, inr}
-use mathlib.Core.Bool.{Bool, true, false, not, _&&_}
+use mathlib.Core.Bool.{Bool, true, false, not, _&&_, _||_}
 use mathlib.Core.Option.{Option, none, some}
-use mathlib.Core.List.{List, [], _∷_, _++_}
+use mathlib.Core.List.{List, [], _∷_, _++_, append-nil, append-assoc}
 use lib.Dec.{eqb}
-use lib.ListN.{length, set, List·getD-eq-default}
-use borrow.Author.Tests.{eqb-true, eq-eqb}
-use Rattle.prelude.specs.Below.{firstBelow, first-elim}
-use Rattle.prelude.specs.Cases.{if_then_else_, maybe, split-if, clash, both-false, if-true, maybe-none, test-same, true-or-false, none-some}
+use lib.ListN.{length, length-append, set, List·getD-eq-default}
+use borrow.Author.Tests.{eqb-true, eq-eqb, ne-eqb}
+use Rattle.prelude.specs.Below.{first-elim}
+use Rattle.prelude.specs.Cases.{if_then_else_, maybe, split-if, clash, both-hold, both-false, if-true, if-false, maybe-none, test-same, true-or-false, none-some}
 use Rattle.prelude.specs.Texts.{sameText, same-self, same-back}
-use Rattle.prelude.specs.Totals.{howMany, those, Every, every[], every∷, every-map}
+use Rattle.prelude.specs.Totals.{totalOf, someOf, howMany, those, Every, every[], every∷, many-append, every-map}
 use Rattle.prelude.specs.declared.Text.{Text}
 use Rattle.store.specs.declared.Order.{Order}
 use Rattle.store.specs.declared.Request.{Request}
 use Rattle.store.specs.Book.{Book, orderIn, requestIn}
 use Rattle.store.specs.Orders.{noOrder}
 use Rattle.machine.specs.Orders.{hasGateway}
-use Rattle.machine.specs.Changes.{Event, Message, refusing, adding, isFirst, isReplace, isCancel}
+use Rattle.machine.specs.Changes.{Event, Message, refusing, adding, isFirst, isReplace, isGateway, isCancel}
 use Rattle.store.specs.Finds.{bearsName, findName, findDownstream}
 use Rattle.machine.specs.Machine.{bookedOrder, firstRequest, answerLink, requestsAfter, after, hasRoom, stepOf}
 use Rattle.machine.specs.Rules.{rules}
-use Rattle.machine.specs.History.{Decoded, unread, readAs, comesTo, Entry, lineOf, State, start, next, run, Kinds}
-use Rattle.machine.specs.Claim.{isEvent, starts, asks, begins, cancelsIn, once, sent, isFor, putOutBy, putOut, answeredIn, fails, failed, Demand}
+use Rattle.machine.specs.History.{Decoded, unread, readAs, comesTo, Entry, lineOf, State, next, run, Kinds}
+use Rattle.machine.specs.Claim.{isEvent, starts, asks, begins, cancelsIn, once, isFor, answeredIn, fails, failed}
+use Rattle.machine.specs.Since.{heldTries, heldOut, known, newBy, newOut, begun, baseTries, baseOut, fresh, DemandFrom}
 use Rattle.machine.specs.declared.Change.{Change}
-use Rattle.machine.proofs.Claim.Laws.{tells}
+use Rattle.machine.proofs.Kept.Keep.{tries-at}
+use Rattle.machine.proofs.Kept.Lift.{BookKept, book-kept}
+use Rattle.machine.proofs.Kept.Consequences.{names-apart}
+use Rattle.machine.proofs.Claim.Laws.{tells, Whose, whose, filledBy, bears, total-one}
 use Rattle.machine.proofs.Claim.Moves.{Moves}
 use Rattle.machine.proofs.Claim.Ruled.{Ruled, ruled, request-ruled}
-use Rattle.machine.proofs.Claim.Walk.{Bystands, booking, Did, Roomy, turned-away, no-order, on-order, new-order, found-request, found-order, not-kind, step-walk, refusing-bystands, refusing-away}
-use Rattle.machine.proofs.Claim.Filled.{Moved, Persists, persists-same, persists-trans, call-advances, First3, first-three, orders-set, orders-same, orders-more, at, beside, long, more-at, more-beside, more-long, changed-persists, after-orders, refused-line, taken-line, booking-place, booking-silent}
+use Rattle.machine.proofs.Claim.Walk.{Bystands, booking, Did, Roomy, turned-away, no-order, on-order, new-order, found-request, found-order, found-name, not-kind, step-walk, refusing-bystands, refusing-away}
+use Rattle.machine.proofs.Claim.Filled.{Moved, Persists, persists-same, same-name, persists-trans, status-stays, call-advances, Steady, steady, orders-set, orders-same, orders-more, at, beside, long, more-at, more-beside, more-long, changed-persists, after-orders, refused-line, taken-line, booking-place, booking-silent}
 use Rattle.machine.proofs.Claim.Records.{there-like, longer, added-at, added-long, none-kept}
-use Rattle.machine.proofs.Claim.Turn.{isForAt, asksAt, beginsAt, putOutByAt, putOutAt, Distinct, Base, At, silent, newOf, goes-on, Turn, base-kept, at-kept}
+use Rattle.machine.proofs.Claim.Net.{run-told}
+use Rattle.machine.proofs.Claim.Turn.{isForAt, asksAt, beginsAt, newByAt, heldAt, outAt, stillAt, TriesOf, Tries, Base, At, silent, newOf, goes-on, Turn, base-kept, at-kept}
+use Rattle.machine.proofs.Claim.Image.{downstreams-same, start-base, start-at}
 use Rattle.machine.proofs.Claim.Steps.{line, grown, none-new, Shaped, shape-turn, few-tries, added-own}
 use Rattle.machine.proofs.Claim.Events.{asks-none, Stepped, handles-stepped}
 use Rattle.machine.proofs.Numbered.{NumberedLaws, numbered-laws}
@@ -130,21 +135,21 @@ module _ (laws : NumberedLaws) (b : Book) (r : Ruled b) (e : Event) (i : ℕ) (h
     few = λ f j hg. by f j hg (ℕ-discrete j i);
     placed = λ p k l. own k l (decLt k (length (b .requests)));
     apart = λ a j k lj lk w.
-        let n = long b r c i h m (after b c) set-orders in
-        let p = changed-persists b r c i h m (after b c) set-orders in
-        a j k (omega arith) (omega arith) (sym (ap (λ (t : Text). sameText (orderIn b j .names .name) t) (p .names k (omega arith))) ∙ sym (ap (λ (t : Text). sameText t (orderIn (after b c) k .names .name)) (p .names j (omega arith))) ∙ w);
+        let n = long b c i h m (after b c) set-orders in
+        let p = changed-persists b c i h m (after b c) set-orders in
+        a j k (omega arith) (omega arith) (sym (ap (λ (t : Text). sameText (orderIn b j .names .name) t) (same-name b (after b c) p k (omega arith))) ∙ sym (ap (λ (t : Text). sameText t (orderIn (after b c) k .names .name)) (same-name b (after b c) p j (omega arith))) ∙ w);
   })
     where
       by : Few b → (j : ℕ) → hasGateway (orderIn (after b c) j) ≡ true → Dec (j ≡ i) → orderIn (after b c) j .gateway .tries ≤ 3
       by f j hg (yes z) =
-          let q : orderIn (after b c) j ≡ c .order = ap (λ (k : ℕ). orderIn (after b c) k) z ∙ at b r c i h m (after b c) set-orders in
+          let q : orderIn (after b c) j ≡ c .order = ap (λ (k : ℕ). orderIn (after b c) k) z ∙ at b c i h m (after b c) set-orders in
           omega (arith, ap (λ (o : Order). o .gateway .tries) q, few-tries laws b r e i h c m room s (sym (ap hasGateway q) ∙ hg) (s .shape))
       by f j hg (no z) =
-          let q : orderIn (after b c) j ≡ orderIn b j = beside b r c i h m (after b c) set-orders j z in
+          let q : orderIn (after b c) j ≡ orderIn b j = beside b c i h m (after b c) set-orders j z in
           omega (arith, ap (λ (o : Order). o .gateway .tries) q, f j (sym (ap hasGateway q) ∙ hg))
 
       own : (k : ℕ) → k < length (after b c .requests) → Dec (k < length (b .requests)) → requestIn (after b c) k .order < length (after b c .orders)
-      own k l (yes z) = omega (arith, there-like b c k z .order, request-ruled b r k z .placed, long b r c i h m (after b c) set-orders)
+      own k l (yes z) = omega (arith, there-like b c k z .order, request-ruled b r k z .placed, long b c i h m (after b c) set-orders)
       own k l (no z) = new (added-own laws b r e i h c m room s (s .shape))
         where
           new : (c .requests .added ≡ 0) ⊎ (c .requests .request .order ≡ i) → requestIn (after b c) k .order < length (after b c .orders)
@@ -156,7 +161,7 @@ module _ (laws : NumberedLaws) (b : Book) (r : Ruled b) (e : Event) (i : ℕ) (h
               go (no x) =
                   let y : k ≡ length (b .requests) = omega (arith, added-long b c x) in
                   let w : requestIn (after b c) k .order ≡ i = ap (λ (j : ℕ). requestIn (after b c) j .order) y ∙ ap (λ (q : Request). q .order) (added-at b c x) ∙ a in
-                  omega (arith, long b r c i h m (after b c) set-orders)
+                  omega (arith, long b c i h m (after b c) set-orders)
 
 -- an order is booked
 booked-gateway : (b : Book) (e : Event) → hasGateway (bookedOrder b e) ≡ false
@@ -282,39 +287,41 @@ pub record Known (b : Book) (e : Entry) : Type 0 where
   pub left : Persists (e .left) b
   pub placed : Placed (e .left)
 
-pub record Second (s : State) : Type 0 where
-  pub base : Base (s .book) (s .past)
-  pub orders : (j : ℕ) → At j (s .book) (s .past)
+pub record Second (image : Book) (s : State) : Type 0 where
+  pub base : Base image (s .book) (s .past)
+  pub orders : (j : ℕ) → At image j (s .book) (s .past)
   pub few : Few (s .book)
   pub placed : Placed (s .book)
   pub apart : Apart (s .book)
   pub known : Every (Known (s .book)) (s .past)
 
-start-second : (setting : ℕ) → Second (start setting)
-unfolding findDownstream firstBelow Distinct hasGateway
-start-second setting = record {
-  base = record { sent-has = λ d h. clash false h refl; cancel-sent = λ d k h c. none-some refl h; fail-answered = λ d h. clash false h refl };
-  orders = λ j. record {
-    own = λ d h. clash false h refl;
-    one = tt;
-    unanswered = λ h d w a. clash false h refl;
-    tries = λ h. clash false h refl;
-  };
-  few = λ j h. clash false h refl;
-  placed = λ k h. absurd (not-suc-le-zero h);
-  apart = λ i j h. absurd (not-suc-le-zero h);
-  known = every[];
-}
+module _ (laws : NumberedLaws) (image : Book) where
+  start-second : BookKept image → Second image (fresh image)
+  start-second good = record {
+    base = start-base laws image good;
+    orders = start-at laws image good;
+    few = λ j hg. by j hg (decLt j (length (image .orders)));
+    placed = λ k l. good .request k l .order;
+    apart = λ i j li lj w. one i j li lj w (ℕ-discrete i j);
+    known = every[];
+  }
+    where
+      by : (j : ℕ) → hasGateway (orderIn image j) ≡ true → Dec (j < length (image .orders)) → orderIn image j .gateway .tries ≤ 3
+      by j hg (yes l) = tries-at (orderIn image j .gateway) (good .order j l .tries)
+      by j hg (no l) = clash _ hg (ap hasGateway (List·getD-eq-default (image .orders) noOrder (omega arith)) ∙ no-gateway)
 
-module _ (laws : NumberedLaws) where
-  next-second : (s : State) (i : Decoded) → ((e : Event) → i ≡ readAs e → (0 < e .kind) × (e .kind ≤ 9)) → Second s → Second (next s i)
+      one : (i j : ℕ) → i < length (image .orders) → j < length (image .orders) → sameText (orderIn image i .names .name) (orderIn image j .names .name) ≡ true → Dec (i ≡ j) → i ≡ j
+      one i j li lj w (yes z) = z
+      one i j li lj w (no z) = clash _ w (names-apart image good i j li lj z)
+
+  next-second : (s : State) (i : Decoded) → ((e : Event) → i ≡ readAs e → (0 < e .kind) × (e .kind ≤ 9)) → Second image s → Second image (next s i)
   next-second s i k a =
       let r = call-round laws (s .book) i k in
       let p = call-advances (s .book) i .persists in
       let e = lineOf (s .book) i (comesTo (s .book) i) in
       record {
-        base = base-kept e (s .past) (a .base) (r .turn);
-        orders = λ j. at-kept e (s .past) (a .base) (r .turn) j (a .orders j);
+        base = base-kept image e (s .past) (a .base) (r .turn);
+        orders = λ j. at-kept image e (s .past) (a .base) (r .turn) j (a .orders j);
         few = r .few (a .few);
         placed = r .placed (a .placed);
         apart = r .apart (a .apart);
@@ -323,13 +330,13 @@ module _ (laws : NumberedLaws) where
       }
 
   module _ {In : Type 0} (read : In → Decoded) (kinds : Kinds read) where
-    run-second : (s : State) (is : List In) → Second s → Second (run read s is)
+    run-second : (s : State) (is : List In) → Second image s → Second image (run read s is)
     run-second s [] a = a
     run-second s (i ∷ is) a = run-second (next s (read i)) is (next-second s (read i) (λ e h. (kinds .above i e h, kinds .below i e h)) a)
 
 -- ---- from the index to the name
 
-those-same : (f g : Text → Bool) (l : List Text) → ((d : Text) → f d ≡ g d) → those f l ≡ those g l
+pub those-same : (f g : Text → Bool) (l : List Text) → ((d : Text) → f d ≡ g d) → those f l ≡ those g l
 those-same f g [] h = refl
 those-same f g (d ∷ l) h =
     ap (λ (x : Bool). if x then d ∷ those f l else those f l) (h d) ∙ ap (λ (x : List Text). if g d then d ∷ x else x) (those-same f g l h)
@@ -338,9 +345,28 @@ module _ (b : Book) (a : Apart b) (j : ℕ) (h : j < length (b .orders)) where
   -- an earlier book's order has the name just where it is the same order
   same-order : (c : Book) → Persists c b → (i : ℕ) → i < length (c .orders) → bearsName (orderIn b j .names .name) (orderIn c i) ≡ eqb i j
   same-order c p i l =
-      ap (λ (t : Text). sameText t (orderIn b j .names .name)) (sym (p .names i l))
+      ap (λ (t : Text). sameText t (orderIn b j .names .name)) (sym (same-name c b p i l))
       ∙ test-same _ _ (λ w. eq-eqb i j (a i j (omega (arith, p .longer)) h w))
       (λ w. ap (λ (n : ℕ). sameText (orderIn b n .names .name) (orderIn b j .names .name)) (eqb-true i j w) ∙ same-self (orderIn b j .names .name))
+
+  abbrev its : Whose → Bool
+  its = bears (orderIn b j .client) (orderIn b j .names .name)
+
+  -- of the orders that bear its client and name, it alone counts
+  picked : (c : Book) → Persists c b → totalOf (filledBy its) (c .orders) ≡ orderIn c j .state .cumqty
+  picked c p = total-one (filledBy its) (c .orders) j noOrder none-filled other ∙ own (decLt j (length (c .orders)))
+    where
+      none-filled : filledBy its noOrder ≡ 0
+      none-filled = split-if (λ (n : ℕ). n ≡ 0) (its (whose noOrder)) (λ e. refl) (λ e. refl)
+
+      other : (i : ℕ) → i < length (c .orders) → (i ≡ j → ⊥) → filledBy its (orderIn c i) ≡ 0
+      other i l n =
+          let client : Bool = eqb (orderIn c i .client) (orderIn b j .client) in
+          if-false _ _ _ (ap (λ (x : Bool). client && x) (same-order c p i l ∙ ne-eqb i j n) ∙ both-false client)
+
+      own : Dec (j < length (c .orders)) → filledBy its (orderIn c j) ≡ orderIn c j .state .cumqty
+      own (yes l) = if-true _ _ _ (both-hold _ _ (eq-eqb _ _ (sym (ap (λ (w : Whose). w .client) (p .same j l)))) (same-order c p j l ∙ eq-eqb j j refl))
+      own (no l) = subst (λ (o : Order). filledBy its o ≡ o .state .cumqty) (sym (List·getD-eq-default (c .orders) noOrder (omega arith))) none-filled
 
   for-same : (e : Entry) → Known b e → (d : Text) → isFor (orderIn b j .names .name) (e .left) d ≡ isForAt j (e .left) d
   unfolding isForAt maybe
@@ -361,34 +387,98 @@ module _ (b : Book) (a : Apart b) (j : ℕ) (h : j < length (b .orders)) where
       go none w = refl
       go (some i) w = ap (λ (y : Bool). y && starts c i) (same-order c p i (found-order c (e .ids .name) i w))
 
-  put-same : (past : List Entry) → Every (Known b) past → putOut (orderIn b j .names .name) past ≡ putOutAt j past
-  put-same [] every[] = refl
-  put-same (e ∷ past) (every∷ k ks) =
-      ap (λ (l : List Text). l ++ (if begins (orderIn b j .names .name) e then [] else putOut (orderIn b j .names .name) past)) (by-same e past k)
-      ∙ ap (λ (x : Bool). putOutByAt j e past ++ (if x then [] else putOut (orderIn b j .names .name) past)) (begins-same e k)
-      ∙ ap (λ (l : List Text). putOutByAt j e past ++ (if beginsAt j e then [] else l)) (put-same past ks)
-    where
-      by-same : (e : Entry) (past : List Entry) → Known b e → putOutBy (orderIn b j .names .name) e past ≡ putOutByAt j e past
-      by-same e past k = unfold putOutBy putOutByAt in
-          ap (λ (l : List Text). if isEvent 2 (e .input) then [] else l)
-          (those-same _ _ (once (cancelsIn (e .messages))) (λ d. ap (λ (x : Bool). x && not (sent d past)) (for-same e k d)))
+  by-same : (image : Book) (e : Entry) (past : List Entry) → Known b e → newBy image (orderIn b j .names .name) e past ≡ newByAt image j e past
+  unfolding newBy newByAt
+  by-same image e past k =
+      ap (λ (l : List Text). if isEvent 2 (e .input) then [] else l)
+      (those-same _ _ (once (cancelsIn (e .messages))) (λ d. ap (λ (x : Bool). x && not (known image d past)) (for-same e k d)))
 
-      begins-same : (e : Entry) → Known b e → begins (orderIn b j .names .name) e ≡ beginsAt j e
-      begins-same e k = unfold beginsAt in ap (λ (x : Bool). eqb (e .refusal) 0 && x) (asks-same (e .before) (k .before) (e .input))
+  begins-same : (e : Entry) → Known b e → begins (orderIn b j .names .name) e ≡ beginsAt j e
+  unfolding beginsAt
+  begins-same e k = ap (λ (x : Bool). eqb (e .refusal) 0 && x) (asks-same (e .before) (k .before) (e .input))
 
--- ---- demand 3
+  begun-same : (past : List Entry) → Every (Known b) past → begun (orderIn b j .names .name) past ≡ someOf (beginsAt j) past
+  begun-same [] every[] = refl
+  begun-same (e ∷ past) (every∷ k ks) =
+      ap (λ (x : Bool). x || begun (orderIn b j .names .name) past) (begins-same e k) ∙ ap (λ (x : Bool). beginsAt j e || x) (begun-same past ks)
 
-pub demand : Demand
-demand In read kinds setting is =
-    let s = run read (start setting) is in
-    let f : First3 s = first-three read setting is in
-    let a : Second s = run-second numbered-laws read kinds (start setting) is (start-second setting) in
+  module _ (image : Book) (good : BookKept image) (p : Persists image b) where
+    held-same : heldOut image (orderIn b j .names .name) ≡ heldAt image j
+    held-same = downstreams-same _ _ (image .requests) (λ k l. ap (λ (x : Bool). isGateway (requestIn image k) && x) (same-order image p (requestIn image k .order) (good .request k l .order)))
+
+    -- a number that the image held of the order
+    held-at : (g : Order → ℕ) → g noOrder ≡ 0 → maybe 0 (λ i. g (orderIn image i)) (findName image (orderIn b j .names .name)) ≡ g (orderIn image j)
+    unfolding maybe
+    held-at g z = go (findName image (orderIn b j .names .name)) refl
+      where
+        absent : findName image (orderIn b j .names .name) ≡ none → Dec (j < length (image .orders)) → 0 ≡ g (orderIn image j)
+        absent w (yes l) = unfold findName in
+            clash _ (same-order image p j l ∙ eq-eqb j j refl) (first-elim (λ i. bearsName (orderIn b j .names .name) (orderIn image i)) (length (image .orders)) w j l)
+        absent w (no l) = sym (ap g (List·getD-eq-default (image .orders) noOrder (omega arith)) ∙ z)
+
+        go : (x : Option ℕ) → findName image (orderIn b j .names .name) ≡ x → maybe 0 (λ i. g (orderIn image i)) x ≡ g (orderIn image j)
+        go none w = absent w (decLt j (length (image .orders)))
+        go (some i) w = ap (λ (k : ℕ). g (orderIn image k)) (eqb-true i j (sym (same-order image p i (found-order image _ i w)) ∙ found-name image _ i w))
+
+    -- the new ones and the image's are all that count
+    out-same : (past : List Entry) → Every (Known b) past → newOut image (orderIn b j .names .name) past ++ baseOut image (orderIn b j .names .name) past ≡ outAt image j past
+    unfolding if_then_else_
+    out-same [] every[] = held-same
+    out-same (e ∷ past) (every∷ k ks) =
+        go (begins (orderIn b j .names .name) e) (out-same past ks)
+        ∙ ap (λ (l : List Text). l ++ (if begins (orderIn b j .names .name) e then [] else outAt image j past)) (by-same image e past k)
+        ∙ ap (λ (x : Bool). newByAt image j e past ++ (if x then [] else outAt image j past)) (begins-same e k)
+      where
+        new : List Text
+        new = newBy image (orderIn b j .names .name) e past
+
+        go : (x : Bool) → newOut image (orderIn b j .names .name) past ++ baseOut image (orderIn b j .names .name) past ≡ outAt image j past
+            → (new ++ (if x then [] else newOut image (orderIn b j .names .name) past)) ++ (if x || begun (orderIn b j .names .name) past then [] else heldOut image (orderIn b j .names .name))
+            ≡ new ++ (if x then [] else outAt image j past)
+        go true r = append-nil (new ++ [])
+        go false r = append-assoc new _ _ ∙ ap (λ (l : List Text). new ++ l) r
+
+    -- the tries by name, from the tries by index
+    tries-named : (past : List Entry) → Every (Known b) past → (n : ℕ) → Tries image j past n
+        → n + (howMany (failed past) (newOut image (orderIn b j .names .name) past) + howMany (failed past) (baseOut image (orderIn b j .names .name) past))
+        ≡ length (newOut image (orderIn b j .names .name) past) + baseTries image (orderIn b j .names .name) past
+    tries-named past ks n t =
+        let name : Text = orderIn b j .names .name in
+        let w = subst (λ (l : List Text). TriesOf image j past l n) (sym (out-same past ks)) t in
+        let many = many-append (failed past) (newOut image name past) (baseOut image name past) in
+        let long = length-append (newOut image name past) (baseOut image name past) in
+        let base : length (baseOut image name past) ≡ stillAt j past (length (heldAt image j)) =
+        cut (begun name past) (heldOut image name) ∙ ap (λ (x : Bool). if x then 0 else length (heldOut image name)) (begun-same past ks)
+        ∙ ap (λ (l : List Text). stillAt j past (length l)) held-same in
+        let tries : baseTries image name past ≡ stillAt j past (orderIn image j .gateway .tries) =
+        ap (λ (x : Bool). if x then 0 else heldTries image name) (begun-same past ks) ∙ ap (stillAt j past) (held-at (λ o. o .gateway .tries) refl) in
+        omega (arith, w, many, long, base, tries)
+      where
+        cut : (x : Bool) (l : List Text) → length (if x then [] else l) ≡ (if x then 0 else length l)
+        cut true l = unfold if_then_else_ in refl
+        cut false l = unfold if_then_else_ in refl
+
+-- ---- demand 3, from an image that keeps its rules
+
+pub demand-from : DemandFrom
+demand-from In read kinds image r is =
+    let s = run read (fresh image) is in
+    let good = book-kept image r in
+    let f : Steady image s = steady read image good is in
+    let a : Second image s = run-second numbered-laws image read kinds (fresh image) is (start-second numbered-laws image good) in
     record {
-      filled = f .filled;
+      filled = λ j h.
+          let its : Whose → Bool = bears (orderIn (s .book) j .client) (orderIn (s .book) j .names .name) in
+          omega (
+            arith,
+            run-told image its read (fresh image) is (omega arith),
+            picked (s .book) (a .apart) j h image (f .since),
+            picked (s .book) (a .apart) j h (s .book) (persists-same (s .book)),
+            held-at (s .book) (a .apart) j h image good (f .since) (λ o. o .state .cumqty) refl,
+          );
       ordered = f .ordered;
+      held = status-stays image (s .book) (f .since);
       done = f .done;
-      tries = λ j h g.
-          subst (λ (l : List Text). orderIn (s .book) j .gateway .tries + howMany (failed (s .past)) l ≡ length l)
-          (sym (put-same (s .book) (a .apart) j h (s .past) (a .known))) (a .orders j .tries g);
+      tries = λ j h g. tries-named (s .book) (a .apart) j h image good (f .since) (s .past) (a .known) _ (a .orders j .tries g);
       few = λ j h g. a .few j g;
     }

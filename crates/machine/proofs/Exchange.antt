@@ -1,0 +1,7 @@
+pub mod Links
+pub mod Frame
+pub mod Handled
+pub mod Commute
+pub mod Both
+pub mod Whole
+pub mod Places
