@@ -1,17 +1,40 @@
 //! Links the static library that `rt staticlib gateway` writes. It stands in `target/staticlib` of the repository, or in the
-//! folder that `JUBAFIYE_LIB` names.
+//! folder that `JUBAFIYE_LIB` names. Where it is missing, the build ends here with one message and never reaches the linker.
 
-use std::path::PathBuf;
+use std::env;
+use std::path::{Path, PathBuf};
 
 fn main() {
-    println!("cargo:rerun-if-env-changed=JUBAFIYE_LIB");
-    let folder = std::env::var_os("JUBAFIYE_LIB")
-        .map_or_else(|| PathBuf::from(env!("CARGO_MANIFEST_DIR")).join("../target/staticlib"), PathBuf::from);
-    let library = folder.join("libgateway.a");
-    println!("cargo:rerun-if-changed={}", library.display());
-    if !library.is_file() {
-        println!("cargo:warning=no library at {}: `rt staticlib gateway` makes it", library.display());
+    println!("cargo::rerun-if-env-changed=JUBAFIYE_LIB");
+    match folder() {
+        Ok(folder) => {
+            println!("cargo::rustc-link-search=native={}", folder.display());
+            println!("cargo::rustc-link-lib=static=gateway");
+        }
+        Err(missing) => println!("cargo::error={missing}"),
     }
-    println!("cargo:rustc-link-search=native={}", folder.display());
-    println!("cargo:rustc-link-lib=static=gateway");
+}
+
+/// The folder that holds the library, or what is missing and how to get it.
+fn folder() -> Result<PathBuf, String> {
+    let target = |key| env::var(key).unwrap_or_default();
+    let (arch, os) = (target("CARGO_CFG_TARGET_ARCH"), target("CARGO_CFG_TARGET_OS"));
+    if (arch.as_str(), os.as_str()) != ("x86_64", "linux") {
+        return Err(format!("the proved library is built for x86_64 linux alone, not for {arch} {os}"));
+    }
+    let named = env::var_os("JUBAFIYE_LIB").filter(|named| !named.is_empty()).map(PathBuf::from);
+    let usual = || Path::new(env!("CARGO_MANIFEST_DIR")).with_file_name("target").join("staticlib");
+    let told = if named.is_some() { "JUBAFIYE_LIB names it" } else { "JUBAFIYE_LIB names no other folder" };
+    let folder = named.unwrap_or_else(usual);
+    let folder = folder.canonicalize().unwrap_or(folder);
+    let library = folder.join("libgateway.a");
+    println!("cargo::rerun-if-changed={}", library.display());
+    if library.is_file() {
+        return Ok(folder);
+    }
+    Err(format!(
+        "the proved library libgateway.a is not in the folder {} ({told}). Make it with `rt staticlib gateway` in the \
+         repository's root, which writes target/staticlib/libgateway.a, or set JUBAFIYE_LIB to a folder that has one",
+        folder.display()
+    ))
 }

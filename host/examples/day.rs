@@ -2,8 +2,8 @@
 //! goes out is printed. `cargo run --example day`
 
 use jubafiye::{
-    Amend, Answer, Book, Booking, Event, ExecType, Message, OrdStatus, OrdType, Price, Qty, Refusal, Replace,
-    Report, Side, ToVenue, VenueReport,
+    Amend, Answer, Book, Booking, Error, Event, ExecType, OrdStatus, OrdType, Price, Qty, Replace, Side,
+    VenueReport,
 };
 
 const CLIENT: u16 = 7;
@@ -78,54 +78,15 @@ fn day() -> Vec<(&'static str, Event<'static>)> {
     ]
 }
 
-fn text(bytes: &[u8]) -> String {
-    String::from_utf8_lossy(bytes).into_owned()
-}
-
-fn report_line(r: &Report) -> String {
-    format!(
-        "report to client {}: {} {:?}, {:?}, last {} at {}, cum {}, leaves {}",
-        r.client,
-        text(&r.cl_ord_id),
-        r.exec_type,
-        r.status,
-        r.last_qty,
-        r.last_px,
-        r.cum_qty,
-        r.leaves_qty
-    )
-}
-
-fn venue_line(what: &str, m: &ToVenue) -> String {
-    let instead = m.orig_downstream.as_deref().map_or(String::new(), |orig| format!(" for {}", text(orig)));
-    let id = m.venue_order_id.as_deref().map_or(String::new(), |id| format!(" (its {})", text(id)));
-    format!("{what} to venue {}: {}{instead}{id}, qty {}", m.venue, text(&m.downstream), m.qty)
-}
-
-fn line(message: &Message) -> String {
-    match message {
-        Message::Report(r) => report_line(r),
-        Message::CancelReject(r) => format!(
-            "refusal of {:?} to client {}: {}, {:?}, {}",
-            r.response_to,
-            r.client,
-            text(&r.cl_ord_id),
-            r.reason,
-            r.text
-        ),
-        Message::NewOrder(m) => venue_line("new order", m),
-        Message::Cancel(m) => venue_line("cancel", m),
-        Message::Replace(m) => venue_line("replace", m),
-    }
-}
-
-fn show(outcome: &Result<Answer, Refusal>) {
+fn show(outcome: &Result<Answer, Error>) {
     match outcome {
         Ok(answer) => {
-            answer.messages.iter().for_each(|message| println!("  {}", line(message)));
-            answer.alarm.iter().for_each(|alarm| println!("  alarm: {alarm:?}"));
+            answer.messages.iter().for_each(|message| println!("  {message}"));
+            answer.alarms.iter().for_each(|alarm| println!("  alarm {}: {alarm}", alarm.number()));
         }
-        Err(refusal) => println!("  {refusal}"),
+        // The book has changed: what it put out must not be lost.
+        Err(Error::Unreadable(bad)) => println!("  taken, but {bad}: {:02x?}", bad.bytes()),
+        Err(error) => println!("  {error}"),
     }
 }
 

@@ -1,6 +1,9 @@
-/* The proved order book: three functions over lent byte slices, each a pointer and then a length.
- * The slices of one call must not overlap. Any bytes may be passed; a refused call has written nothing.
- * The library keeps nothing between calls, so that books may be used side by side, each by one thread at a time. */
+/* The proved order book: three functions over lent byte slices, each a pointer and then a length. What they do stands in
+ * docs/SCOPE.md, the book's bytes in docs/LAYOUT.md.
+ *
+ * Each pointer must be valid for its length, and the slices of one call must not overlap. Any bytes may be passed. A call
+ * that returns another number than 0 has written nothing. The library keeps nothing between calls and allocates nothing, so
+ * that books may be used side by side, each by one thread at a time. It is for x86-64 Linux and needs memcpy and memset. */
 #ifndef JUBAFIYE_GATEWAY_H
 #define JUBAFIYE_GATEWAY_H
 
@@ -18,14 +21,97 @@ extern "C" {
  * 0, or 1 where the book has another length. */
 uint32_t start(uint8_t *book, size_t book_len, uint32_t setting);
 
-/* Takes one event record and writes the answer to the start of the answer buffer. 0, or the number of the
- * question that was answered with no: 1 the book's length and rules, 2 the answer buffer's length, 3 the record's
- * shape, 4 a field's range, 5 a name or ClOrdID in use, 6 price and type, 7 no free record. */
+/* Takes one event record and writes the answer to the front of the answer buffer, of which the bytes behind the answer stay
+ * as they are. 0, or the number of the first question that is answered with no, JUBAFIYE_REFUSED_BOOK to
+ * JUBAFIYE_REFUSED_FULL. */
 uint32_t event(uint8_t *book, size_t book_len, const uint8_t *record, size_t record_len, uint8_t *answer,
                size_t answer_len);
 
 /* 0 where the book has its length and keeps its rules, else 1. */
 uint32_t check(const uint8_t *book, size_t book_len);
+
+/* What the functions return. */
+enum {
+    JUBAFIYE_TAKEN = 0,
+    JUBAFIYE_REFUSED_BOOK = 1,          /* the book has another length or does not keep its rules */
+    JUBAFIYE_REFUSED_ANSWER_BUFFER = 2, /* the answer buffer is shorter than JUBAFIYE_ANSWER_BYTES */
+    JUBAFIYE_REFUSED_RECORD = 3,        /* the record does not read whole */
+    JUBAFIYE_REFUSED_RANGE = 4,         /* a field is out of its range, or a code in no list */
+    JUBAFIYE_REFUSED_IN_USE = 5,        /* a booking's order name or ClOrdID is in use */
+    JUBAFIYE_REFUSED_PRICE = 6,         /* a price without a limit, or a limit without a price */
+    JUBAFIYE_REFUSED_FULL = 7           /* no free order or request record */
+};
+
+/* A record: a kind (1 byte), a map of 32 bits (4 bytes), then the fields whose bit stands, in bit order. All numbers are
+ * little-endian; a text is a length byte and as many bytes. */
+
+/* Kinds of events: the bits that the record must have; those that it may have. */
+enum {
+    JUBAFIYE_EVENT_BOOK = 1,             /* 0 1 2 3 6 7 8 9; 10 11 */
+    JUBAFIYE_EVENT_CANCEL = 2,           /* 0 3 4 6 7; 21 */
+    JUBAFIYE_EVENT_REPLACE = 3,          /* 0 3 4 6 7 9 23; 8 10 11 21 22 */
+    JUBAFIYE_EVENT_VENUE_REPORT = 4,     /* 1 5 12 14 15 16 17; 13 18 19 20 */
+    JUBAFIYE_EVENT_UNKNOWN_AT_VENUE = 5, /* 1 5 */
+    JUBAFIYE_EVENT_CANCEL_REJECT = 6,    /* 1 5; 13 18 19 20 */
+    JUBAFIYE_EVENT_SEND_FAILED = 7,      /* 1 5 20 */
+    JUBAFIYE_EVENT_SEND_AGAIN = 8,       /* 1 5 */
+    JUBAFIYE_EVENT_GATEWAY_CANCEL = 9    /* 2 */
+};
+
+/* Kinds of messages: the bits that the record has; those that it may have. */
+enum {
+    JUBAFIYE_MESSAGE_REPORT = 16,        /* 0 2 3 6 7 8 9 12 13 14 16 17 24 25 26; 4 10 11, 20 or 27, 19 with 28 */
+    JUBAFIYE_MESSAGE_CANCEL_REJECT = 17, /* 0 3 4 13 19 28 29, 20 or 27; 2 */
+    JUBAFIYE_MESSAGE_NEW_ORDER = 18,     /* 1 5 6 7 8 9; 10 11 */
+    JUBAFIYE_MESSAGE_CANCEL = 19,        /* 1 5 6 7 8 9 30; 10 11 18 */
+    JUBAFIYE_MESSAGE_REPLACE = 20        /* 1 5 6 7 8 9 30; 10 11 18 */
+};
+
+/* An answer: its length (2 bytes, these included), the count of messages (1 byte, 0 to 2), an alarm (1 byte), then the
+ * messages. */
+enum {
+    JUBAFIYE_ALARM_NONE = 0,
+    JUBAFIYE_ALARM_STUCK_CANCEL = 1,      /* the gateway has given up cancelling an order */
+    JUBAFIYE_ALARM_OVERFILL = 2,          /* a venue reported more than was ordered; nothing was applied */
+    JUBAFIYE_ALARM_UNKNOWN_ORDER = 3,     /* a venue named an order or request that is not known */
+    JUBAFIYE_ALARM_UNKNOWN_AT_VENUE = 4,  /* a venue does not know an order that is live here */
+    JUBAFIYE_ALARM_FILL_ON_DONE_ORDER = 5 /* a venue reported a fill on an order that is done; nothing was applied */
+};
+
+/* Fields by their bit: the bytes, or a text with the lengths that it may have. A code is FIX 4.4's, in ASCII. */
+enum {
+    JUBAFIYE_CLIENT = 0,           /* 2 */
+    JUBAFIYE_VENUE = 1,            /* 2 */
+    JUBAFIYE_NAME = 2,             /* text 1 to 20: letters and digits, not NONE */
+    JUBAFIYE_CL_ORD_ID = 3,        /* text 1 to 32 */
+    JUBAFIYE_ORIG_CL_ORD_ID = 4,   /* text 1 to 32 */
+    JUBAFIYE_DOWNSTREAM = 5,       /* text 1 to 32 */
+    JUBAFIYE_SYMBOL = 6,           /* text 1 to 16 */
+    JUBAFIYE_SIDE = 7,             /* 1: 1 2 5 */
+    JUBAFIYE_ORD_TYPE = 8,         /* 1: 1 market, 2 limit */
+    JUBAFIYE_QTY = 9,              /* 8: a count of 1/10,000, 0 to 10^12 */
+    JUBAFIYE_PRICE = 10,           /* 8: a count of 10^-8, 0 to 10^14 */
+    JUBAFIYE_TIME_IN_FORCE = 11,   /* 1: 0 1 3 4 */
+    JUBAFIYE_EXEC_TYPE = 12,       /* 1: A 0 F 6 4 E 5 8 C D 3 I */
+    JUBAFIYE_ORD_STATUS = 13,      /* 1: A 0 1 2 6 E 4 C 8 */
+    JUBAFIYE_LAST_QTY = 14,        /* 8: as QTY */
+    JUBAFIYE_LAST_PX = 15,         /* 8: as PRICE */
+    JUBAFIYE_CUM_QTY = 16,         /* 8: as QTY */
+    JUBAFIYE_AVG_PX = 17,          /* 8: as PRICE */
+    JUBAFIYE_VENUE_ORDER_ID = 18,  /* text 0 to 32 */
+    JUBAFIYE_REASON = 19,          /* 4 */
+    JUBAFIYE_TEXT = 20,            /* text 1 to 64 */
+    JUBAFIYE_REDELIVERED = 21,     /* no byte */
+    JUBAFIYE_BLOCKED = 22,         /* no byte */
+    JUBAFIYE_VERDICT = 23,         /* 1: 0 pass, or 1 to 7 */
+    JUBAFIYE_LEAVES_QTY = 24,      /* 8: as QTY; this field and those below in messages alone */
+    JUBAFIYE_EXEC_SEQ = 25,        /* 8: the number of the report among the order's */
+    JUBAFIYE_FILL_PRICE = 26,      /* 16: a count of 10^-8 */
+    JUBAFIYE_FIXED_TEXT = 27,      /* 1: 1 to 18 */
+    JUBAFIYE_ORIGIN = 28,          /* 1: whose the reason is, 1 ours, 2 the venue's */
+    JUBAFIYE_RESPONSE_TO = 29,     /* 1: 1 cancel, 2 replace */
+    JUBAFIYE_ORIG_DOWNSTREAM = 30  /* text 1 to 32 */
+};
 
 #ifdef __cplusplus
 }

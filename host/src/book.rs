@@ -1,118 +1,57 @@
-//! The book in its buffer. Rests on the static library's three functions.
+//! The book in its buffer. Rests on entries, event and answer.
 
 use std::fmt;
 
+use crate::answer::{whole, Answer};
+use crate::entries::{self, BookBytes, ANSWER_BYTES, BOOK_BYTES};
+use crate::error::{Error, Refusal};
 use crate::event::Event;
-use crate::message::{Alarm, BadAnswer, Message};
-
-/// The bytes of a book.
-pub const BOOK_BYTES: usize = 65_536;
-
-/// The bytes that an answer buffer must have at least.
-pub const ANSWER_BYTES: usize = 1_024;
-
-/// include/gateway.h.
-mod entries {
-    extern "C" {
-        pub fn start(book: *mut u8, book_len: usize, setting: u32) -> u32;
-        pub fn event(
-            book: *mut u8,
-            book_len: usize,
-            record: *const u8,
-            record_len: usize,
-            answer: *mut u8,
-            answer_len: usize,
-        ) -> u32;
-        pub fn check(book: *const u8, book_len: usize) -> u32;
-    }
-}
-
-/// Why an event was not taken: the number of document 01's question that was answered with no. Nothing has changed.
-#[derive(Debug, Clone, Copy, PartialEq, Eq, Hash)]
-pub enum Refusal {
-    /// 1: the book has another length or does not keep its rules.
-    Book,
-    /// 2: the answer buffer is too short.
-    AnswerBuffer,
-    /// 3: the record does not read whole.
-    Record,
-    /// 4: a field is out of its range.
-    Range,
-    /// 5: the order name or the ClOrdID is in use.
-    InUse,
-    /// 6: a price without a limit, or a limit without a price.
-    Price,
-    /// 7: no free order or request record.
-    Full,
-}
-
-impl Refusal {
-    const ALL: [Self; 7] =
-        [Self::Book, Self::AnswerBuffer, Self::Record, Self::Range, Self::InUse, Self::Price, Self::Full];
-
-    /// Document 01's number.
-    pub fn number(self) -> u32 {
-        self as u32 + 1
-    }
-
-    /// What the library returned; it returns 0 to 7.
-    fn from_number(number: u32) -> Result<(), Self> {
-        match number.checked_sub(1) {
-            None => Ok(()),
-            Some(at) => Err(*Self::ALL.get(at as usize).expect("the library returns 0 to 7")),
-        }
-    }
-}
-
-impl fmt::Display for Refusal {
-    fn fmt(&self, f: &mut fmt::Formatter<'_>) -> fmt::Result {
-        let why = match self {
-            Self::Book => "the book does not keep its rules",
-            Self::AnswerBuffer => "the answer buffer is too short",
-            Self::Record => "the record does not read whole",
-            Self::Range => "a field is out of its range",
-            Self::InUse => "the order name or ClOrdID is in use",
-            Self::Price => "a price goes exactly with a limit order",
-            Self::Full => "no free order or request record",
-        };
-        write!(f, "refused with {}: {why}", self.number())
-    }
-}
-
-impl std::error::Error for Refusal {}
-
-/// What follows an event that was taken.
-#[derive(Debug, Clone, PartialEq, Eq)]
-pub struct Answer {
-    /// What goes out, in order: at most two messages.
-    pub messages: Vec<Message>,
-    /// What someone has to look at.
-    pub alarm: Option<Alarm>,
-}
-
-impl Answer {
-    /// The answer at the front of a buffer.
-    pub fn read(bytes: &[u8]) -> Result<Self, BadAnswer> {
-        let [low, high, count, alarm, ..] = *bytes else { return Err(BadAnswer) };
-        let length = usize::from(u16::from_le_bytes([low, high]));
-        let mut rest = bytes.get(4..length).ok_or(BadAnswer)?;
-        let mut messages = Vec::with_capacity(usize::from(count.min(2)));
-        for _ in 0..count {
-            let (message, behind) = Message::read(rest)?;
-            messages.push(message);
-            rest = behind;
-        }
-        if !rest.is_empty() || count > 2 {
-            return Err(BadAnswer);
-        }
-        Ok(Self { messages, alarm: Alarm::from_number(alarm)? })
-    }
-}
 
 /// An order book: 65,536 bytes that the proved functions read and write. It always keeps its rules.
+///
+/// It holds nothing else and shares nothing: books may be used side by side, each by one thread at a time.
+///
+/// ```
+/// use jubafiye::{Alarm, Book, Booking, Event, ExecType, Message, OrdStatus, OrdType, Price, Qty, Side, VenueReport};
+///
+/// let mut book = Book::new(10_000);
+/// book.take(&Event::Book(Booking {
+///     client: 7,
+///     venue: 3,
+///     name: b"G1",
+///     cl_ord_id: b"C1",
+///     symbol: b"WHEATH27",
+///     side: Side::Buy,
+///     ord_type: OrdType::Limit,
+///     qty: Qty::units(100),
+///     price: Some(Price::units(10)),
+///     time_in_force: None,
+/// }))?;
+///
+/// let mut fill = VenueReport {
+///     venue: 3,
+///     downstream: b"G1",
+///     exec_type: ExecType::Trade,
+///     status: Some(OrdStatus::PartiallyFilled),
+///     last_qty: Qty::units(40),
+///     last_px: Price::units(10),
+///     cum_qty: Qty::units(40),
+///     avg_px: Price::units(10),
+///     venue_order_id: Some(b"V-1"),
+///     reason: None,
+///     text: None,
+/// };
+/// let answer = book.take(&Event::VenueReport(fill))?;
+/// let [Message::Report(told)] = &answer.messages[..] else { panic!("one report goes out") };
+/// assert_eq!((told.last_qty.to_string(), told.leaves_qty.to_string()), ("40".into(), "60".into()));
+///
+/// fill.cum_qty = Qty::units(101);
+/// assert_eq!(book.take(&Event::VenueReport(fill))?.alarms, [Alarm::Overfill]);
+/// # Ok::<(), jubafiye::Error>(())
+/// ```
 #[derive(Clone)]
 pub struct Book {
-    bytes: Box<[u8]>,
+    bytes: Box<BookBytes>,
     /// The latest record, kept for its room.
     record: Vec<u8>,
 }
@@ -120,41 +59,64 @@ pub struct Book {
 impl Book {
     /// An empty book. `setting`: the most ClOrdIDs that a client may use, the reserve included.
     pub fn new(setting: u32) -> Self {
-        let mut bytes = vec![0; BOOK_BYTES].into_boxed_slice();
-        // SAFETY: the pointer and the length are those of a slice that nothing else uses.
-        let refusal = unsafe { entries::start(bytes.as_mut_ptr(), bytes.len(), setting) };
-        assert_eq!(refusal, 0, "start refuses only another length");
+        let mut bytes = Box::new([0; BOOK_BYTES]);
+        // `start` refuses only another length, which the type rules out; a library with other books would refuse each event.
+        let _ = entries::start(&mut bytes, setting);
         Self { bytes, record: Vec::new() }
     }
 
-    /// A book from the bytes of one, where they keep the rules: how a book is taken up again after a restart.
-    pub fn from_bytes(bytes: Vec<u8>) -> Result<Self, Refusal> {
-        let book = Self { bytes: bytes.into_boxed_slice(), record: Vec::new() };
-        if book.keeps_rules() {
-            Ok(book)
-        } else {
-            Err(Refusal::Book)
-        }
+    /// A book from the bytes of one: how a book is taken up again after a restart. Bytes of another length, or that do not
+    /// keep the rules, are refused with [`Refusal::Book`].
+    ///
+    /// ```
+    /// use jubafiye::{Book, Refusal};
+    ///
+    /// let stored = Book::new(10_000).into_bytes();
+    /// let book = Book::from_bytes(&stored)?;
+    /// assert_eq!(book.as_bytes(), stored);
+    /// assert!(matches!(Book::from_bytes(b"no book"), Err(Refusal::Book)));
+    /// # Ok::<(), Refusal>(())
+    /// ```
+    pub fn from_bytes(bytes: &[u8]) -> Result<Self, Refusal> {
+        let bytes: Box<BookBytes> = Box::<[u8]>::from(bytes).try_into().map_err(|_| Refusal::Book)?;
+        entries::check(&bytes)?;
+        Ok(Self { bytes, record: Vec::new() })
     }
 
     /// The book's bytes, by docs/LAYOUT.md.
     pub fn as_bytes(&self) -> &[u8] {
-        &self.bytes
+        &self.bytes[..]
     }
 
     /// The book's bytes, for a store.
     pub fn into_bytes(self) -> Vec<u8> {
-        self.bytes.into_vec()
+        let bytes: Box<[u8]> = self.bytes;
+        bytes.into_vec()
     }
 
     /// Whether the book keeps its rules, which it always does.
+    ///
+    /// ```
+    /// assert!(jubafiye::Book::new(10_000).keeps_rules());
+    /// ```
     pub fn keeps_rules(&self) -> bool {
-        // SAFETY: as in `new`, and the function only reads.
-        unsafe { entries::check(self.bytes.as_ptr(), self.bytes.len()) == 0 }
+        entries::check(&self.bytes).is_ok()
     }
 
     /// Takes an event: the book changes, and what goes out is given back. A refused event has changed nothing.
-    pub fn take(&mut self, event: &Event<'_>) -> Result<Answer, Refusal> {
+    ///
+    /// ```
+    /// use jubafiye::{Alarm, Book, Error, Event, Refusal};
+    ///
+    /// let mut book = Book::new(10_000);
+    /// let answer = book.take(&Event::UnknownAtVenue { venue: 3, downstream: b"G1" })?;
+    /// assert_eq!(answer.alarms, [Alarm::UnknownOrder]);
+    ///
+    /// let too_long = book.take(&Event::GatewayCancel { name: &[b'A'; 21] });
+    /// assert_eq!(too_long, Err(Error::Refused(Refusal::Range)));
+    /// # Ok::<(), Error>(())
+    /// ```
+    pub fn take(&mut self, event: &Event<'_>) -> Result<Answer, Error> {
         let mut record = std::mem::take(&mut self.record);
         event.write(&mut record);
         let answer = self.take_record(&record);
@@ -163,28 +125,36 @@ impl Book {
     }
 
     /// Takes an event's record, which may be any bytes.
-    pub fn take_record(&mut self, record: &[u8]) -> Result<Answer, Refusal> {
+    ///
+    /// ```
+    /// use jubafiye::{Book, Error, Refusal};
+    ///
+    /// let refused = Book::new(10_000).take_record(b"no record");
+    /// assert_eq!(refused, Err(Error::Refused(Refusal::Record)));
+    /// ```
+    pub fn take_record(&mut self, record: &[u8]) -> Result<Answer, Error> {
         let mut answer = [0; ANSWER_BYTES];
-        let told = self.take_record_into(record, &mut answer)?;
-        Ok(Answer::read(told).expect("an event that was taken has written an answer"))
+        entries::event(&mut self.bytes, record, &mut answer)?;
+        Ok(Answer::read(&answer)?)
     }
 
-    /// Takes an event's record and gives back the answer's bytes, at the front of `answer`. Nothing is allocated.
+    /// Takes an event's record and gives back the answer's bytes, at the front of `answer`, which has [`ANSWER_BYTES`] or
+    /// more. Nothing is allocated. Should the answer's length not fit the buffer, the whole buffer is given back.
+    ///
+    /// ```
+    /// use jubafiye::{Answer, Book, Event, ANSWER_BYTES};
+    ///
+    /// let mut book = Book::new(10_000);
+    /// let mut buffer = [0; ANSWER_BYTES];
+    /// let record = Event::UnknownAtVenue { venue: 3, downstream: b"G1" }.record();
+    /// let answer = book.take_record_into(&record, &mut buffer)?;
+    /// assert_eq!(answer, [4, 0, 0, 3]);
+    /// assert_eq!(Answer::read(answer)?.alarms.len(), 1);
+    /// # Ok::<(), Box<dyn std::error::Error>>(())
+    /// ```
     pub fn take_record_into<'a>(&mut self, record: &[u8], answer: &'a mut [u8]) -> Result<&'a [u8], Refusal> {
-        // SAFETY: three slices that do not overlap, since two of them are lent as `&mut`; each with its own length.
-        let refusal = unsafe {
-            entries::event(
-                self.bytes.as_mut_ptr(),
-                self.bytes.len(),
-                record.as_ptr(),
-                record.len(),
-                answer.as_mut_ptr(),
-                answer.len(),
-            )
-        };
-        Refusal::from_number(refusal)?;
-        let length = usize::from(u16::from_le_bytes([answer[0], answer[1]]));
-        Ok(&answer[..length])
+        entries::event(&mut self.bytes, record, answer)?;
+        Ok(whole(answer).unwrap_or(answer))
     }
 }
 

@@ -1,6 +1,8 @@
-//! Events as the gateway has them, and their records. Rests on fields and words.
+//! Events as the gateway has them, and their records (docs/SCOPE.md, Events). Rests on record, fields, decimal and words.
 
-use crate::fields::{ExecType, OrdStatus, OrdType, Price, Qty, Side, TimeInForce};
+use crate::decimal::{Price, Qty};
+use crate::fields::{ExecType, OrdStatus, OrdType, Side, TimeInForce};
+use crate::record::{Bit, Writer};
 use crate::words::RiskReject;
 
 /// An order that was admitted. The gateway sends it to the venue itself, under its name.
@@ -47,6 +49,32 @@ pub struct Amend<'a> {
 }
 
 /// A client's replace, with what the host decides about it.
+///
+/// ```
+/// use jubafiye::{Amend, Book, Event, FixedText, Message, Qty, Replace, RiskReject, Side, Words};
+///
+/// let replace = Replace {
+///     amend: Amend {
+///         client: 7,
+///         cl_ord_id: b"C2",
+///         orig_cl_ord_id: b"C1",
+///         symbol: b"WHEATH27",
+///         side: Side::Buy,
+///         redelivered: false,
+///     },
+///     qty: Qty::units(80),
+///     verdict: Err(RiskReject::Credit),
+///     ord_type: None,
+///     price: None,
+///     time_in_force: None,
+///     blocked: false,
+/// };
+/// // The book is empty: no such order.
+/// let answer = Book::new(10_000).take(&Event::Replace(replace))?;
+/// let [Message::CancelReject(told)] = &answer.messages[..] else { panic!("a refusal goes out") };
+/// assert_eq!((told.reason.number(), &told.text), (1, &Words::Fixed(FixedText::UnknownOrder)));
+/// # Ok::<(), jubafiye::Error>(())
+/// ```
 #[derive(Debug, Clone, Copy, PartialEq, Eq)]
 pub struct Replace<'a> {
     /// Who asks, and for which order.
@@ -110,6 +138,14 @@ pub struct RejectedRequest<'a> {
 }
 
 /// What the book is told. Texts are bytes: the book takes any.
+///
+/// ```
+/// use jubafiye::{Book, Event};
+///
+/// let event = Event::SendFailed { venue: 3, downstream: b"G1", text: b"session down" };
+/// assert!(Book::new(10_000).take(&event)?.messages.is_empty());
+/// # Ok::<(), jubafiye::Error>(())
+/// ```
 #[derive(Debug, Clone, Copy, PartialEq, Eq)]
 pub enum Event<'a> {
     /// An admitted order is entered.
@@ -152,56 +188,14 @@ pub enum Event<'a> {
     },
 }
 
-/// A record in the making: a kind, a map and the fields so far, which must come in bit order.
-struct Writer<'a> {
-    bytes: &'a mut Vec<u8>,
-    map: u32,
-}
-
-impl<'a> Writer<'a> {
-    fn new(bytes: &'a mut Vec<u8>, kind: u8) -> Self {
-        bytes.clear();
-        bytes.extend_from_slice(&[kind, 0, 0, 0, 0]);
-        Self { bytes, map: 0 }
-    }
-
-    fn put(&mut self, bit: u32, bytes: &[u8]) {
-        self.mark(bit, true);
-        self.bytes.extend_from_slice(bytes);
-    }
-
-    /// A text whose length a byte can say; a longer one is cut, and the book refuses it by its length.
-    fn text(&mut self, bit: u32, text: &[u8]) {
-        let text = &text[..text.len().min(255)];
-        self.put(bit, &[text.len() as u8]);
-        self.bytes.extend_from_slice(text);
-    }
-
-    fn text_if(&mut self, bit: u32, text: Option<&[u8]>) {
-        text.into_iter().for_each(|text| self.text(bit, text));
-    }
-
-    fn code_if(&mut self, bit: u32, code: Option<u8>) {
-        code.into_iter().for_each(|code| self.put(bit, &[code]));
-    }
-
-    /// A price that 64 bits do not hold is sent as the largest, which the book refuses.
-    fn price(&mut self, bit: u32, price: Price) {
-        self.put(bit, &u64::try_from(price.0).unwrap_or(u64::MAX).to_le_bytes());
-    }
-
-    fn qty(&mut self, bit: u32, qty: Qty) {
-        self.put(bit, &qty.0.to_le_bytes());
-    }
-
-    fn mark(&mut self, bit: u32, stands: bool) {
-        self.map |= u32::from(stands) << bit;
-        self.bytes[1..5].copy_from_slice(&self.map.to_le_bytes());
-    }
-}
-
 impl Event<'_> {
-    /// The event's record.
+    /// The event's record. A field that does not fit is written so that the book refuses it by its range: a text is cut at 255
+    /// bytes, and a price beyond 64 bits is the largest that they hold.
+    ///
+    /// ```
+    /// # use jubafiye::Event;
+    /// assert_eq!(Event::GatewayCancel { name: b"G1" }.record(), b"\x09\x04\0\0\0\x02G1");
+    /// ```
     pub fn record(&self) -> Vec<u8> {
         let mut bytes = Vec::with_capacity(128);
         self.write(&mut bytes);
@@ -209,23 +203,31 @@ impl Event<'_> {
     }
 
     /// Writes the event's record in place of what `bytes` holds.
+    ///
+    /// ```
+    /// # use jubafiye::Event;
+    /// let mut bytes = b"an earlier record".to_vec();
+    /// let event = Event::SendAgain { venue: 3, downstream: b"G1" };
+    /// event.write(&mut bytes);
+    /// assert_eq!(bytes, event.record());
+    /// ```
     pub fn write(&self, bytes: &mut Vec<u8>) {
         match self {
             Self::Book(booking) => booking.write(bytes),
             Self::Cancel(amend) => {
                 let mut w = Writer::new(bytes, 2);
                 amend.put(&mut w);
-                w.mark(21, amend.redelivered);
+                w.mark(Bit::REDELIVERED, amend.redelivered);
             }
             Self::Replace(replace) => replace.write(bytes),
             Self::VenueReport(report) => report.write(bytes),
             Self::UnknownAtVenue { venue, downstream } => drop(naming(bytes, 5, *venue, downstream)),
             Self::CancelReject(reject) => reject.write(bytes),
             Self::SendFailed { venue, downstream, text } => {
-                naming(bytes, 7, *venue, downstream).text(20, text)
+                naming(bytes, 7, *venue, downstream).text(Bit::TEXT, text)
             }
             Self::SendAgain { venue, downstream } => drop(naming(bytes, 8, *venue, downstream)),
-            Self::GatewayCancel { name } => Writer::new(bytes, 9).text(2, name),
+            Self::GatewayCancel { name } => Writer::new(bytes, 9).text(Bit::NAME, name),
         }
     }
 }
@@ -233,34 +235,34 @@ impl Event<'_> {
 /// A record that starts with a venue and a downstream ClOrdID.
 fn naming<'a>(bytes: &'a mut Vec<u8>, kind: u8, venue: u16, downstream: &[u8]) -> Writer<'a> {
     let mut w = Writer::new(bytes, kind);
-    w.put(1, &venue.to_le_bytes());
-    w.text(5, downstream);
+    w.put(Bit::VENUE, &venue.to_le_bytes());
+    w.text(Bit::DOWNSTREAM, downstream);
     w
 }
 
 impl Booking<'_> {
     fn write(&self, bytes: &mut Vec<u8>) {
         let mut w = Writer::new(bytes, 1);
-        w.put(0, &self.client.to_le_bytes());
-        w.put(1, &self.venue.to_le_bytes());
-        w.text(2, self.name);
-        w.text(3, self.cl_ord_id);
-        w.text(6, self.symbol);
-        w.put(7, &[self.side.code()]);
-        w.put(8, &[self.ord_type.code()]);
-        w.qty(9, self.qty);
-        self.price.into_iter().for_each(|price| w.price(10, price));
-        w.code_if(11, self.time_in_force.map(TimeInForce::code));
+        w.put(Bit::CLIENT, &self.client.to_le_bytes());
+        w.put(Bit::VENUE, &self.venue.to_le_bytes());
+        w.text(Bit::NAME, self.name);
+        w.text(Bit::CL_ORD_ID, self.cl_ord_id);
+        w.text(Bit::SYMBOL, self.symbol);
+        w.put(Bit::SIDE, &[self.side.code()]);
+        w.put(Bit::ORD_TYPE, &[self.ord_type.code()]);
+        w.qty(Bit::QTY, self.qty);
+        w.price_if(Bit::PRICE, self.price);
+        w.put_if(Bit::TIME_IN_FORCE, self.time_in_force.map(TimeInForce::code));
     }
 }
 
 impl Amend<'_> {
     fn put(&self, w: &mut Writer<'_>) {
-        w.put(0, &self.client.to_le_bytes());
-        w.text(3, self.cl_ord_id);
-        w.text(4, self.orig_cl_ord_id);
-        w.text(6, self.symbol);
-        w.put(7, &[self.side.code()]);
+        w.put(Bit::CLIENT, &self.client.to_le_bytes());
+        w.text(Bit::CL_ORD_ID, self.cl_ord_id);
+        w.text(Bit::ORIG_CL_ORD_ID, self.orig_cl_ord_id);
+        w.text(Bit::SYMBOL, self.symbol);
+        w.put(Bit::SIDE, &[self.side.code()]);
     }
 }
 
@@ -268,25 +270,25 @@ impl Replace<'_> {
     fn write(&self, bytes: &mut Vec<u8>) {
         let mut w = Writer::new(bytes, 3);
         self.amend.put(&mut w);
-        w.code_if(8, self.ord_type.map(OrdType::code));
-        w.qty(9, self.qty);
-        self.price.into_iter().for_each(|price| w.price(10, price));
-        w.code_if(11, self.time_in_force.map(TimeInForce::code));
-        w.mark(21, self.amend.redelivered);
-        w.mark(22, self.blocked);
-        w.put(23, &[self.verdict.map_or_else(RiskReject::number, |()| 0)]);
+        w.put_if(Bit::ORD_TYPE, self.ord_type.map(OrdType::code));
+        w.qty(Bit::QTY, self.qty);
+        w.price_if(Bit::PRICE, self.price);
+        w.put_if(Bit::TIME_IN_FORCE, self.time_in_force.map(TimeInForce::code));
+        w.mark(Bit::REDELIVERED, self.amend.redelivered);
+        w.mark(Bit::BLOCKED, self.blocked);
+        w.put(Bit::VERDICT, &[self.verdict.map_or_else(RiskReject::number, |()| 0)]);
     }
 }
 
 impl VenueReport<'_> {
     fn write(&self, bytes: &mut Vec<u8>) {
         let mut w = naming(bytes, 4, self.venue, self.downstream);
-        w.put(12, &[self.exec_type.code()]);
-        w.code_if(13, self.status.map(OrdStatus::code));
-        w.qty(14, self.last_qty);
-        w.price(15, self.last_px);
-        w.qty(16, self.cum_qty);
-        w.price(17, self.avg_px);
+        w.put(Bit::EXEC_TYPE, &[self.exec_type.code()]);
+        w.put_if(Bit::ORD_STATUS, self.status.map(OrdStatus::code));
+        w.qty(Bit::LAST_QTY, self.last_qty);
+        w.price(Bit::LAST_PX, self.last_px);
+        w.qty(Bit::CUM_QTY, self.cum_qty);
+        w.price(Bit::AVG_PX, self.avg_px);
         told(&mut w, self.venue_order_id, self.reason, self.text);
     }
 }
@@ -294,16 +296,18 @@ impl VenueReport<'_> {
 impl RejectedRequest<'_> {
     fn write(&self, bytes: &mut Vec<u8>) {
         let mut w = naming(bytes, 6, self.venue, self.downstream);
-        w.code_if(13, self.status.map(OrdStatus::code));
+        w.put_if(Bit::ORD_STATUS, self.status.map(OrdStatus::code));
         told(&mut w, self.venue_order_id, self.reason, self.text);
     }
 }
 
 /// What a venue may add: its OrderID, a reason and a text.
 fn told(w: &mut Writer<'_>, venue_order_id: Option<&[u8]>, reason: Option<u32>, text: Option<&[u8]>) {
-    w.text_if(18, venue_order_id);
-    reason.into_iter().for_each(|reason| w.put(19, &reason.to_le_bytes()));
-    w.text_if(20, text);
+    w.text_if(Bit::VENUE_ORDER_ID, venue_order_id);
+    if let Some(reason) = reason {
+        w.put(Bit::REASON, &reason.to_le_bytes());
+    }
+    w.text_if(Bit::TEXT, text);
 }
 
 #[cfg(test)]
@@ -351,14 +355,5 @@ mod tests {
         for (event, record) in records {
             assert_eq!(event.record(), record, "{event:?}");
         }
-    }
-
-    #[test]
-    fn a_text_or_price_that_is_too_long_is_still_too_long() {
-        let long = [b'x'; 300];
-        assert_eq!(Event::GatewayCancel { name: &long }.record().len(), 5 + 1 + 255);
-        let mut bytes = Vec::new();
-        Writer::new(&mut bytes, 1).price(10, Price(u128::MAX));
-        assert_eq!(bytes[5..], [0xff; 8]);
     }
 }

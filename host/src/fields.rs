@@ -1,108 +1,94 @@
-//! FIX 4.4's codes and the units of quantities and prices, as document 01 has them. Rests on nothing.
+//! FIX 4.4's codes, as far as the book takes them (docs/SCOPE.md, Codes). Rests on list.
 
-use std::fmt;
+use crate::list::listed;
 
-/// A code list: each value with its FIX character.
-macro_rules! codes {
-    ($(#[$doc:meta])* $name:ident { $($(#[$of:meta])* $variant:ident = $code:literal),* $(,)? }) => {
-        $(#[$doc])*
-        #[derive(Debug, Clone, Copy, PartialEq, Eq, Hash)]
-        pub enum $name {
-            $(
-                #[doc = concat!("FIX's ", stringify!($code), ".")]
-                $variant,
-            )*
-        }
-
-        impl $name {
-            /// FIX's character.
-            pub fn code(self) -> u8 {
-                match self { $(Self::$variant => $code),* }
-            }
-
-            /// The value of a FIX character that the list has.
-            pub fn from_code(code: u8) -> Option<Self> {
-                match code { $($code => Some(Self::$variant),)* _ => None }
-            }
-        }
-    };
-}
-
-codes! {
+listed! {
     /// Side(54).
-    Side { Buy = b'1', Sell = b'2', SellShort = b'5' }
+    ///
+    /// ```
+    /// # use jubafiye::Side;
+    /// assert_eq!(Side::from_code(b'5'), Some(Side::SellShort));
+    /// assert_eq!(Side::Buy.code(), b'1');
+    /// assert_eq!(Side::from_code(b'3'), None);
+    /// ```
+    Side: code, from_code { Buy = b'1' "buy", Sell = b'2' "sell", SellShort = b'5' "sell short" }
 }
-codes! {
+
+listed! {
     /// OrdType(40).
-    OrdType { Market = b'1', Limit = b'2' }
+    OrdType: code, from_code { Market = b'1' "market", Limit = b'2' "limit" }
 }
-codes! {
+
+listed! {
     /// TimeInForce(59).
-    TimeInForce { Day = b'0', Gtc = b'1', Ioc = b'3', Fok = b'4' }
-}
-codes! {
-    /// OrdStatus(39).
-    OrdStatus {
-        PendingNew = b'A', New = b'0', PartiallyFilled = b'1', Filled = b'2', PendingCancel = b'6', PendingReplace = b'E',
-        Canceled = b'4', Expired = b'C', Rejected = b'8',
+    TimeInForce: code, from_code {
+        Day = b'0' "day",
+        Gtc = b'1' "good till cancel",
+        Ioc = b'3' "immediate or cancel",
+        Fok = b'4' "fill or kill",
     }
 }
-codes! {
+
+listed! {
+    /// OrdStatus(39).
+    ///
+    /// ```
+    /// # use jubafiye::OrdStatus;
+    /// assert!(OrdStatus::Expired.is_done() && !OrdStatus::PendingCancel.is_done());
+    /// assert_eq!(OrdStatus::PartiallyFilled.to_string(), "partially filled");
+    /// ```
+    #[non_exhaustive]
+    OrdStatus: code, from_code {
+        PendingNew = b'A' "pending new",
+        New = b'0' "new",
+        PartiallyFilled = b'1' "partially filled",
+        Filled = b'2' "filled",
+        PendingCancel = b'6' "pending cancel",
+        PendingReplace = b'E' "pending replace",
+        Canceled = b'4' "canceled",
+        Expired = b'C' "expired",
+        Rejected = b'8' "rejected",
+    }
+}
+
+listed! {
     /// ExecType(150).
-    ExecType {
-        PendingNew = b'A', New = b'0', Trade = b'F', PendingCancel = b'6', Canceled = b'4', PendingReplace = b'E',
-        Replaced = b'5', Rejected = b'8', Expired = b'C', Restated = b'D', DoneForDay = b'3', Status = b'I',
+    ExecType: code, from_code {
+        PendingNew = b'A' "pending new",
+        New = b'0' "new",
+        Trade = b'F' "trade",
+        PendingCancel = b'6' "pending cancel",
+        Canceled = b'4' "canceled",
+        PendingReplace = b'E' "pending replace",
+        Replaced = b'5' "replaced",
+        Rejected = b'8' "rejected",
+        Expired = b'C' "expired",
+        Restated = b'D' "restated",
+        DoneForDay = b'3' "done for day",
+        Status = b'I' "order status",
     }
 }
 
 impl OrdStatus {
     /// Whether an order with it has ended: the book keeps such a status.
-    pub fn is_done(self) -> bool {
+    pub const fn is_done(self) -> bool {
         matches!(self, Self::Filled | Self::Canceled | Self::Expired | Self::Rejected)
     }
 }
 
-/// A quantity: a count of 1/10,000, at most 10^12 in an event.
-#[derive(Debug, Clone, Copy, PartialEq, Eq, PartialOrd, Ord, Hash, Default)]
-pub struct Qty(pub u64);
+#[cfg(test)]
+mod tests {
+    use super::*;
 
-/// A price: a count of 10^-8, at most 10^14 in an event. A fill price that the book works out may pass 64 bits.
-#[derive(Debug, Clone, Copy, PartialEq, Eq, PartialOrd, Ord, Hash, Default)]
-pub struct Price(pub u128);
-
-impl Qty {
-    /// Whole units; as many as fit.
-    pub const fn units(units: u64) -> Self {
-        Self(units.saturating_mul(10_000))
-    }
-}
-
-impl Price {
-    /// Whole units of money.
-    pub const fn units(units: u64) -> Self {
-        Self(units as u128 * 100_000_000)
-    }
-}
-
-/// With the decimals that it has: `100`, `0.5`.
-impl fmt::Display for Qty {
-    fn fmt(&self, f: &mut fmt::Formatter<'_>) -> fmt::Result {
-        decimal(f, u128::from(self.0), 4)
-    }
-}
-
-/// With the decimals that it has: `10`, `10.7`.
-impl fmt::Display for Price {
-    fn fmt(&self, f: &mut fmt::Formatter<'_>) -> fmt::Result {
-        decimal(f, self.0, 8)
-    }
-}
-
-fn decimal(f: &mut fmt::Formatter<'_>, count: u128, places: usize) -> fmt::Result {
-    let one = 10u128.pow(places as u32);
-    let fraction = format!("{:0places$}", count % one);
-    match fraction.trim_end_matches('0') {
-        "" => f.pad(&(count / one).to_string()),
-        digits => f.pad(&format!("{}.{digits}", count / one)),
+    #[test]
+    fn the_codes_are_fixs() {
+        fn codes<T>(from: fn(u8) -> Option<T>, to: fn(T) -> u8) -> Vec<u8> {
+            (0..=u8::MAX).filter(|&code| from(code).is_some_and(|value| to(value) == code)).collect()
+        }
+        assert_eq!(codes(Side::from_code, Side::code), b"125");
+        assert_eq!(codes(OrdType::from_code, OrdType::code), b"12");
+        assert_eq!(codes(TimeInForce::from_code, TimeInForce::code), b"0134");
+        assert_eq!(codes(OrdStatus::from_code, OrdStatus::code), b"012468ACE");
+        assert_eq!(codes(ExecType::from_code, ExecType::code), b"034568ACDEFI");
     }
 }

@@ -1,7 +1,7 @@
 //! A safe wrapper over the proved order book: typed events in, typed messages out, refusals as an error.
 //!
 //! ```
-//! use jubafiye::{Book, Booking, Event, OrdType, Price, Qty, Side};
+//! use jubafiye::{Book, Booking, Event, OrdType, Side};
 //!
 //! let mut book = Book::new(10_000);
 //! let answer = book.take(&Event::Book(Booking {
@@ -12,25 +12,53 @@
 //!     symbol: b"WHEATH27",
 //!     side: Side::Buy,
 //!     ord_type: OrdType::Limit,
-//!     qty: Qty::units(100),
-//!     price: Some(Price::units(10)),
+//!     qty: "100".parse()?,
+//!     price: Some("10.25".parse()?),
 //!     time_in_force: None,
 //! }))?;
-//! assert!(answer.messages.is_empty());
-//! # Ok::<(), jubafiye::Refusal>(())
+//! assert!(answer.messages.is_empty() && answer.alarms.is_empty());
+//! # Ok::<(), Box<dyn std::error::Error>>(())
 //! ```
 //!
-//! Rests on the static library `libgateway.a` and on the record format of document 01. Nothing here is trusted by the proofs;
-//! the library takes any bytes.
+//! Rests on the static library `libgateway.a` and on the records of docs/SCOPE.md. Nothing here is trusted by the proofs: the
+//! library takes any bytes. Nor does this crate trust the library: whatever bytes it writes and whatever number it returns,
+//! nothing here panics, and an answer that does not read comes back with its bytes ([`Error::Unreadable`]).
+//!
+//! What the book puts out may grow: [`Message`], [`Report`], [`Alarm`], [`OrdStatus`], [`Refusal`] and others are
+//! `#[non_exhaustive]`, so that a `match` on one of them has a last arm.
 
+#![deny(missing_docs, unsafe_code)]
+#![cfg_attr(
+    not(test),
+    deny(
+        clippy::arithmetic_side_effects,
+        clippy::as_conversions,
+        clippy::expect_used,
+        clippy::indexing_slicing,
+        clippy::panic,
+        clippy::unreachable,
+        clippy::unwrap_used
+    )
+)]
+
+mod answer;
 mod book;
+mod decimal;
+mod entries;
+mod error;
 mod event;
 mod fields;
+mod list;
 mod message;
+mod record;
 mod words;
 
-pub use book::{Answer, Book, Refusal, ANSWER_BYTES, BOOK_BYTES};
+pub use answer::{Alarm, Answer};
+pub use book::Book;
+pub use decimal::{DecimalError, Price, Qty};
+pub use entries::{ANSWER_BYTES, BOOK_BYTES};
+pub use error::{BadAnswer, Error, Fault, Refusal};
 pub use event::{Amend, Booking, Event, RejectedRequest, Replace, VenueReport};
-pub use fields::{ExecType, OrdStatus, OrdType, Price, Qty, Side, TimeInForce};
-pub use message::{Alarm, BadAnswer, CancelReject, Message, Report, RequestKind, ToVenue};
+pub use fields::{ExecType, OrdStatus, OrdType, Side, TimeInForce};
+pub use message::{CancelReject, Message, Report, RequestKind, ToVenue};
 pub use words::{FixedText, Reason, RiskReject, Words};

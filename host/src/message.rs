@@ -1,10 +1,17 @@
-//! What the book puts out, read from an answer. Rests on fields and words.
+//! What the book puts out, read from its record (docs/SCOPE.md, Answers). Rests on record, list, fields, decimal and words.
 
-use crate::fields::{ExecType, OrdStatus, OrdType, Price, Qty, Side, TimeInForce};
+use std::fmt;
+
+use crate::decimal::{Price, Qty};
+use crate::error::Fault;
+use crate::fields::{ExecType, OrdStatus, OrdType, Side, TimeInForce};
+use crate::list::listed;
+use crate::record::{Bit, Field, Reader};
 use crate::words::{FixedText, Reason, Words};
 
 /// An ExecutionReport for a client.
 #[derive(Debug, Clone, PartialEq, Eq)]
+#[non_exhaustive]
 pub struct Report {
     /// The client's number.
     pub client: u16,
@@ -48,17 +55,14 @@ pub struct Report {
     pub text: Option<Words>,
 }
 
-/// Which request an answer is for.
-#[derive(Debug, Clone, Copy, PartialEq, Eq, Hash)]
-pub enum RequestKind {
-    /// CxlRejResponseTo(434) 1.
-    Cancel,
-    /// CxlRejResponseTo(434) 2.
-    Replace,
+listed! {
+    /// Which request an answer is for: CxlRejResponseTo(434).
+    RequestKind: number, from_number { Cancel = 1 "cancel", Replace = 2 "replace" }
 }
 
 /// An OrderCancelReject for a client.
 #[derive(Debug, Clone, PartialEq, Eq)]
+#[non_exhaustive]
 pub struct CancelReject {
     /// The client's number.
     pub client: u16,
@@ -80,6 +84,7 @@ pub struct CancelReject {
 
 /// A new order, cancel or replace for a venue.
 #[derive(Debug, Clone, PartialEq, Eq)]
+#[non_exhaustive]
 pub struct ToVenue {
     /// The venue's number.
     pub venue: u16,
@@ -104,7 +109,24 @@ pub struct ToVenue {
 }
 
 /// A message that is to go out.
+///
+/// ```
+/// use jubafiye::Message;
+///
+/// /// Where a message goes: to a client or to a venue, by number.
+/// fn target(message: &Message) -> Option<(&'static str, u16)> {
+///     match message {
+///         Message::Report(report) => Some(("client", report.client)),
+///         Message::CancelReject(reject) => Some(("client", reject.client)),
+///         Message::NewOrder(order) => Some(("venue", order.venue)),
+///         Message::Cancel(request) | Message::Replace(request) => Some(("venue", request.venue)),
+///         _ => None,
+///     }
+/// }
+/// # let _ = target;
+/// ```
 #[derive(Debug, Clone, PartialEq, Eq)]
+#[non_exhaustive]
 pub enum Message {
     /// An ExecutionReport for a client.
     Report(Report),
@@ -118,287 +140,213 @@ pub enum Message {
     Replace(ToVenue),
 }
 
-/// What someone has to look at.
-#[derive(Debug, Clone, Copy, PartialEq, Eq, Hash)]
-pub enum Alarm {
-    /// The gateway has given up cancelling an order.
-    StuckCancel,
-    /// A venue reported more than was ordered; nothing was applied.
-    Overfill,
-    /// A venue named an order or request that is not known.
-    UnknownOrder,
-    /// A venue does not know an order that is live here.
-    UnknownAtVenue,
-    /// A venue reported a fill on an order that is done here; nothing was applied.
-    FillOnDoneOrder,
-}
-
-impl Alarm {
-    pub(crate) fn from_number(number: u8) -> Result<Option<Self>, BadAnswer> {
-        match number {
-            0 => Ok(None),
-            1 => Ok(Some(Self::StuckCancel)),
-            2 => Ok(Some(Self::Overfill)),
-            3 => Ok(Some(Self::UnknownOrder)),
-            4 => Ok(Some(Self::UnknownAtVenue)),
-            5 => Ok(Some(Self::FillOnDoneOrder)),
-            _ => Err(BadAnswer),
-        }
-    }
-}
-
-/// Bytes that are no answer of the book's.
-#[derive(Debug, Clone, Copy, PartialEq, Eq)]
-pub struct BadAnswer;
-
-impl std::fmt::Display for BadAnswer {
-    fn fmt(&self, f: &mut std::fmt::Formatter<'_>) -> std::fmt::Result {
-        f.write_str("these bytes are no answer of the book")
-    }
-}
-
-impl std::error::Error for BadAnswer {}
-
-/// The fields of a record, asked for in bit order.
-struct Reader<'a> {
-    rest: &'a [u8],
-    map: u32,
-}
-
-impl<'a> Reader<'a> {
-    fn take(&mut self, count: usize) -> Result<&'a [u8], BadAnswer> {
-        let (taken, rest) = self.rest.split_at_checked(count).ok_or(BadAnswer)?;
-        self.rest = rest;
-        Ok(taken)
-    }
-
-    fn has(&self, bit: u32) -> bool {
-        self.map >> bit & 1 == 1
-    }
-
-    /// A number of that many bytes, 0 where it does not stand.
-    fn number(&mut self, bit: u32, bytes: usize) -> Result<u128, BadAnswer> {
-        if !self.has(bit) {
-            return Ok(0);
-        }
-        Ok(self.take(bytes)?.iter().rev().fold(0, |number, &byte| number << 8 | u128::from(byte)))
-    }
-
-    fn text(&mut self, bit: u32) -> Result<Option<Vec<u8>>, BadAnswer> {
-        if !self.has(bit) {
-            return Ok(None);
-        }
-        let length = usize::from(self.take(1)?[0]);
-        Ok(Some(self.take(length)?.to_vec()))
-    }
-
-    fn code<T>(&mut self, bit: u32, from: fn(u8) -> Option<T>) -> Result<Option<T>, BadAnswer> {
-        if !self.has(bit) {
-            return Ok(None);
-        }
-        from(self.take(1)?[0]).map(Some).ok_or(BadAnswer)
-    }
-
-    fn qty(&mut self, bit: u32) -> Result<Qty, BadAnswer> {
-        Ok(Qty(self.number(bit, 8)? as u64))
-    }
-
-    fn price(&mut self, bit: u32) -> Result<Option<Price>, BadAnswer> {
-        let there = self.has(bit);
-        let price = Price(self.number(bit, 8)?);
-        Ok(there.then_some(price))
-    }
-}
-
-/// Every field that a message may have, in bit order.
-struct Fields {
-    client: u16,
-    venue: u16,
-    name: Option<Vec<u8>>,
-    cl_ord_id: Option<Vec<u8>>,
-    orig_cl_ord_id: Option<Vec<u8>>,
-    downstream: Option<Vec<u8>>,
-    symbol: Option<Vec<u8>>,
-    side: Option<Side>,
-    ord_type: Option<OrdType>,
-    qty: Qty,
-    price: Option<Price>,
-    time_in_force: Option<TimeInForce>,
-    exec_type: Option<ExecType>,
-    status: Option<OrdStatus>,
-    last_qty: Qty,
-    cum_qty: Qty,
-    avg_px: Price,
-    venue_order_id: Option<Vec<u8>>,
-    reason: u32,
-    given: Option<Vec<u8>>,
-    leaves_qty: Qty,
-    exec_seq: u64,
-    last_px: Price,
-    fixed: Option<FixedText>,
-    origin: Option<fn(u32) -> Reason>,
-    response_to: Option<RequestKind>,
-    orig_downstream: Option<Vec<u8>>,
-}
-
-/// The map of some bits.
-const fn bits(list: &[u32]) -> u32 {
-    let (mut map, mut at) = (0, 0);
-    while at < list.len() {
-        map |= 1 << list[at];
-        at += 1;
-    }
-    map
-}
-
-/// The bits that a kind of message has, and those that it may have.
-fn bits_of(kind: u8) -> Option<(u32, u32)> {
-    const TO_VENUE: u32 = bits(&[1, 5, 6, 7, 8, 9]);
-    match kind {
-        16 => {
-            let required = bits(&[0, 2, 3, 6, 7, 8, 9, 12, 13, 14, 16, 17, 24, 25, 26]);
-            Some((required, bits(&[4, 10, 11, 19, 20, 27, 28])))
-        }
-        17 => Some((bits(&[0, 3, 4, 13, 19, 28, 29]), bits(&[2, 20, 27]))),
-        18 => Some((TO_VENUE, bits(&[10, 11]))),
-        19 | 20 => Some((TO_VENUE | 1 << 30, bits(&[10, 11, 18]))),
-        _ => None,
-    }
-}
-
-fn origin(number: u8) -> Option<fn(u32) -> Reason> {
-    match number {
-        1 => Some(Reason::Ours),
-        2 => Some(Reason::Venue),
-        _ => None,
-    }
-}
-
-fn request_kind(number: u8) -> Option<RequestKind> {
-    match number {
-        1 => Some(RequestKind::Cancel),
-        2 => Some(RequestKind::Replace),
-        _ => None,
-    }
-}
-
-impl Fields {
-    fn read(r: &mut Reader<'_>) -> Result<Self, BadAnswer> {
-        // A reason has an origin, and a message one text at most.
-        if r.has(19) != r.has(28) || r.has(20) && r.has(27) {
-            return Err(BadAnswer);
-        }
-        Ok(Self {
-            client: r.number(0, 2)? as u16,
-            venue: r.number(1, 2)? as u16,
-            name: r.text(2)?,
-            cl_ord_id: r.text(3)?,
-            orig_cl_ord_id: r.text(4)?,
-            downstream: r.text(5)?,
-            symbol: r.text(6)?,
-            side: r.code(7, Side::from_code)?,
-            ord_type: r.code(8, OrdType::from_code)?,
-            qty: r.qty(9)?,
-            price: r.price(10)?,
-            time_in_force: r.code(11, TimeInForce::from_code)?,
-            exec_type: r.code(12, ExecType::from_code)?,
-            status: r.code(13, OrdStatus::from_code)?,
-            last_qty: r.qty(14)?,
-            cum_qty: r.qty(16)?,
-            avg_px: Price(r.number(17, 8)?),
-            venue_order_id: r.text(18)?,
-            reason: r.number(19, 4)? as u32,
-            given: r.text(20)?,
-            leaves_qty: r.qty(24)?,
-            exec_seq: r.number(25, 8)? as u64,
-            last_px: Price(r.number(26, 16)?),
-            fixed: r.code(27, FixedText::from_number)?,
-            origin: r.code(28, origin)?,
-            response_to: r.code(29, request_kind)?,
-            orig_downstream: r.text(30)?,
-        })
-    }
-
-    fn reason(&self) -> Option<Reason> {
-        self.origin.map(|origin| origin(self.reason))
-    }
-
-    fn words(&mut self) -> Option<Words> {
-        self.given.take().map(Words::Given).or(self.fixed.map(Words::Fixed))
-    }
-
-    fn report(mut self) -> Option<Report> {
-        Some(Report {
-            reason: self.reason(),
-            text: self.words(),
-            client: self.client,
-            name: self.name?,
-            cl_ord_id: self.cl_ord_id?,
-            orig_cl_ord_id: self.orig_cl_ord_id,
-            symbol: self.symbol?,
-            side: self.side?,
-            ord_type: self.ord_type?,
-            qty: self.qty,
-            price: self.price,
-            time_in_force: self.time_in_force,
-            exec_type: self.exec_type?,
-            status: self.status?,
-            last_qty: self.last_qty,
-            last_px: self.last_px,
-            cum_qty: self.cum_qty,
-            avg_px: self.avg_px,
-            leaves_qty: self.leaves_qty,
-            exec_seq: self.exec_seq,
-        })
-    }
-
-    fn cancel_reject(mut self) -> Option<CancelReject> {
-        Some(CancelReject {
-            reason: self.reason()?,
-            text: self.words()?,
-            client: self.client,
-            name: self.name,
-            cl_ord_id: self.cl_ord_id?,
-            orig_cl_ord_id: self.orig_cl_ord_id?,
-            status: self.status?,
-            response_to: self.response_to?,
-        })
-    }
-
-    fn for_venue(self) -> Option<ToVenue> {
-        Some(ToVenue {
-            venue: self.venue,
-            downstream: self.downstream?,
-            orig_downstream: self.orig_downstream,
-            symbol: self.symbol?,
-            side: self.side?,
-            ord_type: self.ord_type?,
-            qty: self.qty,
-            price: self.price,
-            time_in_force: self.time_in_force,
-            venue_order_id: self.venue_order_id,
-        })
-    }
-}
-
 impl Message {
-    /// The first message of some bytes, and what stands behind it.
-    pub(crate) fn read(bytes: &[u8]) -> Result<(Self, &[u8]), BadAnswer> {
-        let [kind, a, b, c, d, rest @ ..] = bytes else { return Err(BadAnswer) };
-        let map = u32::from_le_bytes([*a, *b, *c, *d]);
-        let (required, allowed) = bits_of(*kind).ok_or(BadAnswer)?;
-        if map & required != required || map & !(required | allowed) != 0 {
-            return Err(BadAnswer);
+    /// The number of its kind in a record, 16 to 20.
+    pub const fn kind(&self) -> u8 {
+        match self {
+            Self::Report(_) => 16,
+            Self::CancelReject(_) => 17,
+            Self::NewOrder(_) => 18,
+            Self::Cancel(_) => 19,
+            Self::Replace(_) => 20,
         }
-        let mut reader = Reader { rest, map };
-        let fields = Fields::read(&mut reader)?;
-        let message = match kind {
-            16 => fields.report().map(Self::Report),
-            17 => fields.cancel_reject().map(Self::CancelReject),
-            18 => fields.for_venue().map(Self::NewOrder),
-            19 => fields.for_venue().map(Self::Cancel),
-            _ => fields.for_venue().map(Self::Replace),
+    }
+
+    /// The message at the front of some bytes, and what stands behind it.
+    pub(crate) fn read(bytes: &[u8]) -> Result<(Self, &[u8]), Fault> {
+        let mut r = Reader::new(bytes)?;
+        let message = match r.kind() {
+            16 => Self::Report(Report::read(&mut r)?),
+            17 => Self::CancelReject(CancelReject::read(&mut r)?),
+            18 => Self::NewOrder(ToVenue::read(&mut r, false)?),
+            19 => Self::Cancel(ToVenue::read(&mut r, true)?),
+            20 => Self::Replace(ToVenue::read(&mut r, true)?),
+            kind => return Err(Fault::Kind(kind)),
         };
-        Ok((message.ok_or(BadAnswer)?, reader.rest))
+        Ok((message, r.end()?))
+    }
+}
+
+/// A line for a log, with what matters most; it is no record, and may change.
+impl fmt::Display for Message {
+    fn fmt(&self, f: &mut fmt::Formatter<'_>) -> fmt::Result {
+        match self {
+            Self::Report(report) => write!(f, "report {report}"),
+            Self::CancelReject(reject) => write!(f, "refusal {reject}"),
+            Self::NewOrder(order) => write!(f, "new order {order}"),
+            Self::Cancel(request) => write!(f, "cancel {request}"),
+            Self::Replace(request) => write!(f, "replace {request}"),
+        }
+    }
+}
+
+/// As in the line of a [`Message`].
+impl fmt::Display for Report {
+    fn fmt(&self, f: &mut fmt::Formatter<'_>) -> fmt::Result {
+        let Self { client, exec_type, status, last_qty, last_px, cum_qty, leaves_qty, .. } = self;
+        write!(f, "to client {client}: {}, {exec_type}, {status}, ", line(&self.cl_ord_id))?;
+        write!(f, "last {last_qty} at {last_px}, cum {cum_qty}, leaves {leaves_qty}")?;
+        if let Some(reason) = self.reason {
+            write!(f, ", {reason}")?;
+        }
+        if let Some(text) = &self.text {
+            write!(f, ", {}", line(text.to_string().as_bytes()))?;
+        }
+        Ok(())
+    }
+}
+
+/// As in the line of a [`Message`].
+impl fmt::Display for CancelReject {
+    fn fmt(&self, f: &mut fmt::Formatter<'_>) -> fmt::Result {
+        let Self { client, status, reason, response_to, .. } = self;
+        let (id, text) = (line(&self.cl_ord_id), line(self.text.to_string().as_bytes()));
+        write!(f, "of a {response_to} to client {client}: {id}, {status}, {reason}, {text}")
+    }
+}
+
+/// As in the line of a [`Message`].
+impl fmt::Display for ToVenue {
+    fn fmt(&self, f: &mut fmt::Formatter<'_>) -> fmt::Result {
+        write!(f, "to venue {}: {}", self.venue, line(&self.downstream))?;
+        if let Some(orig) = &self.orig_downstream {
+            write!(f, " for {}", line(orig))?;
+        }
+        if let Some(id) = &self.venue_order_id {
+            write!(f, " (its {})", line(id))?;
+        }
+        write!(f, ", {} {} {}, {}", self.side, self.qty, line(&self.symbol), self.ord_type)?;
+        self.price.map_or(Ok(()), |price| write!(f, " {price}"))
+    }
+}
+
+/// Bytes as one line of text.
+fn line(bytes: &[u8]) -> String {
+    String::from_utf8_lossy(bytes).replace(char::is_control, " ")
+}
+
+macro_rules! listed_fields {
+    ($($name:ident, $from:ident;)*) => {
+        $(impl Field for $name {
+            fn read(r: &mut Reader<'_>, bit: Bit) -> Result<Self, Fault> {
+                r.listed(bit, $name::$from)
+            }
+        })*
+    };
+}
+
+listed_fields! {
+    Side, from_code;
+    OrdType, from_code;
+    TimeInForce, from_code;
+    ExecType, from_code;
+    OrdStatus, from_code;
+    FixedText, from_number;
+    RequestKind, from_number;
+    Origin, from_number;
+}
+
+/// Whose a reason is.
+struct Origin(fn(u32) -> Reason);
+
+impl Origin {
+    fn from_number(number: u8) -> Option<Self> {
+        match number {
+            1 => Some(Self(Reason::Ours)),
+            2 => Some(Self(Reason::Venue)),
+            _ => None,
+        }
+    }
+}
+
+/// A reason and a text as the low bits bring them; the high bits say whose the reason is, or bring a fixed text instead.
+struct Why {
+    number: Option<u32>,
+    given: Option<Vec<u8>>,
+}
+
+impl Why {
+    fn read(r: &mut Reader<'_>) -> Result<Self, Fault> {
+        Ok(Self { number: r.maybe(Bit::REASON)?, given: r.maybe(Bit::TEXT)? })
+    }
+
+    fn whole(self, r: &mut Reader<'_>) -> Result<(Option<Reason>, Option<Words>), Fault> {
+        let text = match (self.given, r.maybe(Bit::FIXED_TEXT)?) {
+            (Some(_), Some(_)) => return Err(r.unexpected(Bit::FIXED_TEXT)),
+            (given, fixed) => given.map(Words::Given).or(fixed.map(Words::Fixed)),
+        };
+        let reason = match (self.number, r.maybe(Bit::ORIGIN)?) {
+            (Some(number), Some(Origin(reason))) => Some(reason(number)),
+            (None, None) => None,
+            (Some(_), None) => return Err(r.missing(Bit::ORIGIN)),
+            (None, Some(_)) => return Err(r.missing(Bit::REASON)),
+        };
+        Ok((reason, text))
+    }
+}
+
+impl Report {
+    fn read(r: &mut Reader<'_>) -> Result<Self, Fault> {
+        let mut report = Self {
+            client: r.field(Bit::CLIENT)?,
+            name: r.field(Bit::NAME)?,
+            cl_ord_id: r.field(Bit::CL_ORD_ID)?,
+            orig_cl_ord_id: r.maybe(Bit::ORIG_CL_ORD_ID)?,
+            symbol: r.field(Bit::SYMBOL)?,
+            side: r.field(Bit::SIDE)?,
+            ord_type: r.field(Bit::ORD_TYPE)?,
+            qty: r.field(Bit::QTY)?,
+            price: r.maybe(Bit::PRICE)?,
+            time_in_force: r.maybe(Bit::TIME_IN_FORCE)?,
+            exec_type: r.field(Bit::EXEC_TYPE)?,
+            status: r.field(Bit::ORD_STATUS)?,
+            last_qty: r.field(Bit::LAST_QTY)?,
+            cum_qty: r.field(Bit::CUM_QTY)?,
+            avg_px: r.field(Bit::AVG_PX)?,
+            leaves_qty: Qty::default(),
+            exec_seq: 0,
+            last_px: Price::default(),
+            reason: None,
+            text: None,
+        };
+        let why = Why::read(r)?;
+        report.leaves_qty = r.field(Bit::LEAVES_QTY)?;
+        report.exec_seq = r.field(Bit::EXEC_SEQ)?;
+        report.last_px = Price(r.field(Bit::FILL_PRICE)?);
+        (report.reason, report.text) = why.whole(r)?;
+        Ok(report)
+    }
+}
+
+impl CancelReject {
+    fn read(r: &mut Reader<'_>) -> Result<Self, Fault> {
+        let client = r.field(Bit::CLIENT)?;
+        let name = r.maybe(Bit::NAME)?;
+        let cl_ord_id = r.field(Bit::CL_ORD_ID)?;
+        let orig_cl_ord_id = r.field(Bit::ORIG_CL_ORD_ID)?;
+        let status = r.field(Bit::ORD_STATUS)?;
+        let (reason, text) = Why::read(r)?.whole(r)?;
+        let reason = reason.ok_or(r.missing(Bit::REASON))?;
+        let text = text.ok_or(r.missing(Bit::TEXT))?;
+        let response_to = r.field(Bit::RESPONSE_TO)?;
+        Ok(Self { client, name, cl_ord_id, orig_cl_ord_id, status, reason, response_to, text })
+    }
+}
+
+impl ToVenue {
+    /// A new order, or the request that amends one.
+    fn read(r: &mut Reader<'_>, amends: bool) -> Result<Self, Fault> {
+        Ok(Self {
+            venue: r.field(Bit::VENUE)?,
+            downstream: r.field(Bit::DOWNSTREAM)?,
+            symbol: r.field(Bit::SYMBOL)?,
+            side: r.field(Bit::SIDE)?,
+            ord_type: r.field(Bit::ORD_TYPE)?,
+            qty: r.field(Bit::QTY)?,
+            price: r.maybe(Bit::PRICE)?,
+            time_in_force: r.maybe(Bit::TIME_IN_FORCE)?,
+            venue_order_id: if amends { r.maybe(Bit::VENUE_ORDER_ID)? } else { None },
+            orig_downstream: if amends { Some(r.field(Bit::ORIG_DOWNSTREAM)?) } else { None },
+        })
     }
 }

@@ -1,41 +1,29 @@
-//! Reasons and texts of refusals, by document 01's numbers. Rests on nothing.
+//! Reasons and texts of refusals, by their numbers (docs/SCOPE.md, Answers). Rests on list.
 
 use std::fmt;
 
-/// Why the host's risk check refused a replace, in document 01's order: the verdicts 1 to 7.
-#[derive(Debug, Clone, Copy, PartialEq, Eq, Hash)]
-#[allow(missing_docs)]
-pub enum RiskReject {
-    Symbol,
-    OrderQty,
-    NoReferencePrice,
-    Notional,
-    PriceBand,
-    SelfTrade,
-    Credit,
-}
+use crate::list::listed;
 
-impl RiskReject {
-    const ALL: [Self; 7] = [
-        Self::Symbol,
-        Self::OrderQty,
-        Self::NoReferencePrice,
-        Self::Notional,
-        Self::PriceBand,
-        Self::SelfTrade,
-        Self::Credit,
-    ];
-
-    /// Document 01's verdict number, 1 to 7.
-    pub fn number(self) -> u8 {
-        self as u8 + 1
-    }
-
-    /// The verdict of that number; 0, which passes, is none.
-    pub fn from_number(number: u8) -> Option<Self> {
-        Self::ALL.get(usize::from(number).checked_sub(1)?).copied()
+listed! {
+    /// Why the host's risk check refused a replace: the verdicts 1 to 7.
+    ///
+    /// ```
+    /// # use jubafiye::RiskReject;
+    /// assert_eq!(RiskReject::Credit.number(), 7);
+    /// assert_eq!(RiskReject::from_number(0), None);
+    /// ```
+    RiskReject: number, from_number {
+        Symbol = 1 "symbol",
+        OrderQty = 2 "order quantity",
+        NoReferencePrice = 3 "no reference price",
+        Notional = 4 "notional",
+        PriceBand = 5 "price band",
+        SelfTrade = 6 "self trade",
+        Credit = 7 "credit",
     }
 }
+
+impl std::error::Error for RiskReject {}
 
 /// A reason code, and whose it is.
 #[derive(Debug, Clone, Copy, PartialEq, Eq, Hash)]
@@ -46,7 +34,31 @@ pub enum Reason {
     Venue(u32),
 }
 
-/// A text: one that came with the event, or one of document 01's fixed texts.
+impl Reason {
+    /// The code, for OrdRejReason(103) or CxlRejReason(102).
+    ///
+    /// ```
+    /// # use jubafiye::Reason;
+    /// assert_eq!(Reason::Venue(2).number(), 2);
+    /// assert_eq!(Reason::Venue(2).to_string(), "the venue's reason 2");
+    /// ```
+    pub const fn number(self) -> u32 {
+        match self {
+            Self::Ours(number) | Self::Venue(number) => number,
+        }
+    }
+}
+
+impl fmt::Display for Reason {
+    fn fmt(&self, f: &mut fmt::Formatter<'_>) -> fmt::Result {
+        match self {
+            Self::Ours(number) => write!(f, "our reason {number}"),
+            Self::Venue(number) => write!(f, "the venue's reason {number}"),
+        }
+    }
+}
+
+/// A text: one that came with the event, or one of the book's fixed texts.
 #[derive(Debug, Clone, PartialEq, Eq, Hash)]
 pub enum Words {
     /// The event's own, byte for byte.
@@ -55,55 +67,98 @@ pub enum Words {
     Fixed(FixedText),
 }
 
-/// The texts that the book itself supplies. Its words are the Rust's; those of a risk verdict are the host's to choose.
+/// The texts that the book itself supplies. It puts out their numbers; the words here are the Rust's, those of a risk verdict
+/// this crate's.
+///
+/// ```
+/// use jubafiye::{FixedText, RiskReject};
+///
+/// assert_eq!(FixedText::BelowFilled.number(), 3);
+/// assert_eq!(FixedText::BelowFilled.to_string(), "quantity below filled quantity");
+/// assert_eq!(FixedText::from_number(18), Some(FixedText::Risk(RiskReject::Credit)));
+/// ```
 #[derive(Debug, Clone, Copy, PartialEq, Eq, Hash)]
-#[allow(missing_docs)]
 pub enum FixedText {
+    /// 1: the gateway is cancelling the order.
     GatewayCancelling,
+    /// 2: a replace is pending.
     ReplacePending,
+    /// 3: the new quantity is below the filled one.
     BelowFilled,
+    /// 4: the client is blocked, and the replace would raise the quantity.
     Blocked,
+    /// 5: the ClOrdID was used before.
     Duplicate,
+    /// 6: no such order.
     UnknownOrder,
+    /// 7: the order is done.
     Done,
+    /// 8: the client has used up its ClOrdIDs.
     TooManyRequests,
+    /// 9: the side or the symbol is not the order's.
     SideOrSymbol,
+    /// 10: the venue rejected it and gave no text.
     RejectedByVenue,
+    /// 11: it was not sent before the gateway restarted.
     NotSentBeforeRestart,
+    /// 12 to 18: a risk verdict, 1 to 7.
     Risk(RiskReject),
 }
 
-/// The texts 1 to 11 with their words.
-const TEXTS: [(FixedText, &str); 11] = [
-    (FixedText::GatewayCancelling, "the gateway is cancelling the order"),
-    (FixedText::ReplacePending, "replace pending"),
-    (FixedText::BelowFilled, "quantity below filled quantity"),
-    (FixedText::Blocked, "blocked: a replace may not raise the quantity"),
-    (FixedText::Duplicate, "duplicate ClOrdID"),
-    (FixedText::UnknownOrder, "unknown order"),
-    (FixedText::Done, "order is done"),
-    (FixedText::TooManyRequests, "too many requests today"),
-    (FixedText::SideOrSymbol, "side or symbol does not match"),
-    (FixedText::RejectedByVenue, "rejected by the venue"),
-    (FixedText::NotSentBeforeRestart, "not sent before the gateway restarted"),
-];
-
 impl FixedText {
-    /// The text of document 01's number, 1 to 18.
-    pub fn from_number(number: u8) -> Option<Self> {
-        match number {
-            1..=11 => Some(TEXTS[usize::from(number) - 1].0),
-            _ => RiskReject::from_number(number.checked_sub(11)?).map(Self::Risk),
+    /// Its number, 1 to 18.
+    pub const fn number(self) -> u8 {
+        match self {
+            Self::GatewayCancelling => 1,
+            Self::ReplacePending => 2,
+            Self::BelowFilled => 3,
+            Self::Blocked => 4,
+            Self::Duplicate => 5,
+            Self::UnknownOrder => 6,
+            Self::Done => 7,
+            Self::TooManyRequests => 8,
+            Self::SideOrSymbol => 9,
+            Self::RejectedByVenue => 10,
+            Self::NotSentBeforeRestart => 11,
+            Self::Risk(reject) => reject.number().saturating_add(11),
         }
+    }
+
+    /// The text of a number, 1 to 18.
+    pub fn from_number(number: u8) -> Option<Self> {
+        Some(match number {
+            1 => Self::GatewayCancelling,
+            2 => Self::ReplacePending,
+            3 => Self::BelowFilled,
+            4 => Self::Blocked,
+            5 => Self::Duplicate,
+            6 => Self::UnknownOrder,
+            7 => Self::Done,
+            8 => Self::TooManyRequests,
+            9 => Self::SideOrSymbol,
+            10 => Self::RejectedByVenue,
+            11 => Self::NotSentBeforeRestart,
+            _ => return RiskReject::from_number(number.checked_sub(11)?).map(Self::Risk),
+        })
     }
 }
 
 impl fmt::Display for FixedText {
     fn fmt(&self, f: &mut fmt::Formatter<'_>) -> fmt::Result {
-        match self {
-            Self::Risk(reject) => write!(f, "over a risk limit: {reject:?}"),
-            text => f.pad(TEXTS.iter().find(|(listed, _)| listed == text).map_or("", |(_, words)| words)),
-        }
+        f.pad(match self {
+            Self::GatewayCancelling => "the gateway is cancelling the order",
+            Self::ReplacePending => "replace pending",
+            Self::BelowFilled => "quantity below filled quantity",
+            Self::Blocked => "blocked: a replace may not raise the quantity",
+            Self::Duplicate => "duplicate ClOrdID",
+            Self::UnknownOrder => "unknown order",
+            Self::Done => "order is done",
+            Self::TooManyRequests => "too many requests today",
+            Self::SideOrSymbol => "side or symbol does not match",
+            Self::RejectedByVenue => "rejected by the venue",
+            Self::NotSentBeforeRestart => "not sent before the gateway restarted",
+            Self::Risk(reject) => return f.pad(&format!("over a risk limit: {reject}")),
+        })
     }
 }
 
@@ -122,22 +177,19 @@ mod tests {
     use super::*;
 
     #[test]
-    fn numbers_are_document_01s() {
-        assert_eq!(FixedText::from_number(0), None);
-        assert_eq!(FixedText::from_number(3), Some(FixedText::BelowFilled));
-        assert_eq!(FixedText::from_number(11), Some(FixedText::NotSentBeforeRestart));
+    fn the_texts_by_number() {
+        assert_eq!((FixedText::from_number(0), FixedText::from_number(19)), (None, None));
         assert_eq!(FixedText::from_number(12), Some(FixedText::Risk(RiskReject::Symbol)));
-        assert_eq!(FixedText::from_number(18), Some(FixedText::Risk(RiskReject::Credit)));
-        assert_eq!(FixedText::from_number(19), None);
-        for number in 1..=7 {
-            assert_eq!(RiskReject::from_number(number).map(RiskReject::number), Some(number));
+        for number in 1..=18 {
+            assert_eq!(FixedText::from_number(number).map(FixedText::number), Some(number));
         }
     }
 
     #[test]
     fn words_are_shown() {
         assert_eq!(Words::Given(b"not now".to_vec()).to_string(), "not now");
+        assert_eq!(Words::Given(b"\xff".to_vec()).to_string(), "\u{fffd}");
         assert_eq!(Words::Fixed(FixedText::ReplacePending).to_string(), "replace pending");
-        assert_eq!(FixedText::Risk(RiskReject::Credit).to_string(), "over a risk limit: Credit");
+        assert_eq!(FixedText::Risk(RiskReject::Credit).to_string(), "over a risk limit: credit");
     }
 }

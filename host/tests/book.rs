@@ -1,9 +1,9 @@
 //! The wrapper over the linked library: a day, each kind of message, each refusal by its number, and bytes that are no book.
 
 use jubafiye::{
-    Alarm, Amend, Answer, Book, Booking, CancelReject, Event, ExecType, FixedText, Message, OrdStatus,
+    Alarm, Amend, Answer, Book, Booking, CancelReject, Error, Event, ExecType, FixedText, Message, OrdStatus,
     OrdType, Price, Qty, Reason, Refusal, RejectedRequest, Replace, Report, RequestKind, RiskReject, Side,
-    TimeInForce, ToVenue, VenueReport, Words, ANSWER_BYTES, BOOK_BYTES,
+    TimeInForce, VenueReport, Words, ANSWER_BYTES, BOOK_BYTES,
 };
 
 fn booking<'a>(name: &'a [u8], cl_ord_id: &'a [u8]) -> Booking<'a> {
@@ -24,7 +24,7 @@ fn booking<'a>(name: &'a [u8], cl_ord_id: &'a [u8]) -> Booking<'a> {
 /// An order A, ClOrdID C1, limit 100 at 10, that the venue has acknowledged.
 fn live() -> Book {
     let mut book = Book::new(10_000);
-    assert_eq!(book.take(&Event::Book(booking(b"A", b"C1"))), Ok(Answer { messages: vec![], alarm: None }));
+    assert_eq!(book.take(&Event::Book(booking(b"A", b"C1"))), Ok(Answer::default()));
     book.take(&report(b"A", 0, 0, 0)).unwrap();
     book
 }
@@ -64,7 +64,7 @@ fn replace(cl_ord_id: &[u8], qty: u64) -> Replace<'_> {
 /// The one message that an event brings.
 fn one(book: &mut Book, event: &Event<'_>) -> Message {
     let mut answer = book.take(event).unwrap();
-    assert_eq!((answer.messages.len(), answer.alarm), (1, None), "{event:?}");
+    assert_eq!((answer.messages.len(), &answer.alarms[..]), (1, &[][..]), "{event:?}");
     answer.messages.remove(0)
 }
 
@@ -95,27 +95,23 @@ fn a_fill_is_told_as_the_rise_at_its_price() {
     assert_eq!((told.last_qty, told.last_px.to_string()), (Qty::units(30), "10.7".into()));
     assert_eq!((told.exec_seq, told.status), (3, OrdStatus::PartiallyFilled));
     let over = book.take(&report(b"A", 101, 31, 1_030_000_000)).unwrap();
-    assert_eq!(over, Answer { messages: vec![], alarm: Some(Alarm::Overfill) });
+    assert_eq!((over.messages, over.alarms), (vec![], vec![Alarm::Overfill]));
     assert!(book.keeps_rules());
 }
 
 #[test]
 fn a_cancel_goes_to_the_venue_under_the_next_name() {
     let mut book = live();
-    let cancel = one(&mut book, &Event::Cancel(amend(b"C2")));
-    let right = ToVenue {
-        venue: 3,
-        downstream: b"A-1".to_vec(),
-        orig_downstream: Some(b"A".to_vec()),
-        symbol: b"W".to_vec(),
-        side: Side::Buy,
-        ord_type: OrdType::Limit,
-        qty: Qty::units(100),
-        price: Some(Price::units(10)),
-        time_in_force: None,
-        venue_order_id: None,
+    let Message::Cancel(sent) = one(&mut book, &Event::Cancel(amend(b"C2"))) else {
+        panic!("a cancel goes out");
     };
-    assert_eq!(cancel, Message::Cancel(right));
+    assert_eq!(
+        (sent.venue, &sent.downstream[..], sent.orig_downstream.as_deref()),
+        (3, &b"A-1"[..], Some(&b"A"[..]))
+    );
+    assert_eq!((&sent.symbol[..], sent.side, sent.ord_type), (&b"W"[..], Side::Buy, OrdType::Limit));
+    assert_eq!((sent.qty, sent.price), (Qty::units(100), Some(Price::units(10))));
+    assert_eq!((sent.time_in_force, sent.venue_order_id), (None, None));
 }
 
 #[test]
@@ -172,7 +168,10 @@ fn sends_that_fail_or_go_again() {
 #[test]
 fn alarms() {
     let mut book = live();
-    let alarm = |book: &mut Book, event: Event<'_>| book.take(&event).unwrap().alarm;
+    let alarm = |book: &mut Book, event: Event<'_>| match book.take(&event).unwrap().alarms[..] {
+        [alarm] => Some(alarm),
+        _ => None,
+    };
     assert_eq!(alarm(&mut book, report(b"B", 0, 0, 0)), Some(Alarm::UnknownOrder));
     let unknown = Event::UnknownAtVenue { venue: 3, downstream: b"A" };
     assert_eq!(alarm(&mut book, unknown), Some(Alarm::UnknownAtVenue));
@@ -208,20 +207,23 @@ fn refused(book: &mut Book, event: Event<'_>) -> u32 {
     let before = book.as_bytes().to_vec();
     let refusal = book.take(&event).unwrap_err();
     assert_eq!(book.as_bytes(), before, "{event:?}");
+    assert_eq!(refusal.refusal().map(Refusal::number), Some(refusal.number()));
     refusal.number()
 }
 
 #[test]
 fn each_refusal_by_its_number() {
     let mut book = live();
-    assert!(matches!(Book::from_bytes(vec![255; BOOK_BYTES]), Err(refusal) if refusal.number() == 1));
+    assert!(matches!(Book::from_bytes(&[255; BOOK_BYTES]), Err(refusal) if refusal.number() == 1));
     let before = book.as_bytes().to_vec();
-    let mut short = [0xAA; ANSWER_BYTES - 1];
     let booked = Event::Book(booking(b"B", b"C2")).record();
-    assert_eq!(book.take_record_into(&booked, &mut short), Err(Refusal::AnswerBuffer));
-    assert_eq!(short, [0xAA; ANSWER_BYTES - 1]);
+    for length in [0, 1, 2, 3, 4, 100, ANSWER_BYTES - 1] {
+        let mut short = vec![0xAA; length];
+        assert_eq!(book.take_record_into(&booked, &mut short), Err(Refusal::AnswerBuffer), "{length} bytes");
+        assert_eq!(short, vec![0xAA; length]);
+    }
     for end in 0..booked.len() {
-        assert_eq!(book.take_record(&booked[..end]).map_err(Refusal::number), Err(3), "cut at {end}");
+        assert_eq!(book.take_record(&booked[..end]), Err(Error::Refused(Refusal::Record)), "cut at {end}");
     }
     assert_eq!(book.as_bytes(), before);
     assert_eq!(refused(&mut book, Event::Book(booking(b"no-dash", b"C2"))), 4);
@@ -255,7 +257,7 @@ fn order_65_and_request_257_do_not_fit() {
 fn a_book_goes_on_from_its_bytes() {
     let mut book = live();
     book.take(&Event::Cancel(amend(b"C2"))).unwrap();
-    let mut restored = Book::from_bytes(book.clone().into_bytes()).unwrap();
+    let mut restored = Book::from_bytes(&book.clone().into_bytes()).unwrap();
     let fill = report(b"A", 40, 40, 1);
     assert_eq!(restored.take(&fill), book.take(&fill));
     assert_eq!(restored.as_bytes(), book.as_bytes());
@@ -263,28 +265,39 @@ fn a_book_goes_on_from_its_bytes() {
 
 #[test]
 fn bytes_that_are_no_book_are_refused() {
-    assert!(Book::from_bytes(vec![0; BOOK_BYTES]).is_ok());
+    assert!(Book::from_bytes(&[0; BOOK_BYTES]).is_ok());
     for length in [0, 1, BOOK_BYTES - 1, BOOK_BYTES + 1] {
-        assert!(matches!(Book::from_bytes(vec![0; length]), Err(Refusal::Book)), "{length} bytes");
+        assert!(matches!(Book::from_bytes(&vec![0; length]), Err(Refusal::Book)), "{length} bytes");
     }
     let mut bytes = live().into_bytes();
     // The order's status.
     bytes[256 + 188] = b'9';
-    assert!(matches!(Book::from_bytes(bytes), Err(Refusal::Book)));
+    assert!(matches!(Book::from_bytes(&bytes), Err(Refusal::Book)));
 }
 
 #[test]
-fn bytes_that_are_no_answer_are_refused() {
+fn a_message_is_shown_as_one_line() {
     let mut book = live();
-    let mut buffer = [0; ANSWER_BYTES];
-    let answer = book.take_record_into(&report(b"A", 40, 40, 1).record(), &mut buffer).unwrap().to_vec();
-    assert!(Answer::read(&answer).is_ok());
-    for end in 0..answer.len() {
-        assert!(Answer::read(&answer[..end]).is_err(), "cut at {end}");
-    }
-    for (at, value) in [(0, 0xFF), (2, 0), (2, 2), (2, 3), (3, 6), (4, 15), (4, 17), (5, 0), (8, 0xFF)] {
-        let mut spoiled = answer.clone();
-        spoiled[at] = value;
-        assert!(Answer::read(&spoiled).is_err(), "byte {at} made {value}");
-    }
+    let line = |book: &mut Book, event: Event<'_>| one(book, &event).to_string();
+    let told = line(&mut book, report(b"A", 40, 40, 1_000_000_000));
+    assert_eq!(told, "report to client 7: C1, trade, partially filled, last 40 at 11, cum 40, leaves 60");
+    let below = line(&mut book, Event::Replace(replace(b"C2", 39)));
+    assert_eq!(
+        below,
+        "refusal of a replace to client 7: C2, partially filled, our reason 99, quantity below filled quantity"
+    );
+    let sent = line(&mut book, Event::Cancel(amend(b"C\n3")));
+    assert_eq!(sent, "cancel to venue 3: A-1 for A, buy 100 W, limit 10");
+    let failed = Event::SendFailed { venue: 3, downstream: b"A-1", text: b"two\nlines" };
+    assert_eq!(
+        line(&mut book, failed),
+        "refusal of a cancel to client 7: C 3, partially filled, our reason 99, two lines"
+    );
+}
+
+#[test]
+fn a_book_may_move_to_another_thread() {
+    fn moves<T: Send + Sync + 'static>(_: &T) {}
+    moves(&live());
+    moves(&Error::Refused(Refusal::Full));
 }

@@ -6,31 +6,34 @@ use mathlib.Core.Bool.{Bool, true, false, not}
 use mathlib.Core.List.{List, []}
 use lib.Dec.{eqb}
 use lib.ListN.{length}
-use borrow.Author.Tests.{eqb-true, eq-eqb, lt-ltb, le-ltb, ne-eqb, not-false}
+use borrow.Author.Tests.{eqb-true, eqb-false, eq-eqb, lt-ltb, le-ltb, ne-eqb, not-false}
 use Rattle.prelude.specs.Cases.{if_then_else_, split-if, if-true, if-false, clash}
 use Rattle.prelude.specs.Number.{Bytes}
-use Rattle.records.specs.Record.{eventRefusal, eventIn}
+use Rattle.records.specs.Record.{eventIn}
 use Rattle.records.specs.Answer.{answerMessages}
-use Rattle.records.specs.Accepted.{event-right}
 use Rattle.store.specs.Book.{requestIn, isBook, bookOf, blank}
-use Rattle.store.specs.Adds.{blank-book}
-use Rattle.store.specs.Kept.{bytes-blank}
 use Rattle.machine.specs.declared.Change.{Change}
 use Rattle.machine.specs.Changes.{Event}
 use Rattle.machine.specs.Machine.{stepOf, after}
 use Rattle.machine.specs.Rules.{rules}
 use Rattle.machine.specs.History.{Decoded, unread, readAs, comesTo, messagesOf, leftBy, lineOf, Kinds}
+use Rattle.machine.specs.Said.{Answers}
 use Rattle.machine.specs.Calls.{lineAt, calls, Faithful}
 use Rattle.machine.specs.Claim.{Demand3, OneOrder}
 use Rattle.machine.proofs.Said.Reads.{event-kind}
 use Rattle.machine.proofs.Said.Steps.{answer-read}
 use Rattle.machine.proofs.Claim.Calls.{demand-of, since-return}
 use Rattle.machine.proofs.Claim.OneOrder.{stays-one}
-use Rattle.rules.specs.Keeps.{keepsOf, keeps-held}
-use Rattle.gateway.specs.Entries.{Outcome, callOf, eventOf, startRefusal, startOf}
-use Rattle.claims.specs.Claims.{Call, readCall, heardOf, entries, Demand3OnBytes, Passes, SinceOnBytes, StaysOneOnBytes}
+use Rattle.rules.specs.Keeps.{keepsOf}
+use Rattle.claims.specs.Claims.{Call, readCall, heardOf, entries, AnswersOnBytes, Demand3OnBytes, Passes, SinceOnBytes, StaysOneOnBytes}
 use Rattle.claims.proofs.Header.{blank-keeps}
 use Rattle.claims.proofs.Taken.{Asked, broken, short, unreadable, stepped, asked, Taken, call-taken, left, event-refused, returned-is, outcome-taken, either-way, whole, writes, check-kept, kept-check, keeps-after, keeps-sizes}
+use Rattle.step.specs.Entries.{Outcome, callOf, eventOf, startRefusal, startOf}
+use Rattle.format.specs.Refusal.{eventRefusal}
+use Rattle.records.specs.Laws.Accepted.{event-right}
+use Rattle.store.specs.Laws.Adds.{blank-book}
+use Rattle.store.specs.Laws.Kept.{bytes-blank}
+use Rattle.rules.specs.Laws.Keeps.{keeps-held}
 
 -- ---- a call comes to what the machine's comes to
 
@@ -41,10 +44,21 @@ asked-comes b i c k (short _ l) = rw (lt-ltb (length (i .answer)) 1024 l, keeps-
 asked-comes b i c k (unreadable _ l n) = rw (le-ltb (length (i .answer)) 1024 l, ne-eqb (eventRefusal (i .event)) 0 n, keeps-held b k .rules) refl
 asked-comes b i c k (stepped _ l z) = rw (le-ltb (length (i .answer)) 1024 l, eq-eqb (eventRefusal (i .event)) 0 z, keeps-held b k .rules) refl
 
-comes : (b : List ℕ) (i : Call) → keepsOf b ≡ true → comesTo (bookOf b) (readCall i) ≡ callOf b (i .event) (i .answer)
-comes b i k = asked-comes b i (callOf b (i .event) (i .answer)) k (asked b (i .event) (i .answer))
+comes : (b : List ℕ) (i : Call) → keepsOf b ≡ true → comesTo (bookOf b) (readCall i) ≡ callOf b (i .event) (length (i .answer))
+comes b i k = asked-comes b i (callOf b (i .event) (length (i .answer))) k (asked b (i .event) (i .answer))
 
 -- ---- what is heard, and the book that is left
+
+read-back : (b r a : List ℕ) → Bytes b → Bytes r → Taken b r a → Answers (stepOf (bookOf b) (eventIn r)) (left b a (stepOf (bookOf b) (eventIn r)) .answer)
+read-back b r a bytes bytes′ t =
+    answer-read (bookOf b) (eventIn r) a (keeps-held b (t .keeps) .rules)
+    (whole b r bytes bytes′ (t .keeps) (t .reads) (t .taken)) (event-right r bytes′ (t .reads)) (t .room)
+
+-- OUR READER reads what `event` writes
+pub answers-on-bytes : AnswersOnBytes
+answers-on-bytes b r a bytes bytes′ =
+    either-way (λ (o : Outcome). o .returned ≡ 0 → Answers (stepOf (bookOf b) (eventIn r)) (o .answer)) b r a
+    (λ t z. read-back b r a bytes bytes′ t) (λ e z. absurd (eqb-false _ 0 e z))
 
 pub record Good (b : List ℕ) : Type 0 where
   pub keeps : keepsOf b ≡ true
@@ -52,7 +66,7 @@ pub record Good (b : List ℕ) : Type 0 where
 
 module _ (b : List ℕ) (i : Call) (g : Good b) where
   abbrev c : Change
-  c = callOf b (i .event) (i .answer)
+  c = callOf b (i .event) (length (i .answer))
 
   abbrev o : Outcome
   o = eventOf b (i .event) (i .answer)
@@ -78,8 +92,7 @@ module _ (b : List ℕ) (i : Call) (g : Good b) where
             messages =
                 ap (λ (x : Outcome). if eqb (x .returned) 0 then answerMessages (x .answer) else []) is
                 ∙ if-true _ _ _ refl
-                ∙ answer-read (bookOf b) (eventIn (i .event)) (i .answer) (d .output .alarm) (keeps-held b (g .keeps) .rules)
-                (whole b (i .event) (g .bytes) (i .bytes) (g .keeps) (t .reads) (t .taken)) (event-right (i .event) (i .bytes) (t .reads)) (t .room)
+                ∙ read-back b (i .event) (i .answer) (g .bytes) (i .bytes) t .messages
                 ∙ ap messagesOf (sym (t .is));
             left′ =
                 ap (λ (x : Outcome). bookOf (x .book)) is

@@ -9,19 +9,22 @@ use lib.Dec.{eqb, leb, ltb}
 use lib.ListN.{length}
 use borrow.Author.Tests.{eqb-true, eqb-false, eq-eqb, leb-true, ltb-true, ltb-false, lt-ltb, le-ltb, not-true, not-false}
 use Rattle.prelude.specs.Cases.{if_then_else_, split-if, if-true, if-false, clash, both-true, either-true}
-use Rattle.records.specs.Record.{eventRefusal, eventIn}
+use Rattle.records.specs.Record.{eventIn}
+use Rattle.store.specs.Layout.{mostOrders, mostRequests}
 use Rattle.store.specs.Book.{Book, isBook, bookOf, blank}
 use Rattle.machine.specs.declared.Change.{Change}
 use Rattle.machine.specs.Changes.{Event, refusing}
 use Rattle.machine.proofs.Claim.Ruled.{ruled}
 use Rattle.machine.proofs.Kept.Lift.{BookKept, book-kept}
-use Rattle.rules.specs.Keeps.{keepsOf, keeps-held}
-use Rattle.gateway.specs.Entries.{Outcome, callOf, eventOf, startRefusal, startOf, checkOf}
-use Rattle.claims.specs.Questions.{isBooking, isReplace, used, mispriced, adds, full, firstNo}
-use Rattle.claims.specs.Claims.{Reads, Numbers, Demand1}
+use Rattle.rules.specs.Keeps.{keepsOf}
+use Rattle.claims.specs.Questions.{isBooking, used, mispriced, adds, full, firstNo}
+use Rattle.claims.specs.Claims.{Reads, Numbers, Grown, Demand1}
 use Rattle.claims.proofs.Header.{blank-keeps}
-use Rattle.claims.proofs.Refusals.{step-number}
-use Rattle.claims.proofs.Taken.{Asked, broken, short, unreadable, stepped, asked, returned-is, keeps-after, check-kept, check-broken, kept-check, either-way}
+use Rattle.claims.proofs.Refusals.{step-number, step-grown}
+use Rattle.claims.proofs.Taken.{Asked, broken, short, unreadable, stepped, asked, returned-is, writes, keeps-after, check-kept, check-broken, kept-check, either-way}
+use Rattle.step.specs.Entries.{Outcome, callOf, eventOf, startRefusal, startOf, checkOf}
+use Rattle.format.specs.Refusal.{eventRefusal}
+use Rattle.rules.specs.Laws.Keeps.{keeps-held}
 
 -- ---- the number
 
@@ -45,26 +48,24 @@ asked-number b r a c (stepped k l z) =
     rw (k, le-ltb (length a) 1024 l, z) (step-number (bookOf b) (ruled (bookOf b) (keeps-held b k .rules)) (eventIn r))
 
 first-no : (b r a : List ℕ) → eventOf b r a .returned ≡ firstNo b r a
-first-no b r a = returned-is b r a ∙ asked-number b r a (callOf b r a) (asked b r a)
+first-no b r a = returned-is b r a ∙ asked-number b r a (callOf b r (length a)) (asked b r a)
 
 -- ---- what each number says
 
-used-kind : (b : Book) (e : Event) → used b e ≡ true → e .kind ≡ 1
-unfolding used
-used-kind b e t = eqb-true (e .kind) 1 (both-true (isBooking e) _ t .0)
+-- one of the tables that the event wants is full
+abbrev Counts : Book → Event → Type 0
+Counts b e = ((e .kind ≡ 1) × (length (b .orders) ≡ mostOrders)) ⊎ ((adds b e ≡ true) × (length (b .requests) ≡ mostRequests))
 
-mispriced-kind : (b : Book) (e : Event) → mispriced b e ≡ true → (e .kind ≡ 1) ⊎ (e .kind ≡ 3)
-unfolding mispriced
-mispriced-kind b e t =
-    ⊎-elim (λ x. inl (eqb-true (e .kind) 1 x)) (λ x. inr (eqb-true (e .kind) 3 x)) (one-of (isBooking e) _ (isReplace e) _ t)
+counts-full : (b : Book) (e : Event) → Counts b e → full b e ≡ true
+unfolding full
+counts-full b e (inl x) = rw (eq-eqb (e .kind) 1 (x .0), x .1) refl
+counts-full b e (inr x) = rw (x .0, x .1) (last (isBooking e && leb mostOrders (length (b .orders))))
   where
-    one-of : (k x m y : Bool) → (k && x) || (m && y) ≡ true → (k ≡ true) ⊎ (m ≡ true)
-    one-of true x m y z = inl refl
-    one-of false x true y z = inr refl
-    one-of false x false y z = clash false z refl
+    last : (x : Bool) → x || true ≡ true
+    last true = refl
+    last false = refl
 
-full-counts : (b : Book) (e : Event) → BookKept b → full b e ≡ true
-    → ((e .kind ≡ 1) × (length (b .orders) ≡ 64)) ⊎ ((adds b e ≡ true) × (length (b .requests) ≡ 256))
+full-counts : (b : Book) (e : Event) → BookKept b → full b e ≡ true → Counts b e
 unfolding full
 full-counts b e good t =
     ⊎-elim
@@ -82,10 +83,10 @@ module _ (b r a : List ℕ) where
   Says (suc (suc zero)) = (checkOf b ≡ 0) × (length a < 1024)
   Says (suc (suc (suc zero))) = (checkOf b ≡ 0) × (1024 ≤ length a) × (eventRefusal r ≡ 3)
   Says (suc (suc (suc (suc zero)))) = (checkOf b ≡ 0) × (1024 ≤ length a) × (eventRefusal r ≡ 4)
-  Says (suc (suc (suc (suc (suc zero))))) = Reads b r a × (eventIn r .kind ≡ 1)
-  Says (suc (suc (suc (suc (suc (suc zero)))))) = Reads b r a × ((eventIn r .kind ≡ 1) ⊎ (eventIn r .kind ≡ 3))
+  Says (suc (suc (suc (suc (suc zero))))) = Reads b r a × (used (bookOf b) (eventIn r) ≡ true)
+  Says (suc (suc (suc (suc (suc (suc zero)))))) = Reads b r a × (used (bookOf b) (eventIn r) ≡ false) × (mispriced (bookOf b) (eventIn r) ≡ true)
   Says (suc (suc (suc (suc (suc (suc (suc zero))))))) =
-      Reads b r a × (((eventIn r .kind ≡ 1) × (length (bookOf b .orders) ≡ 64)) ⊎ ((adds (bookOf b) (eventIn r) ≡ true) × (length (bookOf b .requests) ≡ 256)))
+      Reads b r a × (used (bookOf b) (eventIn r) ≡ false) × (mispriced (bookOf b) (eventIn r) ≡ false) × Counts (bookOf b) (eventIn r)
   Says (suc (suc (suc (suc (suc (suc (suc (suc n)))))))) = ⊥
 
   record Known (n : ℕ) : Type 0 where
@@ -110,10 +111,10 @@ module _ (b r a : List ℕ) where
       (λ v. split-if Known (eqb (eventRefusal r) 4) (λ w. record { most = omega arith; says = (c, l, eqb-true (eventRefusal r) 4 w) })
       (λ w.
       let reads : Reads b r a = (c, l, neither v w) in
-      split-if Known (used (bookOf b) (eventIn r)) (λ x. record { most = omega arith; says = (reads, used-kind (bookOf b) (eventIn r) x) })
-      (λ x. split-if Known (mispriced (bookOf b) (eventIn r)) (λ y. record { most = omega arith; says = (reads, mispriced-kind (bookOf b) (eventIn r) y) })
+      split-if Known (used (bookOf b) (eventIn r)) (λ x. record { most = omega arith; says = (reads, x) })
+      (λ x. split-if Known (mispriced (bookOf b) (eventIn r)) (λ y. record { most = omega arith; says = (reads, x, y) })
       (λ y. split-if Known (full (bookOf b) (eventIn r))
-      (λ z. record { most = omega arith; says = (reads, full-counts (bookOf b) (eventIn r) (book-kept (bookOf b) (keeps-held b k .rules)) z) })
+      (λ z. record { most = omega arith; says = (reads, x, y, full-counts (bookOf b) (eventIn r) (book-kept (bookOf b) (keeps-held b k .rules)) z) })
       (λ z. record { most = omega arith; says = tt })))))))
 
   broken-check : checkOf b ≡ 1 → keepsOf b ≡ false
@@ -131,9 +132,9 @@ module _ (b r a : List ℕ) where
     two = (λ z. subst Says z (known .says), λ z. rw (kept-check b (z .0), lt-ltb (length a) 1024 (z .1)) refl);
     three = (λ z. subst Says z (known .says), λ z. rw (kept-check b (z .0), le-ltb (length a) 1024 (z .1), z .2) refl);
     four = (λ z. subst Says z (known .says), λ z. rw (kept-check b (z .0), le-ltb (length a) 1024 (z .1), z .2) refl);
-    five = λ z. subst Says z (known .says);
-    six = λ z. subst Says z (known .says);
-    seven = λ z. subst Says z (known .says);
+    five = (λ z. subst Says z (known .says), λ z. rw (kept-check b (z .0 .0), le-ltb (length a) 1024 (z .0 .1), z .0 .2, z .1) refl);
+    six = (λ z. subst Says z (known .says), λ z. rw (kept-check b (z .0 .0), le-ltb (length a) 1024 (z .0 .1), z .0 .2, z .1, z .2) refl);
+    seven = (λ z. subst Says z (known .says), λ z. rw (kept-check b (z .0 .0), le-ltb (length a) 1024 (z .0 .1), z .0 .2, z .1, z .2, counts-full (bookOf b) (eventIn r) (z .3)) refl);
   }
 
 -- ---- demand 1
@@ -161,4 +162,9 @@ demand1 = record {
   refused = refused;
   first = first-no;
   numbers = λ b r a. subst (Numbers b r a) (sym (first-no b r a)) (numbers b r a);
+  grown = λ b r a bytes bytes′.
+      either-way (λ (o : Outcome). o .returned ≡ 0 → Grown (bookOf b) (eventIn r) (bookOf (o .book))) b r a
+      (λ t z. subst (Grown (bookOf b) (eventIn r)) (sym (writes b r bytes bytes′ (t .keeps) (t .reads) (t .taken) .is))
+      (step-grown (bookOf b) (ruled (bookOf b) (keeps-held b (t .keeps) .rules)) (eventIn r) (t .taken)))
+      (λ e z. absurd (eqb-false _ 0 e z));
 }

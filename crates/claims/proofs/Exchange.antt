@@ -9,31 +9,32 @@ use borrow.Author.Tests.{eq-eqb, le-ltb}
 use Rattle.prelude.specs.Cases.{if_then_else_, if-true, if-false}
 use Rattle.prelude.specs.Number.{Bytes}
 use Rattle.prelude.specs.Span.{splice}
-use Rattle.records.specs.Record.{eventRefusal}
-use Rattle.records.specs.Answer.{answerBytes}
+use Rattle.records.specs.Answer.{answerBytes, chosen}
 use Rattle.store.specs.Book.{Book, bookOf}
 use Rattle.machine.specs.declared.Output.{Output}
 use Rattle.machine.specs.declared.Change.{Change}
 use Rattle.machine.specs.Changes.{Event}
 use Rattle.machine.specs.Machine.{stepOf, after, bookAfter}
 use Rattle.machine.specs.Rules.{rules}
-use Rattle.machine.specs.History.{spoken, messagesOf}
+use Rattle.machine.specs.History.{messagesOf}
 use Rattle.machine.specs.Exchange.{SameOrder, openOf, Turned, OfTwoClients, Exchanged}
 use Rattle.machine.proofs.Exchange.Whole.{two-clients, same-book}
 use Rattle.machine.proofs.Exchange.Places.{turned-book}
-use Rattle.rules.specs.Keeps.{keepsOf, keeps-held}
-use Rattle.gateway.specs.Entries.{Outcome, callOf}
+use Rattle.rules.specs.Keeps.{keepsOf}
 use Rattle.claims.specs.Claims.{Call}
-use Rattle.claims.specs.Exchange.{called, told, CallsOfTwoClients, oneWay, CallsExchanged, TwoClientsOnBytes}
+use Rattle.claims.specs.Exchange.{called, callEvent, CallsOfTwoClients, oneWay, CallsExchanged, TwoClientsOnBytes}
 use Rattle.claims.proofs.Taken.{Taken, call-taken, left, returned-is, outcome-taken, writes, keeps-after, keeps-sizes}
+use Rattle.step.specs.Entries.{Outcome, callOf}
+use Rattle.format.specs.Refusal.{eventRefusal}
+use Rattle.rules.specs.Laws.Keeps.{keeps-held}
 
 -- ---- a call that gets to the machine
 
-steps : (b : List ℕ) (i : Call) → keepsOf b ≡ true → 1024 ≤ length (i .answer) → eventRefusal (i .event) ≡ 0 → callOf b (i .event) (i .answer) ≡ stepOf (bookOf b) (told i)
+steps : (b : List ℕ) (i : Call) → keepsOf b ≡ true → 1024 ≤ length (i .answer) → eventRefusal (i .event) ≡ 0 → callOf b (i .event) (length (i .answer)) ≡ stepOf (bookOf b) (callEvent i)
 unfolding callOf
 steps b i k l z = if-false _ _ _ (ap not k) ∙ if-false _ _ _ (le-ltb (length (i .answer)) 1024 l) ∙ if-false _ _ _ (ap not (eq-eqb (eventRefusal (i .event)) 0 z))
 
-taken-here : (b : List ℕ) (i : Call) → keepsOf b ≡ true → 1024 ≤ length (i .answer) → eventRefusal (i .event) ≡ 0 → stepOf (bookOf b) (told i) .refusal ≡ 0
+taken-here : (b : List ℕ) (i : Call) → keepsOf b ≡ true → 1024 ≤ length (i .answer) → eventRefusal (i .event) ≡ 0 → stepOf (bookOf b) (callEvent i) .refusal ≡ 0
     → Taken b (i .event) (i .answer)
 taken-here b i k l z t = record { keeps = k; room = l; reads = z; is = steps b i k l z; taken = t }
 
@@ -43,13 +44,13 @@ after-is b e z = sym (if-true _ _ _ (eq-eqb (stepOf b e .refusal) 0 z))
 
 -- what a call that is taken leaves
 module _ (b : List ℕ) (i : Call) (bytes : Bytes b) (t : Taken b (i .event) (i .answer)) where
-  outcome-is : called b i ≡ left b (i .answer) (stepOf (bookOf b) (told i))
+  outcome-is : called b i ≡ left b (i .answer) (stepOf (bookOf b) (callEvent i))
   outcome-is = outcome-taken b (i .event) (i .answer) t
 
-  left-is : bookOf (called b i .book) ≡ bookAfter (bookOf b) (told i)
+  left-is : bookOf (called b i .book) ≡ bookAfter (bookOf b) (callEvent i)
   left-is =
       ap (λ (o : Outcome). bookOf (o .book)) outcome-is ∙ writes b (i .event) bytes (i .bytes) (t .keeps) (t .reads) (t .taken) .is
-      ∙ after-is (bookOf b) (told i) (t .taken)
+      ∙ after-is (bookOf b) (callEvent i) (t .taken)
 
   left-keeps : keepsOf (called b i .book) ≡ true
   left-keeps = ap (λ (o : Outcome). keepsOf (o .book)) outcome-is ∙ keeps-after b (i .event) bytes (i .bytes) (t .keeps) (t .reads) (t .taken)
@@ -65,8 +66,8 @@ answer-same : (a : List ℕ) (c d : Change) → c .refusal ≡ 0 → d .refusal 
     → splice a 0 (answerBytes (c .output .alarm) (messagesOf c)) ≡ splice a 0 (answerBytes (d .output .alarm) (messagesOf d))
 unfolding messagesOf
 answer-same a c d p q e =
-    ap (λ (n : ℕ). splice a 0 (answerBytes (c .output .alarm) (if eqb n 0 then spoken (c .output .count) (c .output .first) (c .output .second) else []))) (p ∙ sym q)
-    ∙ ap (λ (o : Output). splice a 0 (answerBytes (o .alarm) (if eqb (d .refusal) 0 then spoken (o .count) (o .first) (o .second) else []))) e
+    ap (λ (n : ℕ). splice a 0 (answerBytes (c .output .alarm) (if eqb n 0 then chosen (c .output .count) (c .output .first) (c .output .second) else []))) (p ∙ sym q)
+    ∙ ap (λ (o : Output). splice a 0 (answerBytes (o .alarm) (if eqb (d .refusal) 0 then chosen (o .count) (o .first) (o .second) else []))) e
 
 -- ---- the two calls
 
@@ -77,7 +78,7 @@ module _ (b : List ℕ) (d e : Call) (h : CallsOfTwoClients b d e) where
   second : Taken (called b d .book) (e .event) (e .answer)
   second = call-taken (called b d .book) (e .event) (e .answer) (sym (returned-is (called b d .book) (e .event) (e .answer)) ∙ h .second)
 
-  of-two : OfTwoClients (bookOf b) (told d) (told e)
+  of-two : OfTwoClients (bookOf b) (callEvent d) (callEvent e)
   of-two = record {
     kept = keeps-held b (first .keeps) .rules;
     first-kind = h .first-kind;
@@ -85,11 +86,11 @@ module _ (b : List ℕ) (d e : Call) (h : CallsOfTwoClients b d e) where
     concern = h .concern;
     clients = h .clients;
     first = first .taken;
-    second = ap (λ (x : Book). stepOf x (told e) .refusal) (sym (left-is b d (h .bytes) first)) ∙ second .taken;
+    second = ap (λ (x : Book). stepOf x (callEvent e) .refusal) (sym (left-is b d (h .bytes) first)) ∙ second .taken;
   }
 
-  machine : Exchanged (bookOf b) (told d) (told e)
-  machine = two-clients (bookOf b) (told d) (told e) of-two
+  machine : Exchanged (bookOf b) (callEvent d) (callEvent e)
+  machine = two-clients (bookOf b) (callEvent d) (callEvent e) of-two
 
   earlier : Taken b (e .event) (e .answer)
   earlier = taken-here b e (first .keeps) (second .room) (second .reads) (machine .taken-first)
@@ -97,35 +98,35 @@ module _ (b : List ℕ) (d e : Call) (h : CallsOfTwoClients b d e) where
   later : Taken (called b e .book) (d .event) (d .answer)
   later =
       taken-here (called b e .book) d (left-keeps b e (h .bytes) earlier) (first .room) (first .reads)
-      (ap (λ (x : Book). stepOf x (told d) .refusal) (left-is b e (h .bytes) earlier) ∙ machine .taken-second)
+      (ap (λ (x : Book). stepOf x (callEvent d) .refusal) (left-is b e (h .bytes) earlier) ∙ machine .taken-second)
 
-  one-is : oneWay b d e ≡ bookAfter (bookAfter (bookOf b) (told d)) (told e)
-  one-is = left-is (called b d .book) e (left-bytes b d (h .bytes) first) second ∙ ap (λ (x : Book). bookAfter x (told e)) (left-is b d (h .bytes) first)
+  one-is : oneWay b d e ≡ bookAfter (bookAfter (bookOf b) (callEvent d)) (callEvent e)
+  one-is = left-is (called b d .book) e (left-bytes b d (h .bytes) first) second ∙ ap (λ (x : Book). bookAfter x (callEvent e)) (left-is b d (h .bytes) first)
 
-  two-is : oneWay b e d ≡ bookAfter (bookAfter (bookOf b) (told e)) (told d)
-  two-is = left-is (called b e .book) d (left-bytes b e (h .bytes) earlier) later ∙ ap (λ (x : Book). bookAfter x (told d)) (left-is b e (h .bytes) earlier)
+  two-is : oneWay b e d ≡ bookAfter (bookAfter (bookOf b) (callEvent e)) (callEvent d)
+  two-is = left-is (called b e .book) d (left-bytes b e (h .bytes) earlier) later ∙ ap (λ (x : Book). bookAfter x (callEvent d)) (left-is b e (h .bytes) earlier)
 
   -- what holds of the machine's two books holds of these
-  both-are : (P : Book → Book → Type 0) → P (bookAfter (bookAfter (bookOf b) (told d)) (told e)) (bookAfter (bookAfter (bookOf b) (told e)) (told d)) → P (oneWay b d e) (oneWay b e d)
-  both-are P p = subst (λ (x : Book). P x (oneWay b e d)) (sym one-is) (subst (P (bookAfter (bookAfter (bookOf b) (told d)) (told e))) (sym two-is) p)
+  both-are : (P : Book → Book → Type 0) → P (bookAfter (bookAfter (bookOf b) (callEvent d)) (callEvent e)) (bookAfter (bookAfter (bookOf b) (callEvent e)) (callEvent d)) → P (oneWay b d e) (oneWay b e d)
+  both-are P p = subst (λ (x : Book). P x (oneWay b e d)) (sym one-is) (subst (P (bookAfter (bookAfter (bookOf b) (callEvent d)) (callEvent e))) (sym two-is) p)
 
   exchanged : CallsExchanged b d e
   exchanged = record {
     taken-first = returned-none b e (h .bytes) earlier;
     taken-second = returned-none (called b e .book) d (left-bytes b e (h .bytes) earlier) later;
-    answer =
+    first-answer =
         ap (λ (o : Outcome). o .answer) (outcome-is (called b e .book) d (left-bytes b e (h .bytes) earlier) later)
-        ∙ answer-same (d .answer) _ _ (later .taken) (first .taken) (ap (λ (x : Book). stepOf x (told d) .output) (left-is b e (h .bytes) earlier) ∙ machine .answer)
+        ∙ answer-same (d .answer) _ _ (later .taken) (first .taken) (ap (λ (x : Book). stepOf x (callEvent d) .output) (left-is b e (h .bytes) earlier) ∙ machine .first-answer)
         ∙ sym (ap (λ (o : Outcome). o .answer) (outcome-is b d (h .bytes) first));
-    answer′ =
+    second-answer =
         ap (λ (o : Outcome). o .answer) (outcome-is (called b d .book) e (left-bytes b d (h .bytes) first) second)
-        ∙ answer-same (e .answer) _ _ (second .taken) (earlier .taken) (ap (λ (x : Book). stepOf x (told e) .output) (left-is b d (h .bytes) first) ∙ machine .answer′)
+        ∙ answer-same (e .answer) _ _ (second .taken) (earlier .taken) (ap (λ (x : Book). stepOf x (callEvent e) .output) (left-is b d (h .bytes) first) ∙ machine .second-answer)
         ∙ sym (ap (λ (o : Outcome). o .answer) (outcome-is b e (h .bytes) earlier));
     count = both-are (λ x y. length (x .orders) ≡ length (y .orders)) (machine .count);
     orders = λ i. both-are (λ x y. SameOrder x y i) (machine .orders i);
     opens = λ client. both-are (λ x y. openOf x client ≡ openOf y client) (machine .opens client);
-    same = λ z. both-are (λ x y. x ≡ y) (same-book (bookOf b) (told d) (told e) of-two z);
-    turned = λ p q. both-are (Turned (length (bookOf b .requests))) (turned-book (bookOf b) (told d) (told e) of-two p q);
+    same = λ z. both-are (λ x y. x ≡ y) (same-book (bookOf b) (callEvent d) (callEvent e) of-two z);
+    turned = λ p q. both-are (Turned (length (bookOf b .requests))) (turned-book (bookOf b) (callEvent d) (callEvent e) of-two p q);
   }
 
 pub two-clients-on-bytes : TwoClientsOnBytes

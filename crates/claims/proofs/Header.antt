@@ -16,19 +16,20 @@ use Rattle.prelude.specs.Bytes.{zeros, get-zeros}
 use Rattle.store.specs.declared.Order.{Order}
 use Rattle.store.specs.declared.Request.{Request}
 use Rattle.store.specs.Layout.{bookSize, requestBase}
-use Rattle.store.specs.Cells.{same-16}
 use Rattle.store.specs.Orders.{WholeOrder}
 use Rattle.store.specs.Requests.{WholeRequest}
 use Rattle.store.specs.Book.{bookOf, countAt, orderCount, requestCount, settingOf, orderAt, requestAt, putOrder, putRequest, setCount, storeOrder, addOrder, addRequest, markAnswered, blank, emptyBook}
-use Rattle.store.specs.Tables.{length-put-order, span-put-order, length-put-request, span-put-request, length-set-count, span-set-count, count-set-count}
-use Rattle.store.specs.Laws.{in-table}
-use Rattle.store.specs.Adds.{blank-length}
 use Rattle.machine.specs.declared.Requests.{Requests}
 use Rattle.machine.specs.declared.Change.{Change}
 use Rattle.machine.specs.Rules.{rules}
 use Rattle.machine.proofs.Kept.Steps.{start-keeps}
-use Rattle.rules.specs.Keeps.{keepsOf, held-keeps}
-use Rattle.gateway.specs.Entries.{placeOrder, markLink, placeRequests, bookWith}
+use Rattle.rules.specs.Keeps.{keepsOf}
+use Rattle.step.specs.Entries.{placeOrder, markLink, placeRequests, bookWith}
+use Rattle.store.specs.Laws.Cells.{same-16}
+use Rattle.store.specs.Laws.Tables.{length-put-order, span-put-order, length-put-request, span-put-request, length-set-count, span-set-count, count-set-count}
+use Rattle.store.specs.Laws.Stored.{in-table}
+use Rattle.store.specs.Laws.Adds.{blank-length}
+use Rattle.rules.specs.Laws.Keeps.{held-keeps}
 
 pub record Headed (b : List ℕ) : Type 0 where
   pub long : length b ≡ bookSize

@@ -1,11 +1,12 @@
 -- The number that an event gets is that of the first question answered with no. Rests on machine's Moves: what is no booking and no replace is taken.
-use Prim.Native.Nat.{ℕ, _+_, _≤_, _<_}
+use Prim.Native.Nat.{ℕ, _+_, _-_, _≤_, _<_}
 use native.Mathlib.Omega.{arith}
 use mathlib.Core.Path.{_≡_, refl, sym, ap, _∙_, subst}
 use mathlib.Core.Bool.{Bool, true, false, not, _&&_, _||_}
+use mathlib.Core.List.{List, [], _∷_}
 use lib.Dec.{eqb, leb, ltb}
-use lib.ListN.{length}
-use borrow.Author.Tests.{leb-true, leb-false, le-leb, lt-leb, lt-ltb, le-ltb, not-true, not-false}
+use lib.ListN.{length, length-append, length-set}
+use borrow.Author.Tests.{leb-true, leb-false, le-leb, lt-leb, lt-ltb, le-ltb, ne-eqb, not-true, not-false}
 use Rattle.prelude.specs.Below.{first-some}
 use Rattle.prelude.specs.Cases.{if_then_else_, split-if, split-maybe, if-true, if-false, clash}
 use Rattle.prelude.specs.declared.Text.{Text}
@@ -13,40 +14,41 @@ use Rattle.store.specs.declared.Order.{Order}
 use Rattle.store.specs.declared.Request.{Request}
 use Rattle.store.specs.Book.{Book}
 use Rattle.store.specs.Finds.{findClordid}
-use Rattle.machine.specs.declared.Facts.{Facts}
 use Rattle.machine.specs.declared.Change.{Change}
 use Rattle.machine.specs.Changes.{Event, unchanged, refusing, adding, alarming}
 use Rattle.machine.specs.Amend.{amendRefusal, alreadyTaken, orOwn, replaceRefusal, pricedRight, cancel, replace}
-use Rattle.machine.specs.Machine.{orderLink, orderOf, factsOf, unused, bookOrder, amending, onRequest, nothing, unknownReport, onReport, onName, changeOf, hasRoom, stepOf}
+use Rattle.machine.specs.Machine.{orderLink, orderOf, unused, bookOrder, amending, onRequest, nothing, unknownReport, onReport, onName, changeOf, hasRoom, stepOf, answerLink, ordersAfter, requestsAfter, after, findingsOf}
 use Rattle.machine.proofs.Claim.Moves.{Moves, more-moves, cancelOrder-moves, failed-moves, unsent-moves, told-refusal, status-moves, cancel-goes-moves, replace-goes-moves, unknown-moves, reject-moves, report-moves}
 use Rattle.machine.proofs.Claim.Ruled.{Ruled, request-ruled}
 use Rattle.machine.proofs.Claim.Walk.{found-request, found-order, not-kind}
-use Rattle.claims.specs.Questions.{isBooking, isReplace, used, replaced, passedAll, mispriced, adds, full}
+use Rattle.claims.specs.Questions.{isBooking, used, replaced, passedAll, mispriced, adds, full, isReplacing}
+use Rattle.claims.specs.Claims.{Grown}
+use Rattle.machine.specs.declared.Findings.{Findings}
 
 -- ---- a change that books nothing: its number, and its place among the orders in use
 
-record Told (b : Book) (n : ℕ) (c : Change) : Type 0 where
+record Unbooked (b : Book) (n : ℕ) (c : Change) : Type 0 where
   number : c .refusal ≡ n
   place : c .place ≤ length (b .orders)
 
 module _ (b : Book) where
-  moves-told : (k p : ℕ) (o : Order) (c : Change) → p ≤ length (b .orders) → Moves k p o c → Told b 0 c
-  moves-told k p o c l m = record { number = m .taken; place = omega (arith, m .there) }
+  moves-unbooked : (k p : ℕ) (o : Order) (c : Change) → p ≤ length (b .orders) → Moves k p o c → Unbooked b 0 c
+  moves-unbooked k p o c l m = record { number = m .taken; place = omega (arith, m .there) }
 
-  nothing-told : Told b 0 nothing
+  nothing-unbooked : Unbooked b 0 nothing
   unfolding unchanged
-  nothing-told = record { number = refl; place = omega arith }
+  nothing-unbooked = record { number = refl; place = omega arith }
 
-  unknown-told : Told b 0 unknownReport
+  unknown-unbooked : Unbooked b 0 unknownReport
   unfolding unchanged alarming
-  unknown-told = record { number = refl; place = omega arith }
+  unknown-unbooked = record { number = refl; place = omega arith }
 
-  facts-place : (p : ℕ) → factsOf b p .place ≡ p
-  unfolding factsOf
-  facts-place p = refl
+  findings-place : (p : ℕ) → findingsOf b p .place ≡ p
+  unfolding findingsOf
+  findings-place p = refl
 
-  facts-told : (k p : ℕ) (o : Order) (c : Change) → p ≤ length (b .orders) → Moves k (factsOf b p .place) o c → Told b 0 c
-  facts-told k p o c l m = moves-told k (factsOf b p .place) o c (omega (arith, facts-place p)) m
+  findings-unbooked : (k p : ℕ) (o : Order) (c : Change) → p ≤ length (b .orders) → Moves k (findingsOf b p .place) o c → Unbooked b 0 c
+  findings-unbooked k p o c l m = moves-unbooked k (findingsOf b p .place) o c (omega (arith, findings-place p)) m
 
 module _ (b : Book) (r : Ruled b) (e : Event) where
   order-small : (client : ℕ) (t : Text) → orderOf b client t ≤ length (b .orders)
@@ -55,28 +57,28 @@ module _ (b : Book) (r : Ruled b) (e : Event) where
       split-maybe (λ (p : ℕ). p ≤ length (b .orders)) _ (λ z. omega arith)
       (λ k z. let l : k < length (b .requests) = first-some _ (length (b .requests)) k z .below in omega (arith, request-ruled b r k l .placed))
 
-  request-told : (unknown : Change) (handle : Facts → ℕ → Request → Order → Change) → Told b 0 unknown
-      → ((f : Facts) (k : ℕ) (q : Request) (o : Order) → Moves 2 (f .place) o (handle f k q o)) → Told b 0 (onRequest unknown handle b e)
+  request-unbooked : (unknown : Change) (handle : Findings → ℕ → Request → Order → Change) → Unbooked b 0 unknown
+      → ((f : Findings) (k : ℕ) (q : Request) (o : Order) → Moves 2 (f .place) o (handle f k q o)) → Unbooked b 0 (onRequest unknown handle b e)
   unfolding onRequest
-  request-told unknown handle u m =
-      split-maybe (Told b 0) _ (λ z. u)
-      (λ k z. facts-told b 2 (orderLink b k) _ _ (let l = request-ruled b r k (found-request b (e .ids .downstream) k z) .placed in omega arith) (m _ (k + 1) _ _))
+  request-unbooked unknown handle u m =
+      split-maybe (Unbooked b 0) _ (λ z. u)
+      (λ k z. findings-unbooked b 2 (orderLink b k) _ _ (let l = request-ruled b r k (found-request b (e .ids .downstream) k z) .placed in omega arith) (m _ (k + 1) _ _))
 
 -- ---- cancels and replaces
 
-cancel-moves : (f : Facts) (order : ℕ) (full′ : Bool) (o : Order) (e : Event) → Moves 1 (f .place) o (cancel f order full′ o e)
+cancel-moves : (f : Findings) (order : ℕ) (full′ : Bool) (o : Order) (e : Event) → Moves 1 (f .place) o (cancel f order full′ o e)
 unfolding cancel
 cancel-moves f order full′ o e =
     split-if (Moves 1 (f .place) o) _ (λ t. status-moves f o e)
     (λ t. split-if (Moves 1 (f .place) o) _ (λ u. told-refusal f _ o e _) (λ u. cancel-goes-moves f o e))
 
-refusing-told : (b : Book) (n : ℕ) → Told b n (refusing n)
+refusing-unbooked : (b : Book) (n : ℕ) → Unbooked b n (refusing n)
 unfolding refusing
-refusing-told b n = record { number = refl; place = omega arith }
+refusing-unbooked b n = record { number = refl; place = omega arith }
 
 module _ (b : Book) (e : Event) (p : ℕ) (small : p ≤ length (b .orders)) (order : ℕ) (full′ : Bool) (o : Order) where
-  abbrev f : Facts
-  f = factsOf b p
+  abbrev f : Findings
+  f = findingsOf b p
 
   abbrev unrefused : Bool
   unrefused = eqb (amendRefusal f order full′ o e (replaceRefusal f o e) .fixedtext) 0
@@ -85,60 +87,60 @@ module _ (b : Book) (e : Event) (p : ℕ) (small : p ≤ length (b .orders)) (or
   abbrev wrong : Bool
   wrong = not (alreadyTaken f order e) && unrefused && not (pricedRight (orOwn (e .terms .ordtype) (o .terms .ordtype)) e)
 
-  told-if : (c : Change) → wrong ≡ false → Moves 1 (f .place) o c → Told b (if wrong then 6 else 0) c
-  told-if c w m = subst (λ (n : ℕ). Told b n c) (sym (if-false wrong 6 0 w)) (facts-told b 1 p o c small m)
+  told-if : (c : Change) → wrong ≡ false → Moves 1 (f .place) o c → Unbooked b (if wrong then 6 else 0) c
+  told-if c w m = subst (λ (n : ℕ). Unbooked b n c) (sym (if-false wrong 6 0 w)) (findings-unbooked b 1 p o c small m)
 
-  replace-told : Told b (if wrong then 6 else 0) (replace f order full′ o e)
+  replace-unbooked : Unbooked b (if wrong then 6 else 0) (replace f order full′ o e)
   unfolding replace
-  replace-told =
-      let T : Change → Type 0 = Told b (if wrong then 6 else 0) in
+  replace-unbooked =
+      let T : Change → Type 0 = Unbooked b (if wrong then 6 else 0) in
       split-if T (alreadyTaken f order e) (λ t. told-if _ (rw t refl) (status-moves f o e))
       (λ t. split-if T _ (λ u. told-if _ (rw (t, not-true unrefused u) refl) (told-refusal f _ o e _))
-      (λ u. split-if T _ (λ v. subst (λ (n : ℕ). Told b n (refusing 6)) (sym (if-true wrong 6 0 (rw (t, not-false unrefused u, v) refl))) (refusing-told b 6))
+      (λ u. split-if T _ (λ v. subst (λ (n : ℕ). Unbooked b n (refusing 6)) (sym (if-true wrong 6 0 (rw (t, not-false unrefused u, v) refl))) (refusing-unbooked b 6))
       (λ v. told-if _ (rw (t, not-false unrefused u, v) refl) (replace-goes-moves f o e))))
 
 -- ---- what is no booking
 
-mispriced-replace : (b : Book) (e : Event) → isBooking e ≡ false → isReplace e ≡ true
+mispriced-replace : (b : Book) (e : Event) → isBooking e ≡ false → isReplacing e ≡ true
     → mispriced b e ≡ passedAll b e && not (pricedRight (orOwn (e .terms .ordtype) (replaced b e .terms .ordtype)) e)
 unfolding mispriced
 mispriced-replace b e n m = rw (n, m) refl
 
-mispriced-none : (b : Book) (e : Event) → isBooking e ≡ false → isReplace e ≡ false → mispriced b e ≡ false
+mispriced-none : (b : Book) (e : Event) → isBooking e ≡ false → isReplacing e ≡ false → mispriced b e ≡ false
 unfolding mispriced
 mispriced-none b e n m = rw (n, m) refl
 
 module _ (b : Book) (r : Ruled b) (e : Event) (other : isBooking e ≡ false) where
   abbrev T : Change → Type 0
-  T = Told b (if mispriced b e then 6 else 0)
+  T = Unbooked b (if mispriced b e then 6 else 0)
 
-  plain : (c : Change) → isReplace e ≡ false → Told b 0 c → T c
-  plain c n t = subst (λ (k : ℕ). Told b k c) (sym (if-false _ 6 0 (mispriced-none b e other n))) t
+  plain : (c : Change) → isReplacing e ≡ false → Unbooked b 0 c → T c
+  plain c n t = subst (λ (k : ℕ). Unbooked b k c) (sym (if-false _ 6 0 (mispriced-none b e other n))) t
 
-  cancels : Told b 0 (amending cancel b e)
+  cancels : Unbooked b 0 (amending cancel b e)
   unfolding amending
-  cancels = facts-told b 1 (orderOf b (e .client) (e .ids .origclordid)) _ _ (order-small b r e (e .client) (e .ids .origclordid)) (cancel-moves _ _ _ _ e)
+  cancels = findings-unbooked b 1 (orderOf b (e .client) (e .ids .origclordid)) _ _ (order-small b r e (e .client) (e .ids .origclordid)) (cancel-moves _ _ _ _ e)
 
-  replaces : isReplace e ≡ true → T (amending replace b e)
+  replaces : isReplacing e ≡ true → T (amending replace b e)
   unfolding amending passedAll
   replaces m =
-      subst (λ (x : Bool). Told b (if x then 6 else 0) (amending replace b e)) (sym (mispriced-replace b e other m))
-      (replace-told b e (orderOf b (e .client) (e .ids .origclordid)) (order-small b r e (e .client) (e .ids .origclordid)) _ _ _)
+      subst (λ (x : Bool). Unbooked b (if x then 6 else 0) (amending replace b e)) (sym (mispriced-replace b e other m))
+      (replace-unbooked b e (orderOf b (e .client) (e .ids .origclordid)) (order-small b r e (e .client) (e .ids .origclordid)) _ _ _)
 
-  others-told : T (changeOf b e)
+  others-unbooked : T (changeOf b e)
   unfolding changeOf onName onReport
-  others-told =
+  others-unbooked =
       split-if T (eqb (e .kind) 1) (λ t. clash _ t other)
       (λ t. split-if T (eqb (e .kind) 2) (λ t. plain _ (not-kind e 2 3 t refl) cancels)
       (λ t. split-if T (eqb (e .kind) 3) (λ t. replaces t)
       (λ n. split-if T (eqb (e .kind) 4)
-      (λ t. plain _ n (request-told b r e _ _ (unknown-told b) (λ f k q o. split-if (Moves 2 (f .place) o) _ (λ z. none _ _ _ (unknown-moves f k o e)) (λ z. report-moves f k q o e))))
-      (λ t. split-if T (eqb (e .kind) 5) (λ t. plain _ n (request-told b r e _ _ (unknown-told b) (λ f k q o. none _ _ _ (unknown-moves f k o e))))
-      (λ t. split-if T (eqb (e .kind) 6) (λ t. plain _ n (request-told b r e _ _ (unknown-told b) (λ f k q o. reject-moves f k q o e)))
-      (λ t. split-if T (eqb (e .kind) 7) (λ t. plain _ n (request-told b r e _ _ (nothing-told b) (λ f k q o. one _ _ _ (failed-moves f k q _ _ o))))
-      (λ t. split-if T (eqb (e .kind) 8) (λ t. plain _ n (request-told b r e _ _ (nothing-told b) (λ f k q o. one _ _ _ (unsent-moves f k q _ o))))
-      (λ t. plain _ n (split-maybe (Told b 0) _ (λ z. nothing-told b)
-      (λ i z. facts-told b 1 (i + 1) _ _ (let l : i < length (b .orders) = found-order b (e .ids .name) i z in omega arith) (cancelOrder-moves _ _)))))))))))
+      (λ t. plain _ n (request-unbooked b r e _ _ (unknown-unbooked b) (λ f k q o. split-if (Moves 2 (f .place) o) _ (λ z. none _ _ _ (unknown-moves f k o e)) (λ z. report-moves f k q o e))))
+      (λ t. split-if T (eqb (e .kind) 5) (λ t. plain _ n (request-unbooked b r e _ _ (unknown-unbooked b) (λ f k q o. none _ _ _ (unknown-moves f k o e))))
+      (λ t. split-if T (eqb (e .kind) 6) (λ t. plain _ n (request-unbooked b r e _ _ (unknown-unbooked b) (λ f k q o. reject-moves f k q o e)))
+      (λ t. split-if T (eqb (e .kind) 7) (λ t. plain _ n (request-unbooked b r e _ _ (nothing-unbooked b) (λ f k q o. one _ _ _ (failed-moves f k q _ _ o))))
+      (λ t. split-if T (eqb (e .kind) 8) (λ t. plain _ n (request-unbooked b r e _ _ (nothing-unbooked b) (λ f k q o. one _ _ _ (unsent-moves f k q _ o))))
+      (λ t. plain _ n (split-maybe (Unbooked b 0) _ (λ z. nothing-unbooked b)
+      (λ i z. findings-unbooked b 1 (i + 1) _ _ (let l : i < length (b .orders) = found-order b (e .ids .name) i z in omega arith) (cancelOrder-moves _ _)))))))))))
     where
       none : (p : ℕ) (o : Order) (c : Change) → Moves 0 p o c → Moves 2 p o c
       none p o c m = more-moves 0 2 p o c (omega arith) m
@@ -196,7 +198,7 @@ walked b r e = go (isBooking e) refl
     go : (t : Bool) → isBooking e ≡ t → Walked b e (changeOf b e)
     go true h = booked b e h
     go false h =
-        let t = others-told b r e h in
+        let t = others-unbooked b r e h in
         record { number = t .number ∙ sym (if-false (used b e) 5 _ (used-none b e h)); place = λ z. le-leb _ _ (t .place) ∙ sym (ap not h) }
 
 -- ---- question 7
@@ -235,3 +237,51 @@ module _ (b : Book) (r : Ruled b) (e : Event) where
       go false true z h k l = let w : n ≡ 6 = rw (h, k) at (walked b r e .number) in rw w refl
       go false false true h k l = let w : n ≡ 0 = rw (h, k) at (walked b r e .number) in rw (room-is w, l, w) refl
       go false false false h k l = let w : n ≡ 0 = rw (h, k) at (walked b r e .number) in rw (room-is w, l, w) refl
+
+-- ---- what an event taken adds
+
+answer-length : (k : ℕ) (qs : List Request) → length (answerLink k qs) ≡ length qs
+unfolding answerLink
+answer-length k qs = split-if (λ (l : List Request). length l ≡ length qs) (eqb k 0) (λ z. refl) (λ z. simp length-set)
+
+-- n more exactly where the test holds
+orders-grow : (os : List Order) (c : Change) (t : Bool) → leb (c .place) (length os) ≡ not t → length (ordersAfter os c) ≡ length os + (if t then 1 else 0)
+unfolding ordersAfter if_then_else_
+orders-grow os c true h =
+    let l : length os < c .place = leb-false (c .place) (length os) h in
+    rw (ne-eqb (c .place) 0 (λ z. omega arith), h) (length-append os (c .order ∷ []))
+orders-grow os c false h = go (eqb (c .place) 0) refl
+  where
+    go : (z : Bool) → eqb (c .place) 0 ≡ z → length (ordersAfter os c) ≡ length os + 0
+    go true e = rw e (omega arith)
+    go false e = rw (e, h) (omega (arith, length-set os (c .place - 1) (c .order)))
+
+requests-grow : (qs : List Request) (c : Change) → length (requestsAfter qs c) ≡ length qs + (if not (eqb (c .requests .added) 0) then 1 else 0)
+unfolding requestsAfter if_then_else_
+requests-grow qs c = go (eqb (c .requests .added) 0) refl
+  where
+    settled : List Request
+    settled = answerLink (c .requests .superseded) (answerLink (c .requests .answered) qs)
+
+    same : length settled ≡ length qs
+    same = answer-length (c .requests .superseded) _ ∙ answer-length (c .requests .answered) qs
+
+    go : (z : Bool) → eqb (c .requests .added) 0 ≡ z → length (requestsAfter qs c) ≡ length qs + (if not z then 1 else 0)
+    go true e = rw e (omega (arith, same))
+    go false e = rw e (omega (arith, same, length-append settled (c .requests .request ∷ [])))
+
+step-change : (b : Book) (e : Event) → stepOf b e .refusal ≡ 0 → stepOf b e ≡ changeOf b e
+unfolding stepOf refusing
+step-change b e =
+    let P : Change → Type 0 = λ c. c .refusal ≡ 0 → c ≡ changeOf b e in
+    split-if P _ (λ t z. refl) (λ t. split-if P (hasRoom b (changeOf b e)) (λ h z. refl) (λ h z. absurd (omega arith)))
+
+pub step-grown : (b : Book) → Ruled b → (e : Event) → stepOf b e .refusal ≡ 0 → Grown b e (after b (stepOf b e))
+unfolding after adds
+step-grown b r e z =
+    let is : stepOf b e ≡ changeOf b e = step-change b e z in
+    let taken : changeOf b e .refusal ≡ 0 = ap (λ (c : Change). c .refusal) (sym is) ∙ z in
+    rw is (record {
+      orders = orders-grow (b .orders) (changeOf b e) (isBooking e) (walked b r e .place taken);
+      requests = requests-grow (b .requests) (changeOf b e);
+    })

@@ -11,11 +11,9 @@ use borrow.Author.Tests.{eqb-true, eqb-false, eq-eqb, ltb-true, ltb-false, not-t
 use Rattle.prelude.specs.Cases.{split-if, if-true, if-false, clash}
 use Rattle.prelude.specs.Number.{Bytes}
 use Rattle.prelude.specs.Span.{splice, length-splice}
-use Rattle.records.specs.Record.{eventRefusal, eventIn}
+use Rattle.records.specs.Record.{eventIn}
 use Rattle.records.specs.Answer.{answerBytes}
-use Rattle.records.specs.Writing.{answer-most}
 use Rattle.store.specs.Book.{Book, bookOf}
-use Rattle.store.specs.Kept.{Keeps}
 use Rattle.machine.specs.declared.Change.{Change}
 use Rattle.machine.specs.Changes.{Event, refusing}
 use Rattle.machine.specs.Machine.{hasRoom, changeOf, stepOf, after, bookAfter}
@@ -27,11 +25,15 @@ use Rattle.machine.proofs.Kept.Steps.{step-keeps}
 use Rattle.machine.proofs.Kept.Whole.{whole-kept}
 use Rattle.machine.proofs.Said.Reads.{event-ranged, event-whole}
 use Rattle.machine.proofs.Said.Steps.{messages-few}
-use Rattle.rules.specs.Keeps.{keepsOf, Held, keeps-held, held-keeps}
-use Rattle.gateway.specs.Entries.{bookWith, Outcome, outcome, callOf, eventOf, checkOf}
+use Rattle.rules.specs.Keeps.{keepsOf}
+use Rattle.step.specs.Entries.{bookWith, Outcome, outcome, callOf, eventOf, checkOf}
 use Rattle.claims.specs.Claims.{WritesChange, Sizes, KeepsSizes}
 use Rattle.claims.proofs.Written.{whole-held, order-written, request-written, Writes, change-writes}
 use Rattle.claims.proofs.Header.{Headed, change-head}
+use Rattle.format.specs.Refusal.{eventRefusal}
+use Rattle.records.specs.Laws.Writing.{answer-most}
+use Rattle.store.specs.Laws.Kept.{Keeps}
+use Rattle.rules.specs.Laws.Keeps.{Held, keeps-held, held-keeps}
 
 -- ---- the questions
 
@@ -41,7 +43,7 @@ pub data Asked (b r a : List ℕ) : Change → Type 0 where
   unreadable : keepsOf b ≡ true → 1024 ≤ length a → (eventRefusal r ≡ 0 → ⊥) → Asked b r a (refusing (eventRefusal r))
   stepped : keepsOf b ≡ true → 1024 ≤ length a → eventRefusal r ≡ 0 → Asked b r a (stepOf (bookOf b) (eventIn r))
 
-pub asked : (b r a : List ℕ) → Asked b r a (callOf b r a)
+pub asked : (b r a : List ℕ) → Asked b r a (callOf b r (length a))
 unfolding callOf
 asked b r a =
     split-if (Asked b r a) (not (keepsOf b)) (λ t. broken (not-true (keepsOf b) t))
@@ -55,35 +57,35 @@ pub record Taken (b r a : List ℕ) : Type 0 where
   pub keeps : keepsOf b ≡ true
   pub room : 1024 ≤ length a
   pub reads : eventRefusal r ≡ 0
-  pub is : callOf b r a ≡ stepOf (bookOf b) (eventIn r)
+  pub is : callOf b r (length a) ≡ stepOf (bookOf b) (eventIn r)
   pub taken : stepOf (bookOf b) (eventIn r) .refusal ≡ 0
 
-taken-by : (b r a : List ℕ) (c : Change) → callOf b r a ≡ c → Asked b r a c → c .refusal ≡ 0 → Taken b r a
+taken-by : (b r a : List ℕ) (c : Change) → callOf b r (length a) ≡ c → Asked b r a c → c .refusal ≡ 0 → Taken b r a
 unfolding refusing
 taken-by b r a c w (broken k) z = absurd (omega arith)
 taken-by b r a c w (short k l) z = absurd (omega arith)
 taken-by b r a c w (unreadable k l n) z = absurd (n z)
 taken-by b r a c w (stepped k l e) z = record { keeps = k; room = l; reads = e; is = w; taken = z }
 
-pub call-taken : (b r a : List ℕ) → callOf b r a .refusal ≡ 0 → Taken b r a
-call-taken b r a z = taken-by b r a (callOf b r a) refl (asked b r a) z
+pub call-taken : (b r a : List ℕ) → callOf b r (length a) .refusal ≡ 0 → Taken b r a
+call-taken b r a z = taken-by b r a (callOf b r (length a)) refl (asked b r a) z
 
 -- ---- the outcome
 
 abbrev pub left : (b a : List ℕ) → Change → Outcome
 left b a c = outcome 0 (bookWith b c) (splice a 0 (answerBytes (c .output .alarm) (messagesOf c)))
 
-pub event-taken : (b r a : List ℕ) → eqb (callOf b r a .refusal) 0 ≡ true → eventOf b r a ≡ left b a (callOf b r a)
+pub event-taken : (b r a : List ℕ) → eqb (callOf b r (length a) .refusal) 0 ≡ true → eventOf b r a ≡ left b a (callOf b r (length a))
 unfolding eventOf
 event-taken b r a e = if-true _ _ _ e
 
-pub event-refused : (b r a : List ℕ) → eqb (callOf b r a .refusal) 0 ≡ false → eventOf b r a ≡ outcome (callOf b r a .refusal) b a
+pub event-refused : (b r a : List ℕ) → eqb (callOf b r (length a) .refusal) 0 ≡ false → eventOf b r a ≡ outcome (callOf b r (length a) .refusal) b a
 unfolding eventOf
 event-refused b r a e = if-false _ _ _ e
 
-pub returned-is : (b r a : List ℕ) → eventOf b r a .returned ≡ callOf b r a .refusal
+pub returned-is : (b r a : List ℕ) → eventOf b r a .returned ≡ callOf b r (length a) .refusal
 unfolding eventOf
-returned-is b r a = split-if (λ (o : Outcome). o .returned ≡ callOf b r a .refusal) _ (λ e. sym (eqb-true _ 0 e)) (λ e. refl)
+returned-is b r a = split-if (λ (o : Outcome). o .returned ≡ callOf b r (length a) .refusal) _ (λ e. sym (eqb-true _ 0 e)) (λ e. refl)
 
 -- ---- the book that is left
 
@@ -159,10 +161,10 @@ outcome-taken b r a t = event-taken b r a (eq-eqb _ 0 (ap (λ (c : Change). c .r
 
 -- what holds where the call is taken and where it is refused holds
 pub either-way : (P : Outcome → Type 0) (b r a : List ℕ) → (Taken b r a → P (left b a (stepOf (bookOf b) (eventIn r))))
-    → (eqb (callOf b r a .refusal) 0 ≡ false → P (outcome (callOf b r a .refusal) b a)) → P (eventOf b r a)
-either-way P b r a f g = go (eqb (callOf b r a .refusal) 0) refl
+    → (eqb (callOf b r (length a) .refusal) 0 ≡ false → P (outcome (callOf b r (length a) .refusal) b a)) → P (eventOf b r a)
+either-way P b r a f g = go (eqb (callOf b r (length a) .refusal) 0) refl
   where
-    go : (t : Bool) → eqb (callOf b r a .refusal) 0 ≡ t → P (eventOf b r a)
+    go : (t : Bool) → eqb (callOf b r (length a) .refusal) 0 ≡ t → P (eventOf b r a)
     go true e = let t : Taken b r a = call-taken b r a (eqb-true _ 0 e) in subst P (sym (outcome-taken b r a t)) (f t)
     go false e = subst P (sym (event-refused b r a e)) (g e)
 

@@ -15,13 +15,9 @@ use Rattle.store.specs.declared.Order.{Order}
 use Rattle.store.specs.declared.Request.{Request}
 use Rattle.store.specs.declared.GatewayCancel.{GatewayCancel}
 use Rattle.store.specs.Layout.{bookSize}
-use Rattle.store.specs.Cells.{fits-32}
 use Rattle.store.specs.Orders.{WholeOrder, noOrder}
 use Rattle.store.specs.Requests.{WholeRequest, noRequest}
 use Rattle.store.specs.Book.{Book, orderIn, orderAt, isBook, settingOf, bookOf, orderCount, requestCount, addRequest}
-use Rattle.store.specs.Laws.{length-orders, length-requests, order-in, request-in, order-whole, request-whole, store-order-book}
-use Rattle.store.specs.Adds.{add-order-book, add-request-book, mark-book}
-use Rattle.store.specs.Kept.{Keeps, store-order-keeps, add-order-keeps, add-request-keeps, mark-keeps}
 use Rattle.machine.specs.declared.Requests.{Requests}
 use Rattle.machine.specs.declared.Change.{Change}
 use Rattle.machine.specs.Machine.{hasRoom, answerLink, ordersAfter, requestsAfter, after}
@@ -29,8 +25,12 @@ use Rattle.machine.specs.Rules.{gatewayRange, rules}
 use Rattle.machine.specs.Whole.{WholeBook}
 use Rattle.machine.proofs.Kept.Lift.{BookKept, book-kept}
 use Rattle.machine.proofs.Kept.Tables.{length-answer}
-use Rattle.rules.specs.Keeps.{Held}
-use Rattle.gateway.specs.Entries.{placeOrder, markLink, placeRequests, bookWith}
+use Rattle.step.specs.Entries.{placeOrder, markLink, placeRequests, bookWith}
+use Rattle.store.specs.Laws.Cells.{fits-32}
+use Rattle.store.specs.Laws.Stored.{length-orders, length-requests, order-in, request-in, order-whole, request-whole, store-order-book}
+use Rattle.store.specs.Laws.Adds.{add-order-book, add-request-book, mark-book}
+use Rattle.store.specs.Laws.Kept.{Keeps, store-order-keeps, add-order-keeps, add-request-keeps, mark-keeps}
+use Rattle.rules.specs.Laws.Keeps.{Held}
 
 -- ---- a book in bytes that keeps its rules can be written again
 

@@ -1,26 +1,29 @@
 -- Demands 1 and 3 on bytes: what holds of `start`, `check` and `event` for every input, and of every list of calls. Rests on Entries, Questions and machine's
 -- Claim. The proofs are in proofs/.
-use Prim.Native.Nat.{ℕ, _^_, _≤_, _<_}
+use Prim.Native.Nat.{ℕ, _+_, _^_, _≤_, _<_}
 use mathlib.Core.Path.{_≡_}
 use mathlib.Core.Logic.{_⊎_}
-use mathlib.Core.Bool.{true, not}
+use mathlib.Core.Bool.{true, false, not}
 use mathlib.Core.List.{List, []}
 use lib.Dec.{eqb, ltb}
 use lib.ListN.{length}
 use Rattle.prelude.specs.Cases.{if_then_else_}
 use Rattle.prelude.specs.Number.{Bytes}
 use Rattle.prelude.specs.Texts.{sameText}
-use Rattle.records.specs.Record.{eventRefusal, eventIn}
+use Rattle.records.specs.Record.{eventIn}
 use Rattle.records.specs.Answer.{answerMessages}
-use Rattle.store.specs.Book.{requestIn, bookOf}
-use Rattle.machine.specs.Changes.{Message}
+use Rattle.store.specs.Layout.{mostOrders, mostRequests}
+use Rattle.store.specs.Book.{Book, requestIn, bookOf}
+use Rattle.machine.specs.Changes.{Event, Message}
 use Rattle.machine.specs.Machine.{stepOf, after}
 use Rattle.machine.specs.History.{Decoded, unread, readAs}
-use Rattle.machine.specs.Calls.{Form, lineAt, calls, Step, stateOf, returned, follow}
+use Rattle.machine.specs.Said.{Answers}
+use Rattle.machine.specs.Calls.{Form, lineAt, calls, Step, stateOf, follow, justReturned}
 use Rattle.machine.specs.Claim.{Demand3, OneOrder}
 use Rattle.machine.specs.Since.{Demand3From, Net}
-use Rattle.gateway.specs.Entries.{bookWith, Outcome, eventOf, startOf, startRefusal, checkOf}
-use Rattle.claims.specs.Questions.{adds, firstNo}
+use Rattle.claims.specs.Questions.{isBooking, used, mispriced, adds, firstNo}
+use Rattle.step.specs.Entries.{bookWith, Outcome, eventOf, startOf, startRefusal, checkOf}
+use Rattle.format.specs.Refusal.{eventRefusal}
 
 -- ---- demand 1
 
@@ -39,12 +42,18 @@ pub record Numbers (b r a : List ℕ) (n : ℕ) : Type 0 where
   pub two : Exactly (n ≡ 2) ((checkOf b ≡ 0) × (length a < 1024))
   pub three : Exactly (n ≡ 3) ((checkOf b ≡ 0) × (1024 ≤ length a) × (eventRefusal r ≡ 3))
   pub four : Exactly (n ≡ 4) ((checkOf b ≡ 0) × (1024 ≤ length a) × (eventRefusal r ≡ 4))
-  -- 5 is a booking's, 6 a booking's or a replace's
-  pub five : n ≡ 5 → Reads b r a × (eventIn r .kind ≡ 1)
-  pub six : n ≡ 6 → Reads b r a × ((eventIn r .kind ≡ 1) ⊎ (eventIn r .kind ≡ 3))
-  -- 7 is never early: a booking on 64 orders, or an event that adds a request on 256
-  pub seven : n ≡ 7 → Reads b r a
-      × (((eventIn r .kind ≡ 1) × (length (bookOf b .orders) ≡ 64)) ⊎ ((adds (bookOf b) (eventIn r) ≡ true) × (length (bookOf b .requests) ≡ 256)))
+  -- 5 where a booking's name or ClOrdID is used, 6 where else the price does not fit the type
+  pub five : Exactly (n ≡ 5) (Reads b r a × (used (bookOf b) (eventIn r) ≡ true))
+  pub six : Exactly (n ≡ 6) (Reads b r a × (used (bookOf b) (eventIn r) ≡ false) × (mispriced (bookOf b) (eventIn r) ≡ true))
+  -- 7 is never early: where none of these is so, a booking on 64 orders, or an event that adds a request on 256
+  pub seven : Exactly (n ≡ 7)
+      (Reads b r a × (used (bookOf b) (eventIn r) ≡ false) × (mispriced (bookOf b) (eventIn r) ≡ false)
+      × (((eventIn r .kind ≡ 1) × (length (bookOf b .orders) ≡ mostOrders)) ⊎ ((adds (bookOf b) (eventIn r) ≡ true) × (length (bookOf b .requests) ≡ mostRequests))))
+
+-- what an event taken adds to the tables: an order exactly at a booking, a request exactly where `adds` says so
+pub record Grown (b : Book) (e : Event) (left : Book) : Type 0 where
+  pub orders : length (left .orders) ≡ length (b .orders) + (if isBooking e then 1 else 0)
+  pub requests : length (left .requests) ≡ length (b .requests) + (if adds b e then 1 else 0)
 
 pub record Demand1 : Type 0 where
   -- start leaves a book that keeps its rules
@@ -53,9 +62,15 @@ pub record Demand1 : Type 0 where
   pub kept : (b r a : List ℕ) → Bytes b → Bytes r → eventOf b r a .returned ≡ 0 → checkOf (eventOf b r a .book) ≡ 0
   -- a refused event changes neither book nor answer buffer
   pub refused : (b r a : List ℕ) → (eventOf b r a .returned ≡ 0 → ⊥) → (eventOf b r a .book ≡ b) × (eventOf b r a .answer ≡ a)
-  -- an event gets the number of document 01's first question that is answered with no, or 0
+  -- an event gets the number of the first question (docs/SCOPE.md, Questions) that is answered with no, or 0
   pub first : (b r a : List ℕ) → eventOf b r a .returned ≡ firstNo b r a
   pub numbers : (b r a : List ℕ) → Numbers b r a (eventOf b r a .returned)
+  -- the records that question 7 is asked about are those that the event adds
+  pub grown : (b r a : List ℕ) → Bytes b → Bytes r → eventOf b r a .returned ≡ 0 → Grown (bookOf b) (eventIn r) (bookOf (eventOf b r a .book))
+
+-- our reader reads the answer of an event taken: its messages and its alarm are the machine's own, and the alarm is one of the paper's or none
+abbrev pub AnswersOnBytes : Type 0
+AnswersOnBytes = (b r a : List ℕ) → Bytes b → Bytes r → eventOf b r a .returned ≡ 0 → Answers (stepOf (bookOf b) (eventIn r)) (eventOf b r a .answer)
 
 -- ---- the book in its bytes
 
@@ -119,7 +134,7 @@ pub record Passes (b : List ℕ) : Type 0 where
 -- counted since the last return, and starts from what its image held.
 abbrev pub SinceOnBytes : Type 0
 SinceOnBytes = (b : List ℕ) → Passes b → (is : List (Step entries Passes))
-    → let s = follow entries (returned entries b) is in Demand3From (bookOf (s .image)) (stateOf entries s) × Net (bookOf (s .image)) (stateOf entries s)
+    → let s = follow entries (justReturned entries b) is in Demand3From (bookOf (s .image)) (stateOf entries s) × Net (bookOf (s .image)) (stateOf entries s)
 
 -- ---- one order
 

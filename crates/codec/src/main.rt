@@ -1,6 +1,6 @@
 // Reads items from standard input and holds the codec to their stored answers. An item is a tag, 1
 // event or 2 answer, a length of two bytes, that many bytes, and the refusal that they get. An
-// answer that is accepted is written again and compared. Rests on records.
+// answer that is accepted is written again and compared. Rests on records and words.
 ghost use Prim.Native.Nat.{_≤_};
 ghost use lib.ListN.{length};
 use records::AnswerRead;
@@ -17,12 +17,6 @@ struct Tally {
 struct Step {
     more: bool,
     tally: Tally,
-}
-
-fn wide(x: u8) -> usize
-    ensures { λ r. ⌜ r ≤ 255 ⌝ }
-{
-    x as usize
 }
 
 // Whether both begin with the same n bytes.
@@ -117,7 +111,7 @@ fn item(t: Tally) -> Step {
             tally: t,
         };
     }
-    let size = wide(head[1]) + 256 * wide(head[2]);
+    let size = words::number(head[1], head[2]);
     let mut space = io::large_buffer();
     rest(t, head[0], size, &mut space)
 }

@@ -1,6 +1,6 @@
 // A day: records from standard input, each after its length in two bytes, go to one book in their order.
 // For each event a line says its number, the refusal, how many messages went out, and the alarm.
-// Rests on gateway.
+// Rests on gateway and words.
 ghost use Prim.Native.Nat.{_≤_};
 ghost use lib.ListN.{length};
 
@@ -9,12 +9,6 @@ const SETTING: u32 = 10000;
 
 // A record that the end of the input cuts.
 const CUT: u32 = 3;
-
-fn wide(x: u8) -> usize
-    ensures { λ r. ⌜ r ≤ 255 ⌝ }
-{
-    x as usize
-}
 
 fn line(event: u64, refusal: u32, messages: u8, alarm: u8) {
     io::print_decimal(1, event);
@@ -62,7 +56,7 @@ fn next(book: &mut [u8], event: u64) -> bool {
         line(event, CUT, 0, 0);
         return false;
     }
-    let size = wide(head[0]) + 256 * wide(head[1]);
+    let size = words::number(head[0], head[1]);
     let mut space = io::large_buffer();
     read(book, event, size, &mut space)
 }

@@ -1,15 +1,11 @@
--- The code lists and the rule of an order name, as document 01 has them; each code is an ASCII character. Rests on prelude.
-use Prim.Native.Nat.{ℕ, _-_, _<_}
-use mathlib.Core.Path.{_≡_, refl}
-use mathlib.Core.Logic.{⊎-elim}
+-- FIX 4.4's codes by name and their lists, the ranges of quantities and prices, and the rule of an order name. Each code is an ASCII character.
+-- Rests on prelude.
+use Prim.Native.Nat.{ℕ, _-_}
 use mathlib.Core.List.{List, [], _∷_}
-use mathlib.Core.Bool.{Bool, true, false, not, _&&_, _||_}
-use native.Mathlib.Omega.{arith}
+use mathlib.Core.Bool.{Bool, false, not, _&&_, _||_}
 use lib.ListN.{getD}
-use lib.Dec.{eqb, leb, ltb}
-use borrow.Author.Tests.{eqb-true, ltb-true}
-use Rattle.prelude.specs.Cases.{clash, both-true, either-true}
-use Rattle.prelude.specs.Below.{allBelow, all-elim}
+use lib.Dec.{eqb, leb}
+use Rattle.prelude.specs.Below.{allBelow}
 use Rattle.prelude.specs.declared.Text.{Text}
 use Rattle.bits.specs.Map.{bit}
 
@@ -20,25 +16,107 @@ abbrev pub listed : ℕ → List ℕ → Bool
 listed v [] = false
 listed v (c ∷ cs) = eqb v c || listed v cs
 
--- 1 2 5
+-- ---- the codes, in the order of the Rust's enums
+
+-- Side(54)
+abbrev pub buy : ℕ
+buy = 49
+
+abbrev pub sell : ℕ
+sell = 50
+
+abbrev pub sellShort : ℕ
+sellShort = 53
+
 unfoldable pub sides : List ℕ
-sides = 49 ∷ 50 ∷ 53 ∷ []
+sides = buy ∷ sell ∷ sellShort ∷ []
 
--- 1 market, 2 limit
+-- OrdType(40)
+abbrev pub market : ℕ
+market = 49
+
+abbrev pub limit : ℕ
+limit = 50
+
 unfoldable pub ordtypes : List ℕ
-ordtypes = 49 ∷ 50 ∷ []
+ordtypes = market ∷ limit ∷ []
 
--- 0 1 3 4
+-- TimeInForce(59): 0 day, 1 until canceled, 3 immediate or cancel, 4 fill or kill
 unfoldable pub timesinforce : List ℕ
 timesinforce = 48 ∷ 49 ∷ 51 ∷ 52 ∷ []
 
--- A 0 1 2 6 E 4 C 8
-unfoldable pub statuses : List ℕ
-statuses = 65 ∷ 48 ∷ 49 ∷ 50 ∷ 54 ∷ 69 ∷ 52 ∷ 67 ∷ 56 ∷ []
+-- OrdStatus(39)
+abbrev pub pendingNew : ℕ
+pendingNew = 65
 
--- A 0 F 6 4 E 5 8 C D 3 I
+abbrev pub new : ℕ
+new = 48
+
+abbrev pub partiallyFilled : ℕ
+partiallyFilled = 49
+
+abbrev pub filled : ℕ
+filled = 50
+
+abbrev pub pendingCancel : ℕ
+pendingCancel = 54
+
+abbrev pub pendingReplace : ℕ
+pendingReplace = 69
+
+abbrev pub canceled : ℕ
+canceled = 52
+
+abbrev pub expired : ℕ
+expired = 67
+
+abbrev pub rejected : ℕ
+rejected = 56
+
+unfoldable pub statuses : List ℕ
+statuses = pendingNew ∷ new ∷ partiallyFilled ∷ filled ∷ pendingCancel ∷ pendingReplace ∷ canceled ∷ expired ∷ rejected ∷ []
+
+-- ExecType(150)
+abbrev pub execPendingNew : ℕ
+execPendingNew = 65
+
+abbrev pub execNew : ℕ
+execNew = 48
+
+abbrev pub execTrade : ℕ
+execTrade = 70
+
+abbrev pub execPendingCancel : ℕ
+execPendingCancel = 54
+
+abbrev pub execCanceled : ℕ
+execCanceled = 52
+
+abbrev pub execPendingReplace : ℕ
+execPendingReplace = 69
+
+abbrev pub execReplaced : ℕ
+execReplaced = 53
+
+abbrev pub execRejected : ℕ
+execRejected = 56
+
+abbrev pub execExpired : ℕ
+execExpired = 67
+
+abbrev pub execRestated : ℕ
+execRestated = 68
+
+abbrev pub execDoneForDay : ℕ
+execDoneForDay = 51
+
+abbrev pub execStatus : ℕ
+execStatus = 73
+
 unfoldable pub exectypes : List ℕ
-exectypes = 65 ∷ 48 ∷ 70 ∷ 54 ∷ 52 ∷ 69 ∷ 53 ∷ 56 ∷ 67 ∷ 68 ∷ 51 ∷ 73 ∷ []
+exectypes =
+    execPendingNew ∷ execNew ∷ execTrade ∷ execPendingCancel ∷ execCanceled ∷ execPendingReplace ∷ execReplaced ∷ execRejected ∷ execExpired ∷ execRestated
+    ∷ execDoneForDay ∷ execStatus ∷ []
 
 unfoldable pub isSide : ℕ → Bool
 isSide v = listed v sides
@@ -54,6 +132,13 @@ isStatus v = listed v statuses
 
 unfoldable pub isExectype : ℕ → Bool
 isExectype v = listed v exectypes
+
+-- a quantity is a count of 1/10,000, a price of 10^-8
+abbrev pub isQty : ℕ → Bool
+isQty v = leb v 1000000000000
+
+abbrev pub isPrice : ℕ → Bool
+isPrice v = leb v 100000000000000
 
 -- digits, capitals, small letters
 unfoldable pub isAlnum : ℕ → Bool
@@ -76,31 +161,3 @@ isName t = within 1 20 (t .len) && (allBelow (alnumAt t) (t .len) && not (isNone
 
 abbrev pub inMap : ℕ → ℕ → Bool
 inMap m v = leb 48 v && bit m (v - 48)
-
-abbrev pub same : Bool → Bool → Bool
-same true b = b
-same false b = not b
-
-same-true : (a b : Bool) → same a b ≡ true → a ≡ b
-same-true true true e = refl
-same-true true false e = clash false e refl
-same-true false true e = clash false e refl
-same-true false false e = refl
-
--- what was computed for every byte
-pub agree : (m : ℕ) (cs : List ℕ) → allBelow (λ v. same (inMap m v) (listed v cs)) 256 ≡ true → (v : ℕ) → v < 256 → inMap m v ≡ listed v cs
-agree m cs e v h = same-true (inMap m v) (listed v cs) (all-elim (λ k. same (inMap m k) (listed k cs)) 256 e v h)
-
--- a code is a byte
-abbrev pub small : List ℕ → Bool
-small [] = true
-small (c ∷ cs) = ltb c 256 && small cs
-
-pub listed-small : (v : ℕ) (cs : List ℕ) → small cs ≡ true → listed v cs ≡ true → v < 256
-listed-small v [] s e = clash false e refl
-listed-small v (c ∷ cs) s e =
-    let p = both-true (ltb c 256) (small cs) s in
-    ⊎-elim
-    (λ q. let z : v ≡ c = eqb-true v c q in omega (arith, ltb-true c 256 (p .0)))
-    (λ q. listed-small v cs (p .1) q)
-    (either-true (eqb v c) (listed v cs) e)

@@ -1,17 +1,12 @@
 -- The table of the format: what each field takes and may hold, and which bits each kind of record has. Rests on Codes and bits.
-use Prim.Native.Nat.{ℕ, _+_, _≤_, _<_}
-use mathlib.Core.Path.{_≡_, refl}
-use mathlib.Core.Logic.{⊎-elim}
+use Prim.Native.Nat.{ℕ, _+_}
 use mathlib.Core.List.{List, [], _∷_}
-use mathlib.Core.Bool.{Bool, true, false, _&&_, _||_}
-use native.Mathlib.Omega.{arith}
+use mathlib.Core.Bool.{Bool, true, _&&_, _||_}
 use lib.ListN.{getD}
-use lib.Dec.{eqb, leb, ltb}
-use borrow.Author.Tests.{eqb-true, leb-true, ltb-true}
-use Rattle.prelude.specs.Cases.{if_then_else_, both-true, either-true}
-use Rattle.prelude.specs.Below.{allBelow, all-elim}
+use lib.Dec.{eqb, leb}
+use Rattle.prelude.specs.Cases.{if_then_else_}
 use Rattle.bits.specs.Map.{digit, mapOf, contains}
-use Rattle.format.specs.Codes.{within, isSide, isOrdtype, isTimeinforce, isStatus, isExectype}
+use Rattle.format.specs.Codes.{within, isSide, isOrdtype, isTimeinforce, isStatus, isExectype, isQty, isPrice}
 
 -- ---- fields
 
@@ -68,8 +63,8 @@ upto32 = 15
 unfoldable pub inRange : ℕ → ℕ → Bool
 inRange g v =
     if eqb g any then true else
-    if eqb g quantity then leb v 1000000000000 else
-    if eqb g price then leb v 100000000000000 else
+    if eqb g quantity then isQty v else
+    if eqb g price then isPrice v else
     if eqb g side then isSide v else
     if eqb g ordtype then isOrdtype v else
     if eqb g timeinforce then isTimeinforce v else
@@ -202,31 +197,3 @@ joined k m =
 -- the kind is one of the list, and the map has the bits that it must have and none that it may not
 unfoldable pub bitsRight : ℕ → ℕ → Bool
 bitsRight k m = isKind k && (contains m (required k) && (contains (required k + allowed k) m && joined k m))
-
--- ---- laws
-
-pub kind-small : (k : ℕ) → isKind k ≡ true → k < 21
-unfolding isKind
-kind-small k e =
-    ⊎-elim
-    (λ p. omega (arith, leb-true k 9 (both-true (leb 1 k) (leb k 9) p .1)))
-    (λ p. omega (arith, leb-true k 20 (both-true (leb 16 k) (leb k 20) p .1)))
-    (either-true (within 1 9 k) (within 16 20 k) e)
-
--- a list of constants is the table, computed for each of its places
-pub at-each : (l : List ℕ) (f : ℕ → ℕ) (n : ℕ) → allBelow (λ k. eqb (getD l k 0) (f k)) n ≡ true → (k : ℕ) → k < n → getD l k 0 ≡ f k
-at-each l f n e k h = eqb-true (getD l k 0) (f k) (all-elim (λ i. eqb (getD l i 0) (f i)) n e k h)
-
--- a number takes at most 16 bytes
-pub size-small : (b : ℕ) → b < 32 → (size b ≤ 255) × (size b < 255 → size b ≤ 16)
-unfolding size fields allBelow
-size-small b h =
-    let t : (leb (size b) 16 || eqb (size b) 255) ≡ true = all-elim (λ k. leb (size k) 16 || eqb (size k) 255) 32 refl b h in
-    ⊎-elim
-    (λ p. let q : size b ≤ 16 = leb-true (size b) 16 p in (omega arith, λ l. q))
-    (λ p. let q : size b ≡ 255 = eqb-true (size b) 255 p in (omega arith, λ l. absurd (omega arith)))
-    (either-true (leb (size b) 16) (eqb (size b) 255) t)
-
-pub range-small : (b : ℕ) → b < 32 → range b < 16
-unfolding range fields allBelow
-range-small b h = ltb-true (range b) 16 (all-elim (λ k. ltb (range k) 16) 32 refl b h)

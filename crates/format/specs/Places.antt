@@ -1,11 +1,10 @@
 -- Where the fields of a record stand in a buffer, and what they hold. Rests on Format.
-use Prim.Native.Nat.{ℕ, zero, suc, _+_, _-_, _≤_, _<_}
-use mathlib.Core.List.{List, []}
+use Prim.Native.Nat.{ℕ, zero, suc, _+_, _-_}
+use mathlib.Core.List.{List}
 use mathlib.Core.Bool.{Bool, true, _&&_}
 use lib.ListN.{length, getD, take, drop}
 use lib.Dec.{leb}
 use Rattle.prelude.specs.Cases.{if_then_else_}
-use Rattle.prelude.specs.Below.{allBelow}
 use Rattle.prelude.specs.Span.{span}
 use Rattle.prelude.specs.Number.{number, word32}
 use Rattle.bits.specs.Map.{bit}
@@ -58,21 +57,3 @@ shaped s o = leb (o + 5) (length s) && (bitsRight (kindAt s o) (mapAt s o) && le
 -- a field that stands is in its range
 unfoldable pub rightAt : List ℕ → ℕ → ℕ → ℕ → Bool
 rightAt s o m b = if bit m b then inRange (range b) (value b (content s o m b)) else true
-
--- ---- as code sees it: the places in an array
-
--- the bytes between two places
-abbrev pub between : List ℕ → List ℕ → ℕ → List ℕ
-between s at b = span s (getD at b 0) (getD at (b + 1) 0 - getD at b 0)
-
--- the places rise, within s
-pub record Rising (s at : List ℕ) : Type 0 where
-  pub up : (b : ℕ) → b < 32 → getD at b 0 ≤ getD at (b + 1) 0
-  pub inside : (b : ℕ) → b < 32 → getD at (b + 1) 0 ≤ length s
-
--- what field b holds between its places, 0 where its bit does not stand, and whether it is in its range
-unfoldable pub heldAt : List ℕ → ℕ → List ℕ → ℕ → ℕ
-heldAt s m at b = if bit m b then value b (strip b (between s at b)) else 0
-
-unfoldable pub rightIn : List ℕ → ℕ → List ℕ → ℕ → Bool
-rightIn s m at b = if bit m b then inRange (range b) (value b (strip b (between s at b))) else true

@@ -6,6 +6,9 @@ ghost use Rattle.format.specs.Codes.{inMap, isSide, isOrdtype, isTimeinf
 ghost use Rattle.format.specs.Format.{required, allowed, isKind, joined, bitsRight};
 use prelude::Text;
 
+pub mod bit;
+pub mod codes;
+
 // A code, by the map of the characters from 0 on.
 fn in_map(map: u32, code: u8) -> bool
     ensures { λ r. ⌜ r ≡ inMap map code ⌝ }
@@ -154,13 +157,17 @@ const PERMITTED: [u32; 21] = [
     1074008034,
 ];
 
-fn required_of(kind: u8) -> u32
-    requires { ⌜ kind < 21 ⌝ }
+// The bits that a kind must have: none where there is no such kind.
+pub fn required_of(kind: u8) -> u32
     ensures { λ r. ⌜ r ≡ required kind ⌝ }
 {
+    if codes::REPLACE_REQUEST < kind {
+        return 0;
+    }
     REQUIRED[kind as usize]
 }
 
+// Those and the bits that it may have.
 fn permitted_of(kind: u8) -> u32
     requires { ⌜ kind < 21 ⌝ }
     ensures { λ r. ⌜ r ≡ required kind + allowed kind ⌝ }
@@ -171,29 +178,29 @@ fn permitted_of(kind: u8) -> u32
 fn is_kind(kind: u8) -> bool
     ensures { λ r. ⌜ r ≡ isKind kind ⌝ }
 {
-    if kind < 1 {
+    if kind < codes::EVENT_BOOK {
         return false;
     }
-    if kind <= 9 {
+    if kind <= codes::EVENT_GATEWAY_CANCEL {
         return true;
     }
-    if kind < 16 {
+    if kind < codes::REPORT {
         return false;
     }
-    kind <= 20
+    kind <= codes::REPLACE_REQUEST
 }
 
 fn is_joined(kind: u8, map: u32) -> bool
     ensures { λ r. ⌜ r ≡ joined kind map ⌝ }
 {
-    let texts = bits::digit_of(map, 20) + bits::digit_of(map, 27);
-    if kind == 16 {
-        if bits::digit_of(map, 19) != bits::digit_of(map, 28) {
+    let texts = bits::digit_of(map, bit::TEXT) + bits::digit_of(map, bit::FIXEDTEXT);
+    if kind == codes::REPORT {
+        if bits::digit_of(map, bit::REASON) != bits::digit_of(map, bit::ORIGIN) {
             return false;
         }
         return texts <= 1;
     }
-    if kind == 17 {
+    if kind == codes::CANCEL_REJECT {
         return texts == 1;
     }
     true

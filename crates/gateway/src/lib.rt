@@ -1,24 +1,19 @@
 // The entries of the gateway's book, for a host that calls them as C functions on byte slices:
 // `start` makes an empty book, `event` takes one record and writes the answer, `check` says whether a
-// book keeps its rules. Each is total: whatever the bytes, it returns document 01's number, and a
-// refused call has written nothing. Rests on rules, records, book and store.
+// book keeps its rules. Each is total: whatever the bytes, it returns docs/SCOPE.md's number, and a
+// refused call has written nothing. Rests on step, rules, records and store.
 ghost use mathlib.Core.Path.{_≡_};
-ghost use Rattle.gateway.specs.Entries.{startOf, startRefusal, checkOf, outcome, eventOf};
+ghost use Rattle.step.specs.Entries.{startOf, startRefusal, checkOf, outcome, eventOf};
+use store::layout;
 
-mod loads; // records in use, and what an event's handling needs of the book
-mod step; // an event's whole effect, by value
 mod write; // a change written into the book
-
-const BOOK: usize = 65536;
-
-const SHORTEST_ANSWER: usize = 1024;
 
 // Makes an empty book: zeros but for the setting, the most ClOrdIDs that a client may use.
 #[no_mangle]
 pub extern "C" fn start(book: &mut [u8], setting: u32) -> u32
     ensures { λ r. ⌜ (r ≡ startRefusal (now (book .entry))) × (now (book .exit) ≡ startOf (now (book .entry)) setting) ⌝ }
 {
-    if book.len() != BOOK {
+    if book.len() != layout::BOOK {
         return 1;
     }
     store::clear(book, setting);
@@ -30,17 +25,7 @@ pub extern "C" fn start(book: &mut [u8], setting: u32) -> u32
 pub extern "C" fn event(book: &mut [u8], record: &[u8], answer: &mut [u8]) -> u32
     ensures { λ r. ⌜ outcome r (now (book .exit)) (now (answer .exit)) ≡ eventOf (now (book .entry)) (now («record» .entry)) (now (answer .entry)) ⌝ }
 {
-    if !rules::keeps(book) {
-        return 1;
-    }
-    if answer.len() < SHORTEST_ANSWER {
-        return 2;
-    }
-    let read = records::read_event(record);
-    if read.refusal != 0 {
-        return read.refusal;
-    }
-    let c = step::step_of(book, read.event);
+    let c = step::call_of(book, record, answer.len());
     if c.refusal != 0 {
         return c.refusal as u32;
     }

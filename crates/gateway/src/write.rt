@@ -1,6 +1,6 @@
 // A change written into the book's bytes. Rests on store.
 ghost use mathlib.Core.Path.{_≡_};
-ghost use Rattle.gateway.specs.Entries.{placeOrder, markLink, placeRequests};
+ghost use Rattle.step.specs.Entries.{placeOrder, markLink, placeRequests};
 use machine::Requests;
 use store::Order;
 

@@ -17,7 +17,7 @@ use Rattle.prelude.specs.Texts.{contents, textOf, isText, filledAt, agreeAt, sa
 use Rattle.prelude.specs.declared.Text.{Text}
 use Rattle.format.specs.Codes.{isAlnum, alnumAt, isName, within}
 use Rattle.text.specs.Numbered.{digitsOf, decimal, numberedBytes, numberedText}
-use Rattle.text.specs.NameLaws.{NoDash, no-dash, Fits, numbered-fits, numbered-is-text, numbered-long, numbered-len, numbered-same, numbered-no-name}
+use Rattle.text.specs.Laws.Names.{NoDash, no-dash, Fits, numbered-fits, numbered-is-text, numbered-long, numbered-len, numbered-same, numbered-no-name}
 use Rattle.machine.specs.Ranges.{nameRange, textWithin}
 
 pub record NumberedLaws : Type 0 where

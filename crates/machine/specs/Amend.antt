@@ -14,12 +14,14 @@ use Rattle.store.specs.declared.Pending.{Pending}
 use Rattle.store.specs.declared.Order.{Order}
 use Rattle.store.specs.declared.Request.{Request}
 use Rattle.text.specs.Words.{noText}
-use Rattle.machine.specs.Codes.{pendingNew, new, partiallyFilled, pendingCancel, pendingReplace, rejected, execRejected, execStatus, limit, cancelKind, replaceKind, tooLate, unknown, alreadyPending, duplicate, other, ours, venues, textCancelling, textReplacePending, textBelowFilled, textBlocked, textDuplicate, textUnknownOrder, textDone, textTooMany, textSideOrSymbol, textRejected, textNotSent}
-use Rattle.machine.specs.Orders.{oneMore, hasPending, hasGateway, limitPrice, isDone, setStatus, recordVenueOrderId, pendingTerms, nextExec, withPending, withGateway, noPending, isEmpty}
+use Rattle.machine.specs.Constants.{cancelKind, replaceKind, tooLate, unknown, alreadyPending, duplicate, other, ours, venues, textCancelling, textReplacePending, textBelowFilled, textBlocked, textDuplicate, textUnknownOrder, textDone, textTooMany, textSideOrSymbol, textRejected, textNotSent}
+use Rattle.format.specs.Codes.{pendingNew, new, partiallyFilled, pendingCancel, pendingReplace, rejected, execRejected, execStatus, limit}
+use Rattle.machine.specs.Orders.{oneMore, hasPending, hasGateway, limitPrice, isDone, setStatus, recordVenueOrderId, pendingTerms, nextExec, withPending, withGateway, isEmpty}
+use Rattle.store.specs.Orders.{noPending}
 use Rattle.machine.specs.Messages.{report, cancelReject, newOrder, cancelRequest, replaceRequest, noNote, noLongText}
 use Rattle.machine.specs.Changes.{Event, unchanged, refusing, withOrder, answering, adding, telling, isFirst, isReplace, isGateway, isCancel, isAnswered, nextLink, nextDownstream, nextRequest, numberedOrder}
 use Rattle.machine.specs.GatewayCancel.{gatewayCancelInFlight, gatewayCancelRefused, resumeGatewayCancel}
-use Rattle.machine.specs.declared.Facts.{Facts}
+use Rattle.machine.specs.declared.Findings.{Findings}
 use Rattle.machine.specs.declared.Note.{Note}
 use Rattle.machine.specs.declared.Refusal.{Refusal}
 use Rattle.machine.specs.declared.Refused.{Refused}
@@ -44,8 +46,8 @@ refusal reason fixedtext = record { reason = reason; fixedtext = fixedtext }
 unfoldable pub matches : Order → Event → Bool
 matches o e = eqb (o .terms .side) (e .terms .side) && sameText (o .names .symbol) (e .ids .symbol)
 
--- `amendable`: the refusals that cancels and replaces share, in order, and then the caller's own. The order's link is 0 where there is none.
-unfoldable pub amendRefusal : Facts → (order : ℕ) (full : Bool) → Order → Event → Refusal → Refusal
+-- the refusals that cancels and replaces share, in order, and then the caller's own. The order's link is 0 where there is none.
+unfoldable pub amendRefusal : Findings → (order : ℕ) (full : Bool) → Order → Event → Refusal → Refusal
 amendRefusal f order full o e own =
     if not (eqb order 0) then refusal duplicate textDuplicate
     else if eqb (f .place) 0 then refusal unknown textUnknownOrder
@@ -55,7 +57,7 @@ amendRefusal f order full o e own =
     else own
 
 -- a refusal of ours, told to the client. Where there is no order its status is Rejected.
-unfoldable pub refuse : Facts → (responseto : ℕ) → Order → Event → Refusal → Change
+unfoldable pub refuse : Findings → (responseto : ℕ) → Order → Event → Refusal → Change
 refuse f responseto o e r =
     telling
     (cancelReject (e .client) (o .names .name) (if eqb (f .place) 0 then rejected else o .state .status) (e .ids .clordid) (e .ids .origclordid) responseto
@@ -63,31 +65,39 @@ refuse f responseto o e r =
     (unchanged (f .place) o)
 
 -- a request that was already taken, sent again: the order's state under the request's own ClOrdIDs
-unfoldable pub statusReport : Facts → Order → Event → Change
+unfoldable pub statusReport : Findings → Order → Event → Change
 statusReport f o e =
     telling (report (nextExec o) (e .ids .clordid) (e .ids .origclordid) execStatus 0 (0 ∷ (0 ∷ [])) noNote) (unchanged (f .place) (nextExec o))
 
 -- the event was redelivered, and its ClOrdID was used for this very order
-unfoldable pub alreadyTaken : Facts → (order : ℕ) → Event → Bool
+unfoldable pub alreadyTaken : Findings → (order : ℕ) → Event → Bool
 alreadyTaken f order e = has e 21 && not (eqb order 0) && eqb order (f .place)
+
+-- `amendable`: a request already taken is told again, one that is refused is told so, and any other goes on to the change that is given
+abbrev pub amendable : Findings → (responseto order : ℕ) (full : Bool) → Order → Event → (own : Refusal) (goes : Change) → Change
+amendable f responseto order full o e own goes =
+    let r = amendRefusal f order full o e own in
+    if alreadyTaken f order e then statusReport f o e
+    else if not (eqb (r .fixedtext) 0) then refuse f responseto o e r
+    else goes
+
+-- `number`: the request is recorded under the order's next numbered downstream ClOrdID, and the order is left as given
+abbrev pub number : Findings → (kind : ℕ) → Order → Event → (left : Order) → Change
+number f kind o e left = adding (nextRequest f o kind (e .ids .clordid) (e .ids .origclordid)) (unchanged (f .place) left)
 
 -- ---- `cancel`
 
-unfoldable pub cancelRefusal : Facts → Order → Refusal
+unfoldable pub cancelRefusal : Findings → Order → Refusal
 cancelRefusal f o = if gatewayCancelInFlight f o then refusal alreadyPending textCancelling else passes
 
--- `number`, and the cancel goes out
-unfoldable pub cancelGoes : Facts → Order → Event → Change
+-- the cancel goes out
+unfoldable pub cancelGoes : Findings → Order → Event → Change
 cancelGoes f o e =
     let o′ = numberedOrder f true o in
-    telling (cancelRequest o′ (nextDownstream o)) (adding (nextRequest f o cancelKind (e .ids .clordid) (e .ids .origclordid)) (unchanged (f .place) o′))
+    telling (cancelRequest o′ (nextDownstream o)) (number f cancelKind o e o′)
 
-unfoldable pub cancel : Facts → (order : ℕ) (full : Bool) → Order → Event → Change
-cancel f order full o e =
-    let r = amendRefusal f order full o e (cancelRefusal f o) in
-    if alreadyTaken f order e then statusReport f o e
-    else if not (eqb (r .fixedtext) 0) then refuse f cancelKind o e r
-    else cancelGoes f o e
+unfoldable pub cancel : Findings → (order : ℕ) (full : Bool) → Order → Event → Change
+cancel f order full o e = amendable f cancelKind order full o e (cancelRefusal f o) (cancelGoes f o e)
 
 -- ---- `replace`
 
@@ -117,7 +127,7 @@ checkReplace o e =
     else if eqb (e .verdict) 0 then passes
     else refusal other (verdictText (e .verdict))
 
-unfoldable pub replaceRefusal : Facts → Order → Event → Refusal
+unfoldable pub replaceRefusal : Findings → Order → Event → Refusal
 replaceRefusal f o e =
     if gatewayCancelInFlight f o then refusal alreadyPending textCancelling
     else if hasPending o then refusal alreadyPending textReplacePending
@@ -139,22 +149,19 @@ newTerms o e = record {
 unfoldable pub pricedRight : (ordtype : ℕ) → Event → Bool
 pricedRight ordtype e = if eqb ordtype limit then has e 10 else not (has e 10)
 
-unfoldable pub newPending : Facts → Terms → Pending
+unfoldable pub newPending : Findings → Terms → Pending
 newPending f t = record { request = nextLink f; qty = t .qty; price = t .price; ordtype = t .ordtype; timeinforce = t .timeinforce }
 
-unfoldable pub replaceGoes : Facts → Order → Event → Change
+unfoldable pub replaceGoes : Findings → Order → Event → Change
 replaceGoes f o e =
     let t = newTerms o e in
     let o′ = withPending (newPending f t) (numberedOrder f false o) in
-    telling (replaceRequest o′ (nextDownstream o) t) (adding (nextRequest f o replaceKind (e .ids .clordid) (e .ids .origclordid)) (unchanged (f .place) o′))
+    telling (replaceRequest o′ (nextDownstream o) t) (number f replaceKind o e o′)
 
-unfoldable pub replace : Facts → (order : ℕ) (full : Bool) → Order → Event → Change
+unfoldable pub replace : Findings → (order : ℕ) (full : Bool) → Order → Event → Change
 replace f order full o e =
-    let r = amendRefusal f order full o e (replaceRefusal f o e) in
-    if alreadyTaken f order e then statusReport f o e
-    else if not (eqb (r .fixedtext) 0) then refuse f replaceKind o e r
-    else if not (pricedRight (orOwn (e .terms .ordtype) (o .terms .ordtype)) e) then refusing 6
-    else replaceGoes f o e
+    amendable f replaceKind order full o e (replaceRefusal f o e)
+    (if not (pricedRight (orOwn (e .terms .ordtype) (o .terms .ordtype)) e) then refusing 6 else replaceGoes f o e)
 
 -- ---- `refuse_request`
 
@@ -183,7 +190,7 @@ refusedNote n = record {
   origin = if eqb (n .origin) 0 then ours else n .origin;
 }
 
-unfoldable pub refuseRequest : Facts → ℕ → Request → (venue : ℕ) → Refused → Order → Change
+unfoldable pub refuseRequest : Findings → ℕ → Request → (venue : ℕ) → Refused → Order → Change
 refuseRequest f k q venue r o =
     let o′ = refusedOrder k r o in
     let c = answering k (unchanged (f .place) o′) in
@@ -199,7 +206,7 @@ refuseRequest f k q venue r o =
 unfoldable pub venueNote : Event → Note
 venueNote e = record { text = e .text; fixedtext = 0; reason = e .reason; origin = if has e 19 then venues else 0 }
 
-unfoldable pub venueCancelReject : Facts → ℕ → Request → Order → Event → Change
+unfoldable pub venueCancelReject : Findings → ℕ → Request → Order → Event → Change
 venueCancelReject f k q o e =
     resumeGatewayCancel f
     (refuseRequest f k q (e .venue) (record { status = e .exec .status; venueorderid = e .ids .venueorderid; note = venueNote e }) o)
@@ -217,14 +224,14 @@ sendRefused g = record {
 }
 
 -- the first send failed: the order is rejected, for a reason of ours
-unfoldable pub firstFailed : Facts → ℕ → Note → Order → Change
+unfoldable pub firstFailed : Findings → ℕ → Note → Order → Change
 firstFailed f k n o =
     let o′ = nextExec (setStatus rejected o) in
     telling
     (report o′ (o′ .names .clordid) noText execRejected 0 (0 ∷ (0 ∷ [])) (record { text = n .text; fixedtext = n .fixedtext; reason = other; origin = ours }))
     (answering k (unchanged (f .place) o′))
 
-unfoldable pub sendFailed : Facts → ℕ → Request → (venue : ℕ) → Note → Order → Change
+unfoldable pub sendFailed : Findings → ℕ → Request → (venue : ℕ) → Note → Order → Change
 sendFailed f k q venue n o =
     if not (eqb (o .venue) venue) then unchanged (f .place) o
     else if isGateway q && isAnswered q then unchanged (f .place) o
@@ -239,7 +246,7 @@ sendFailed f k q venue n o =
 unfoldable pub resendable : Request → (venue : ℕ) → Order → Bool
 resendable q venue o = not (isAnswered q) && not (isDone (o .state .status)) && eqb (o .venue) venue
 
-unfoldable pub unsent : Facts → ℕ → Request → (venue : ℕ) → Order → Change
+unfoldable pub unsent : Findings → ℕ → Request → (venue : ℕ) → Order → Change
 unsent f k q venue o =
     if resendable q venue o && isFirst q && eqb (o .state .status) pendingNew then telling (newOrder o (q .downstream)) (unchanged (f .place) o)
     else if resendable q venue o && isCancel q then telling (cancelRequest o (q .downstream)) (unchanged (f .place) o)

@@ -37,18 +37,18 @@ module _ {In Held : Type 0} (f : Form In Held) where
     back : (image : Held) → good image → Step good
 
   -- the image last returned to, or what there was at first, and what has happened since
-  pub record Since : Type 0 where
+  pub record SinceReturn : Type 0 where
     pub image : Held
     pub held : Held
     pub past : List Entry
 
-  abbrev pub stateOf : Since → State
+  abbrev pub stateOf : SinceReturn → State
   stateOf s = record { book = f .bookOf (s .held); past = s .past }
 
-  abbrev pub returned : Held → Since
-  returned h = record { image = h; held = h; past = [] }
+  abbrev pub justReturned : Held → SinceReturn
+  justReturned h = record { image = h; held = h; past = [] }
 
-  abbrev pub follow : {good : Held → Type 0} → Since → List (Step good) → Since
+  abbrev pub follow : {good : Held → Type 0} → SinceReturn → List (Step good) → SinceReturn
   follow s [] = s
   follow s (call i ∷ is) = follow (record { image = s .image; held = f .next (s .held) i; past = lineAt (s .held) i ∷ s .past }) is
-  follow s (back h g ∷ is) = follow (returned h) is
+  follow s (back h g ∷ is) = follow (justReturned h) is

@@ -11,10 +11,10 @@ use Rattle.store.specs.Orders.{noOrder}
 use Rattle.store.specs.Requests.{noRequest}
 use Rattle.text.specs.Words.{noText}
 use Rattle.text.specs.Numbered.{numberedText}
-use Rattle.machine.specs.Codes.{firstKind, cancelKind, replaceKind, gatewayKind}
+use Rattle.machine.specs.Constants.{firstKind, cancelKind, replaceKind, gatewayKind}
 use Rattle.machine.specs.Orders.{oneMore, withLinks}
 use Rattle.machine.specs.Messages.{noMessage}
-use Rattle.machine.specs.declared.Facts.{Facts}
+use Rattle.machine.specs.declared.Findings.{Findings}
 use Rattle.machine.specs.declared.Requests.{Requests}
 use Rattle.machine.specs.declared.Output.{Output}
 use Rattle.machine.specs.declared.Change.{Change}
@@ -119,7 +119,7 @@ alarming a c = record {
 -- ---- `next_downstream`: the order's next numbered downstream ClOrdID, and the request under it
 
 -- the link of a request that is added
-unfoldable pub nextLink : Facts → ℕ
+unfoldable pub nextLink : Findings → ℕ
 nextLink f = oneMore 65535 (f .requests)
 
 unfoldable pub nextNumber : Order → ℕ
@@ -128,7 +128,7 @@ nextNumber o = oneMore 65535 (o .links .amendments)
 unfoldable pub nextDownstream : Order → Text
 nextDownstream o = numberedText (o .names .name) (nextNumber o)
 
-unfoldable pub nextRequest : Facts → Order → (kind : ℕ) → (clordid origclordid : Text) → Request
+unfoldable pub nextRequest : Findings → Order → (kind : ℕ) → (clordid origclordid : Text) → Request
 nextRequest f o kind clordid origclordid = record {
   order = f .place - 1;
   kind = kind;
@@ -139,7 +139,7 @@ nextRequest f o kind clordid origclordid = record {
 }
 
 -- a cancel becomes the order's latest
-unfoldable pub numberedOrder : Facts → (cancels : Bool) → Order → Order
+unfoldable pub numberedOrder : Findings → (cancels : Bool) → Order → Order
 numberedOrder f cancels o =
     withLinks
     (record {

@@ -1,6 +1,6 @@
 -- Demand 3, whole: what holds after every list of calls, from the empty book with any setting. Rests on History.
 -- All of it is counted from the history: the messages sent, the events, and the books before and after them. Of what the book stores, only what
--- is spoken of is read. What stands in quotes is document 01's. An order is known by its name: names are distinct.
+-- is spoken of is read. What stands in quotes is the desk's wording; docs/SCOPE.md, Demand 3, has all of it. An order is known by its name: names are distinct.
 use Prim.Native.Nat.{ℕ, _+_, _≤_, _<_}
 use mathlib.Core.Path.{_≡_}
 use mathlib.Core.Bool.{Bool, true, false, not, _&&_}
@@ -14,12 +14,12 @@ use Rattle.prelude.specs.Totals.{totalOf, someOf, howMany, those, Every}
 use Rattle.prelude.specs.declared.Text.{Text}
 use Rattle.store.specs.declared.Order.{Order}
 use Rattle.store.specs.Book.{Book, orderIn, requestIn}
-use Rattle.machine.specs.Codes.{reportKind, cancelRequestKind}
+use Rattle.machine.specs.Constants.{reportKind, cancelRequestKind}
 use Rattle.machine.specs.Orders.{isDone, hasGateway}
 use Rattle.machine.specs.Changes.{Event, Message, isAnswered}
 use Rattle.machine.specs.GatewayCancel.{gatewayCancelInFlight}
 use Rattle.store.specs.Finds.{bearsName, findName, findDownstream}
-use Rattle.machine.specs.Machine.{factsOf}
+use Rattle.machine.specs.Machine.{findingsOf}
 use Rattle.machine.specs.History.{Decoded, unread, readAs, comesTo, Entry, lineOf, State, start, run, Kinds}
 
 -- ---- the reports
@@ -29,8 +29,8 @@ abbrev pub lastQty : (client : ℕ) (name : Text) → Message → ℕ
 lastQty client name m = if eqb (m .kind) reportKind && (eqb (m .client) client && sameText (m .ids .name) name) then m .exec .lastqty else 0
 
 -- the LastQty of all reports sent, added up
-abbrev pub toldOf : (client : ℕ) (name : Text) → List Entry → ℕ
-toldOf client name = totalOf (λ e. totalOf (lastQty client name) (e .messages))
+abbrev pub lastQtyOf : (client : ℕ) (name : Text) → List Entry → ℕ
+lastQtyOf client name = totalOf (λ e. totalOf (lastQty client name) (e .messages))
 
 -- ---- the status
 
@@ -40,13 +40,13 @@ statusOf name b = maybe none (λ i. some (orderIn b i .state .status)) (findName
 -- ---- a gateway cancel begins
 
 -- the record reads as an event of that kind
-abbrev pub isEvent : ℕ → Decoded → Bool
-isEvent k (unread n) = false
-isEvent k (readAs e) = eqb (e .kind) k
+abbrev pub ofKind : ℕ → Decoded → Bool
+ofKind k (unread n) = false
+ofKind k (readAs e) = eqb (e .kind) k
 
 -- the order is live, and none of the gateway's cancels is in flight
 unfoldable pub starts : Book → ℕ → Bool
-starts b i = not (isDone (orderIn b i .state .status)) && not (gatewayCancelInFlight (factsOf b (i + 1)) (orderIn b i))
+starts b i = not (isDone (orderIn b i .state .status)) && not (gatewayCancelInFlight (findingsOf b (i + 1)) (orderIn b i))
 
 -- an event 9 asks for the order of that name where the Rust "makes that record or, asked again, starts its tries over"
 abbrev pub asks : Text → Book → Decoded → Bool
@@ -81,15 +81,19 @@ sent d = someOf (λ e. holds d (cancelsIn (e .messages)))
 abbrev pub isFor : Text → Book → Text → Bool
 isFor name b d = maybe false (λ k. bearsName name (orderIn b (requestIn b k .order))) (findDownstream b d)
 
--- the gateway's for that order that the line puts out: "put out by the first of them: the client's if that message answers an event 2, else
--- the gateway's"
-unfoldable pub putOutBy : Text → Entry → (earlier : List Entry) → List Text
-putOutBy name e earlier = if isEvent 2 (e .input) then [] else those (λ d. isFor name (e .left) d && not (sent d earlier)) (once (cancelsIn (e .messages)))
+-- the gateway's for that order that the line puts out, of those not known before it: "put out by the first of them: the client's if that
+-- message answers an event 2, else the gateway's"
+unfoldable pub putOutBy : (known : Text → List Entry → Bool) → Text → Entry → (earlier : List Entry) → List Text
+putOutBy known name e earlier = if ofKind 2 (e .input) then [] else those (λ d. isFor name (e .left) d && not (known d earlier)) (once (cancelsIn (e .messages)))
 
 -- those put out since the gateway cancel last began: "one in the answer to the event where a gateway cancel begins counts as put out since then"
+abbrev pub putOutOf : (known : Text → List Entry → Bool) → Text → List Entry → List Text
+putOutOf known name [] = []
+putOutOf known name (e ∷ earlier) = putOutBy known name e earlier ++ (if begins name e then [] else putOutOf known name earlier)
+
+-- what was sent is known
 abbrev pub putOut : Text → List Entry → List Text
-putOut name [] = []
-putOut name (e ∷ earlier) = putOutBy name e earlier ++ (if begins name e then [] else putOut name earlier)
+putOut name past = putOutOf sent name past
 
 -- the request record that bears the ClOrdID is answered
 abbrev pub answeredIn : Book → Text → Bool
@@ -97,7 +101,7 @@ answeredIn b d = maybe false (λ k. isAnswered (requestIn b k)) (findDownstream 
 
 -- "A request's send has failed where an event 7 set its `answered`"
 abbrev pub fails : Entry → Text → Bool
-fails e d = isEvent 7 (e .input) && (not (answeredIn (e .before) d) && answeredIn (e .left) d)
+fails e d = ofKind 7 (e .input) && (not (answeredIn (e .before) d) && answeredIn (e .left) d)
 
 abbrev pub failed : List Entry → Text → Bool
 failed past d = someOf (λ e. fails e d) past
@@ -110,7 +114,7 @@ Each s P = (i : ℕ) → i < length (s .book .orders) → P (orderIn (s .book) i
 
 pub record Demand3 (s : State) : Type 0 where
   -- the LastQty of its reports add up to its cumulative quantity
-  pub filled : Each s (λ o. toldOf (o .client) (o .names .name) (s .past) ≡ o .state .cumqty)
+  pub filled : Each s (λ o. lastQtyOf (o .client) (o .names .name) (s .past) ≡ o .state .cumqty)
   -- which is at most the quantity then ordered
   pub ordered : Each s (λ o. o .state .cumqty ≤ o .terms .qty)
   -- a done status that an order had after some call, it has still

@@ -1,4 +1,4 @@
--- What the reader says of every event that it accepts: each field is in document 01's range, and an absent field is zero or empty.
+-- What the reader says of every event that it accepts: each field is in its range (docs/SCOPE.md, Records), and an absent field is zero or empty.
 -- Rests on Ranges and Rules (`forceRange`).
 use mathlib.Core.Path.{_≡_}
 use mathlib.Core.Logic.{_⊎_}
@@ -6,8 +6,8 @@ use mathlib.Core.Bool.{true, false}
 use lib.Dec.{eqb}
 use Rattle.machine.specs.Changes.{Event}
 use Rattle.machine.specs.Amend.{has}
-use Rattle.format.specs.Codes.{isSide, isOrdtype, isStatus}
-use Rattle.machine.specs.Ranges.{isQty, isPrice, textWithin, nameRange}
+use Rattle.format.specs.Codes.{isSide, isOrdtype, isStatus, isQty, isPrice}
+use Rattle.machine.specs.Ranges.{textWithin, nameRange}
 use Rattle.machine.specs.Rules.{forceRange}
 
 -- the fields that a booking must have

@@ -72,8 +72,8 @@ pub record Exchanged (b : Book) (d e : Event) : Type 0 where
   pub taken-first : stepOf b e .refusal ≡ 0
   pub taken-second : stepOf (bookAfter b e) d .refusal ≡ 0
   -- each the same answer: messages and alarm
-  pub answer : stepOf (bookAfter b e) d .output ≡ stepOf b d .output
-  pub answer′ : stepOf (bookAfter b d) e .output ≡ stepOf b e .output
+  pub first-answer : stepOf (bookAfter b e) d .output ≡ stepOf b d .output
+  pub second-answer : stepOf (bookAfter b d) e .output ≡ stepOf b e .output
   pub count : length (bookAfter (bookAfter b d) e .orders) ≡ length (bookAfter (bookAfter b e) d .orders)
   pub orders : (i : ℕ) → SameOrder (bookAfter (bookAfter b d) e) (bookAfter (bookAfter b e) d) i
   pub opens : (client : ℕ) → openOf (bookAfter (bookAfter b d) e) client ≡ openOf (bookAfter (bookAfter b e) d) client

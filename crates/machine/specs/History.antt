@@ -4,7 +4,8 @@ use mathlib.Core.Path.{_≡_}
 use mathlib.Core.List.{List, [], _∷_}
 use lib.Dec.{eqb}
 use Rattle.prelude.specs.Cases.{if_then_else_}
-use Rattle.store.specs.Book.{Book}
+use Rattle.records.specs.Answer.{chosen}
+use Rattle.store.specs.Book.{Book, emptyBook}
 use Rattle.machine.specs.Changes.{Event, Message, refusing}
 use Rattle.machine.specs.Machine.{stepOf, after}
 use Rattle.machine.specs.Rules.{rules}
@@ -20,13 +21,9 @@ unfoldable pub comesTo : Book → Decoded → Change
 comesTo b (unread n) = if rules b then refusing n else refusing 1
 comesTo b (readAs e) = if rules b then stepOf b e else refusing 1
 
--- the messages of an answer: none, the first, or both
-unfoldable pub spoken : (count : ℕ) (first second : Message) → List Message
-spoken count first second = if eqb count 0 then [] else if eqb count 1 then first ∷ [] else first ∷ second ∷ []
-
 -- "A refused call .. has written nothing anywhere": the book stays, and no message counts
 unfoldable pub messagesOf : Change → List Message
-messagesOf c = if eqb (c .refusal) 0 then spoken (c .output .count) (c .output .first) (c .output .second) else []
+messagesOf c = if eqb (c .refusal) 0 then chosen (c .output .count) (c .output .first) (c .output .second) else []
 
 unfoldable pub leftBy : Book → Change → Book
 leftBy b c = if eqb (c .refusal) 0 then after b c else b
@@ -48,9 +45,13 @@ pub record State : Type 0 where
   pub book : Book
   pub past : List Entry
 
+-- a book, and nothing has happened yet
+abbrev pub startFrom : Book → State
+startFrom b = record { book = b; past = [] }
+
 -- start made the first book, with any setting
 abbrev pub start : (setting : ℕ) → State
-start setting = record { book = record { setting = setting; orders = []; requests = [] }; past = [] }
+start setting = startFrom (emptyBook setting)
 
 abbrev pub next : State → Decoded → State
 next s i = let e = lineOf (s .book) i (comesTo (s .book) i) in record { book = e .left; past = e ∷ s .past }

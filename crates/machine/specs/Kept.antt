@@ -3,15 +3,14 @@
 use Prim.Native.Nat.{ℕ, _≤_, _<_}
 use mathlib.Core.Path.{_≡_}
 use mathlib.Core.Bool.{true, false}
-use mathlib.Core.List.{[]}
-use Rattle.store.specs.Book.{Book}
+use Rattle.store.specs.Book.{Book, emptyBook}
 use Rattle.machine.specs.Changes.{Event}
 use Rattle.machine.specs.Machine.{bookAfter}
 use Rattle.machine.specs.Rules.{rules}
 use Rattle.machine.specs.Events.{Ranged}
 
 abbrev pub StartKeeps : Type 0
-StartKeeps = (setting : ℕ) → rules (record { setting = setting; orders = []; requests = [] }) ≡ true
+StartKeeps = (setting : ℕ) → rules (emptyBook setting) ≡ true
 
 abbrev pub StepKeeps : Type 0
 StepKeeps = (b : Book) (e : Event) → Ranged e → rules b ≡ true → rules (bookAfter b e) ≡ true

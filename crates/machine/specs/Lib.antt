@@ -1,4 +1,4 @@
-pub mod Codes
+pub mod Constants
 pub mod Orders
 pub mod Messages
 pub mod Changes
@@ -6,19 +6,15 @@ pub mod GatewayCancel
 pub mod Amend
 pub mod Report
 pub mod Machine
-pub mod Days
 pub mod Ranges
 pub mod Rules
 pub mod History
 pub mod Claim
 pub mod Since
-pub mod Counted
 pub mod Calls
 pub mod Events
 pub mod Kept
 pub mod Whole
-pub mod Broken
 pub mod Reads
 pub mod Said
 pub mod Exchange
-pub mod ExchangeDay

@@ -10,18 +10,20 @@ use Rattle.prelude.specs.Cases.{if_then_else_, maybe}
 use Rattle.prelude.specs.declared.Text.{Text}
 use Rattle.store.specs.declared.Order.{Order}
 use Rattle.store.specs.declared.Request.{Request}
+use Rattle.store.specs.Layout.{mostOrders, mostRequests}
 use Rattle.store.specs.Finds.{findName, findDownstream, findClordid, countClordids}
-use Rattle.store.specs.Book.{Book, orderIn, requestIn}
-use Rattle.store.specs.Orders.{noOrder}
+use Rattle.store.specs.Book.{Book, orderIn, requestIn, answered}
+use Rattle.store.specs.Orders.{noOrder, noPending, noGateway}
 use Rattle.store.specs.Requests.{noRequest}
 use Rattle.text.specs.Words.{noText}
-use Rattle.machine.specs.Codes.{pendingNew, firstKind, unknownOrder}
-use Rattle.machine.specs.Orders.{isEmpty, noPending, noGateway}
+use Rattle.machine.specs.Constants.{firstKind, unknownOrder}
+use Rattle.format.specs.Codes.{pendingNew}
+use Rattle.machine.specs.Orders.{isEmpty}
 use Rattle.machine.specs.Changes.{Event, unchanged, refusing, adding, alarming}
 use Rattle.machine.specs.GatewayCancel.{cancelOrder}
 use Rattle.machine.specs.Amend.{pricedRight, cancel, replace, venueCancelReject, sendFailed, unsent}
 use Rattle.machine.specs.Report.{saysUnknownAtVenue, unknownAtVenue, venueReport}
-use Rattle.machine.specs.declared.Facts.{Facts}
+use Rattle.machine.specs.declared.Findings.{Findings}
 use Rattle.machine.specs.declared.Note.{Note}
 use Rattle.machine.specs.declared.Change.{Change}
 
@@ -41,26 +43,26 @@ latestCancel b o = if eqb (o .links .cancel) 0 then noRequest else requestIn b (
 unfoldable pub orderAtLink : Book → ℕ → Order
 orderAtLink b place = if eqb place 0 then noOrder else orderIn b (place - 1)
 
-unfoldable pub factsOf : Book → ℕ → Facts
-factsOf b place = record { place = place; requests = length (b .requests); cancel = latestCancel b (orderAtLink b place) }
+unfoldable pub findingsOf : Book → ℕ → Findings
+findingsOf b place = record { place = place; requests = length (b .requests); cancel = latestCancel b (orderAtLink b place) }
 
 -- ---- the events
 
--- event 1: `book_order` as document 01 reduces it
-unfoldable pub bookedOrder : Book → Event → Order
-bookedOrder b e = record {
+-- event 1: `book_order` reduced to the book. The order's current request is the one of the link, and that request is the order's of the index.
+unfoldable pub bookedOrder : (link : ℕ) → Event → Order
+bookedOrder link e = record {
   client = e .client;
   venue = e .venue;
   names = record { name = e .ids .name; clordid = e .ids .clordid; downstream = e .ids .name; symbol = e .ids .symbol; venueorderid = noText };
   terms = e .terms;
   state = record { status = pendingNew; cumqty = 0; avgpx = 0; execseq = 0 };
-  links = record { amendments = 0; current = length (b .requests) + 1; cancel = 0 };
+  links = record { amendments = 0; current = link; cancel = 0 };
   pending = noPending;
   gateway = noGateway;
 }
 
-unfoldable pub firstRequest : Book → Event → Request
-firstRequest b e = record { order = length (b .orders); kind = firstKind; answered = 0; clordid = e .ids .clordid; origclordid = noText; downstream = e .ids .name }
+unfoldable pub firstRequest : (order : ℕ) → Event → Request
+firstRequest order e = record { order = order; kind = firstKind; answered = 0; clordid = e .ids .clordid; origclordid = noText; downstream = e .ids .name }
 
 -- the name and the ClOrdID are both unused
 unfoldable pub unused : Book → Event → Bool
@@ -70,22 +72,22 @@ unfoldable pub bookOrder : Book → Event → Change
 bookOrder b e =
     if not (unused b e) then refusing 5
     else if not (pricedRight (e .terms .ordtype) e) then refusing 6
-    else adding (firstRequest b e) (unchanged (length (b .orders) + 1) (bookedOrder b e))
+    else adding (firstRequest (length (b .orders)) e) (unchanged (length (b .orders) + 1) (bookedOrder (length (b .requests) + 1) e))
 
 -- events 2 and 3: what they find of the client's ClOrdIDs
 abbrev pub Amending : Type 0
-Amending = Facts → ℕ → Bool → Order → Event → Change
+Amending = Findings → ℕ → Bool → Order → Event → Change
 
 unfoldable pub amending : Amending → Book → Event → Change
 amending handle b e =
     let place : ℕ = orderOf b (e .client) (e .ids .origclordid) in
-    handle (factsOf b place) (orderOf b (e .client) (e .ids .clordid)) (leb (b .setting) (countClordids b (e .client))) (orderAtLink b place) e
+    handle (findingsOf b place) (orderOf b (e .client) (e .ids .clordid)) (leb (b .setting) (countClordids b (e .client))) (orderAtLink b place) e
 
 -- events 4 to 8: the request that the event names
-unfoldable pub onRequest : (unknown : Change) → (Facts → ℕ → Request → Order → Change) → Book → Event → Change
+unfoldable pub onRequest : (unknown : Change) → (Findings → ℕ → Request → Order → Change) → Book → Event → Change
 onRequest unknown handle b e =
     maybe unknown
-    (λ k. handle (factsOf b (orderLink b k)) (k + 1) (requestIn b k) (orderIn b (requestIn b k .order)))
+    (λ k. handle (findingsOf b (orderLink b k)) (k + 1) (requestIn b k) (orderIn b (requestIn b k .order)))
     (findDownstream b (e .ids .downstream))
 
 abbrev pub nothing : Change
@@ -98,12 +100,12 @@ unknownReport = alarming unknownOrder nothing
 abbrev pub textNote : Event → Note
 textNote e = record { text = e .text; fixedtext = 0; reason = 0; origin = 0 }
 
-unfoldable pub onReport : Event → Facts → ℕ → Request → Order → Change
+unfoldable pub onReport : Event → Findings → ℕ → Request → Order → Change
 onReport e f k q o = if saysUnknownAtVenue e then unknownAtVenue f k o e else venueReport f k q o e
 
 -- event 9
 unfoldable pub onName : Book → Event → Change
-onName b e = maybe nothing (λ i. cancelOrder (factsOf b (i + 1)) (orderIn b i)) (findName b (e .ids .name))
+onName b e = maybe nothing (λ i. cancelOrder (findingsOf b (i + 1)) (orderIn b i)) (findName b (e .ids .name))
 
 unfoldable pub changeOf : Book → Event → Change
 changeOf b e =
@@ -122,8 +124,8 @@ changeOf b e =
 -- a new order wants a free order record, an added request a free request record
 unfoldable pub hasRoom : Book → Change → Bool
 hasRoom b c =
-    (leb (c .place) (length (b .orders)) || ltb (length (b .orders)) 64)
-    && (eqb (c .requests .added) 0 || ltb (length (b .requests)) 256)
+    (leb (c .place) (length (b .orders)) || ltb (length (b .orders)) mostOrders)
+    && (eqb (c .requests .added) 0 || ltb (length (b .requests)) mostRequests)
 
 -- the change that the event makes, or its refusal
 unfoldable pub stepOf : Book → Event → Change
@@ -133,12 +135,9 @@ stepOf b e =
     else if hasRoom b c then c
     else refusing 7
 
-abbrev pub answeredRequest : Request → Request
-answeredRequest q = record { order = q .order; kind = q .kind; answered = 1; clordid = q .clordid; origclordid = q .origclordid; downstream = q .downstream }
-
 -- the requests with the one of this link answered
 unfoldable pub answerLink : ℕ → List Request → List Request
-answerLink k qs = if eqb k 0 then qs else set qs (k - 1) (answeredRequest (getD qs (k - 1) noRequest))
+answerLink k qs = if eqb k 0 then qs else set qs (k - 1) (answered (getD qs (k - 1) noRequest))
 
 unfoldable pub ordersAfter : List Order → Change → List Order
 ordersAfter os c =

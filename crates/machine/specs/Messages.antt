@@ -7,6 +7,7 @@ use lib.ListN.{replicate}
 use Rattle.prelude.specs.Cases.{if_then_else_}
 use Rattle.prelude.specs.declared.Text.{Text}
 use Rattle.prelude.specs.declared.Terms.{Terms}
+use Rattle.bits.specs.Map.{mapOf}
 use Rattle.records.specs.declared.LongText.{LongText}
 use Rattle.records.specs.declared.Ids.{Ids}
 use Rattle.records.specs.declared.Exec.{Exec}
@@ -16,13 +17,9 @@ use Rattle.store.specs.declared.Order.{Order}
 use Rattle.store.specs.declared.Request.{Request}
 use Rattle.text.specs.Words.{noText}
 use Rattle.machine.specs.Orders.{noTerms, isEmpty, leavesQty}
-use Rattle.machine.specs.Codes.{limit, rejected, reportKind, cancelRejectKind, newOrderKind, cancelRequestKind, replaceRequestKind}
+use Rattle.machine.specs.Constants.{reportKind, cancelRejectKind, newOrderKind, cancelRequestKind, replaceRequestKind}
+use Rattle.format.specs.Codes.{limit, rejected}
 use Rattle.machine.specs.declared.Note.{Note}
-
--- the map in which these bits stand
-abbrev pub mask : List ℕ → ℕ
-mask [] = 0
-mask (k ∷ ks) = 2 ^ k + mask ks
 
 -- bit k where the test holds
 unfoldable pub bitIf : Bool → ℕ → ℕ
@@ -72,7 +69,7 @@ unfoldable pub report : Order → (clordid origclordid : Text) → (exectype las
 report o clordid origclordid exectype lastqty fillprice n = record {
   kind = reportKind;
   map =
-      mask (0 ∷ (2 ∷ (3 ∷ (6 ∷ (7 ∷ (8 ∷ (9 ∷ (12 ∷ (13 ∷ (14 ∷ (16 ∷ (17 ∷ (24 ∷ (25 ∷ (26 ∷ [])))))))))))))))
+      mapOf (0 ∷ (2 ∷ (3 ∷ (6 ∷ (7 ∷ (8 ∷ (9 ∷ (12 ∷ (13 ∷ (14 ∷ (16 ∷ (17 ∷ (24 ∷ (25 ∷ (26 ∷ [])))))))))))))))
       + (bitIf (not (isEmpty origclordid)) 4 + (termsBits (o .terms) + noteBits n));
   client = o .client;
   venue = 0;
@@ -89,7 +86,7 @@ report o clordid origclordid exectype lastqty fillprice n = record {
 unfoldable pub cancelReject : (client : ℕ) (name : Text) (status : ℕ) (clordid origclordid : Text) (responseto : ℕ) → Note → Record
 cancelReject client name status clordid origclordid responseto n = record {
   kind = cancelRejectKind;
-  map = mask (0 ∷ (3 ∷ (4 ∷ (13 ∷ (29 ∷ []))))) + (bitIf (not (isEmpty name)) 2 + noteBits n);
+  map = mapOf (0 ∷ (3 ∷ (4 ∷ (13 ∷ (29 ∷ []))))) + (bitIf (not (isEmpty name)) 2 + noteBits n);
   client = client;
   venue = 0;
   reason = n .reason;
@@ -105,7 +102,7 @@ cancelReject client name status clordid origclordid responseto n = record {
 unfoldable pub toVenue : (kind bits : ℕ) → Order → (downstream venueorderid origdownstream : Text) → Terms → Record
 toVenue kind bits o downstream venueorderid origdownstream terms = record {
   kind = kind;
-  map = mask (1 ∷ (5 ∷ (6 ∷ (7 ∷ (8 ∷ (9 ∷ [])))))) + (bits + termsBits terms);
+  map = mapOf (1 ∷ (5 ∷ (6 ∷ (7 ∷ (8 ∷ (9 ∷ [])))))) + (bits + termsBits terms);
   client = 0;
   venue = o .venue;
   reason = 0;

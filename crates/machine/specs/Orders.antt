@@ -17,8 +17,8 @@ use Rattle.store.specs.declared.Pending.{Pending}
 use Rattle.store.specs.declared.GatewayCancel.{GatewayCancel}
 use Rattle.store.specs.declared.Order.{Order}
 use Rattle.store.specs.declared.Request.{Request}
-use Rattle.store.specs.Orders.{noOrder}
-use Rattle.machine.specs.Codes.{pendingNew, new, partiallyFilled, filled, canceled, expired, rejected, market, limit}
+use Rattle.store.specs.Orders.{noOrder, noPending, noGateway}
+use Rattle.format.specs.Codes.{pendingNew, new, partiallyFilled, filled, canceled, expired, rejected, market, limit}
 
 -- one more, or the same at the top of the field's range, which the book's rules keep away
 unfoldable pub oneMore : (top n : ℕ) → ℕ
@@ -46,12 +46,6 @@ withGateway g o = record { client = o .client; venue = o .venue; names = o .name
 
 abbrev pub noTerms : Terms
 noTerms = noOrder .terms
-
-abbrev pub noPending : Pending
-noPending = noOrder .pending
-
-abbrev pub noGateway : GatewayCancel
-noGateway = noOrder .gateway
 
 -- `order.pending.is_some()`, `order.gateway_cancel.is_some()`
 unfoldable pub hasPending : Order → Bool

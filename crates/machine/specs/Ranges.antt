@@ -1,16 +1,10 @@
--- Document 01's ranges of the fields that the book stores, beside the code lists, which are the format's. Rests on format and prelude's Texts.
-use Prim.Native.Nat.{ℕ, _^_}
+-- The ranges of the texts that the book stores; those of codes, quantities and prices are the format's. Rests on format and prelude's Texts.
+use Prim.Native.Nat.{ℕ}
 use mathlib.Core.Bool.{Bool, _&&_}
 use lib.Dec.{leb}
 use Rattle.prelude.specs.Texts.{isText}
 use Rattle.prelude.specs.declared.Text.{Text}
 use Rattle.format.specs.Codes.{isName}
-
-unfoldable pub isQty : ℕ → Bool
-isQty n = leb n (10 ^ 12)
-
-unfoldable pub isPrice : ℕ → Bool
-isPrice n = leb n (10 ^ 14)
 
 -- a text of low to high bytes, zeros after it
 unfoldable pub textWithin : (low high : ℕ) → Text → Bool

@@ -4,7 +4,8 @@ use Prim.Native.Nat.{ℕ, _≤_, _<_}
 use mathlib.Core.Path.{_≡_}
 use mathlib.Core.List.{List}
 use Rattle.prelude.specs.Number.{Bytes}
-use Rattle.records.specs.Record.{eventRefusal, eventIn}
+use Rattle.format.specs.Refusal.{eventRefusal}
+use Rattle.records.specs.Record.{eventIn}
 use Rattle.machine.specs.Events.{Ranged}
 use Rattle.machine.specs.Whole.{WholeEvent}
 

@@ -8,13 +8,14 @@ use Rattle.wide.specs.Wide.{words, fillPrice}
 use Rattle.store.specs.declared.Order.{Order}
 use Rattle.store.specs.declared.Request.{Request}
 use Rattle.text.specs.Words.{noText}
-use Rattle.machine.specs.Codes.{pendingNew, new, partiallyFilled, pendingCancel, pendingReplace, canceled, rejected, execTrade, execReplaced, execRejected, execRestated, execDoneForDay, execStatus, unknownOrderReason, overfill, unknownAtVenueAlarm, fillOnDoneOrder, venues}
+use Rattle.machine.specs.Constants.{unknownOrderReason, overfill, unknownAtVenueAlarm, fillOnDoneOrder, venues}
+use Rattle.format.specs.Codes.{pendingNew, new, partiallyFilled, pendingCancel, pendingReplace, canceled, rejected, execTrade, execReplaced, execRejected, execRestated, execDoneForDay, execStatus}
 use Rattle.machine.specs.Orders.{isDone, setStatus, recordVenueOrderId, applyReplace, nextExec, withState}
 use Rattle.machine.specs.Messages.{report}
 use Rattle.machine.specs.Changes.{Event, Message, unchanged, withOrder, answering, superseding, telling, alarming, isFirst, isReplace, isGateway, isCancel, isAnswered}
 use Rattle.machine.specs.GatewayCancel.{resumeGatewayCancel}
 use Rattle.machine.specs.Amend.{has, refuseRequest}
-use Rattle.machine.specs.declared.Facts.{Facts}
+use Rattle.machine.specs.declared.Findings.{Findings}
 use Rattle.machine.specs.declared.Note.{Note}
 use Rattle.machine.specs.declared.Change.{Change}
 
@@ -24,7 +25,7 @@ saysUnknownAtVenue e =
     eqb (e .exec .exectype) execStatus && eqb (e .exec .status) rejected && (has e 19 && eqb (e .reason) unknownOrderReason)
 
 -- `unknown_at_venue`, of a request that the book knows: an alarm for a live order under its current ClOrdID
-unfoldable pub unknownAtVenue : Facts → ℕ → Order → Event → Change
+unfoldable pub unknownAtVenue : Findings → ℕ → Order → Event → Change
 unknownAtVenue f k o e =
     if not (eqb (o .venue) (e .venue)) then unchanged (f .place) o
     else if isDone (o .state .status) then unchanged (f .place) o
@@ -62,14 +63,18 @@ repeats k o e =
     eqb (o .links .current) k && eqb (e .exec .status) (o .state .status) && eqb (e .exec .cumqty) (o .state .cumqty) && eqb (e .exec .lastqty) 0
     && not (eqb (e .exec .exectype) execRestated || eqb (e .exec .exectype) execReplaced || eqb (e .exec .exectype) execDoneForDay)
 
--- `dropped`: a stale report leaves the order as it is, and a repeat may bring the venue's OrderID. A fill on a done order is an alarm.
-unfoldable pub droppedStale : Facts → Order → Event → Change
+-- a stale report leaves the order as it is, and a repeat may bring the venue's OrderID. A fill on a done order is an alarm.
+unfoldable pub droppedStale : Findings → Order → Event → Change
 droppedStale f o e =
     if isDone (o .state .status) && ltb (o .state .cumqty) (e .exec .cumqty) then alarming fillOnDoneOrder (unchanged (f .place) o)
     else unchanged (f .place) o
 
-unfoldable pub droppedRepeat : Facts → Order → Event → Change
+unfoldable pub droppedRepeat : Findings → Order → Event → Change
 droppedRepeat f o e = unchanged (f .place) (recordVenueOrderId (e .ids .venueorderid) false o)
+
+-- `dropped`: a stale report is, and one that repeats what the order has; any other goes on to the change that is given
+abbrev pub dropped : Findings → ℕ → Request → Order → Event → (goes : Change) → Change
+dropped f k q o e goes = if stale k q o e then droppedStale f o e else if repeats k o e then droppedRepeat f o e else goes
 
 -- the status that the report sets, 0 for none: one that is behind is dropped
 unfoldable pub statusTaken : ℕ → Request → Order → Event → ℕ
@@ -119,18 +124,18 @@ settles accepted s k q o c =
     else c
 
 -- the report is applied. An ack of the gateway's own cancel is not the client's.
-unfoldable pub applyReport : Facts → ℕ → Request → Order → Event → Change
+unfoldable pub applyReport : Findings → ℕ → Request → Order → Event → Change
 applyReport f k q o e =
     let accepted : Bool = accepts k q o e in
     let s : ℕ = statusTaken k q o e in
     let rise : ℕ = e .exec .cumqty - o .state .cumqty in
     let o′ = reportedOrder accepted s q o e in
-    let told = nextExec o′ in
+    let o″ = nextExec o′ in
     if isGateway q && eqb rise 0 && not (isDone (o′ .state .status)) && not accepted then settles accepted s k q o (unchanged (f .place) o′)
-    else telling (clientReport (answersRequest k q o) rise q (fillPriceOf o e) told e) (settles accepted s k q o (unchanged (f .place) told))
+    else telling (clientReport (answersRequest k q o) rise q (fillPriceOf o e) o″ e) (settles accepted s k q o (unchanged (f .place) o″))
 
 -- `venue_report`, of a request that the book knows
-unfoldable pub venueReport : Facts → ℕ → Request → Order → Event → Change
+unfoldable pub venueReport : Findings → ℕ → Request → Order → Event → Change
 venueReport f k q o e =
     if isRejection e && not (isFirst q)
     then resumeGatewayCancel f
@@ -142,7 +147,6 @@ venueReport f k q o e =
     })
     o)
     else if not (eqb (o .venue) (e .venue)) then unchanged (f .place) o
-    else if stale k q o e then droppedStale f o e
-    else if repeats k o e then droppedRepeat f o e
-    else if ltb (orderedQty (accepts k q o e) o) (max (e .exec .cumqty) (o .state .cumqty)) then alarming overfill (unchanged (f .place) o)
-    else applyReport f k q o e
+    else dropped f k q o e
+    (if ltb (orderedQty (accepts k q o e) o) (max (e .exec .cumqty) (o .state .cumqty)) then alarming overfill (unchanged (f .place) o)
+    else applyReport f k q o e)

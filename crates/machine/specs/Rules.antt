@@ -1,4 +1,4 @@
--- Document 01's paragraph "A book keeps its rules when ..", rule by rule, as tests on the book. Rests on Ranges and Changes.
+-- docs/SCOPE.md, Rules, rule by rule, as tests on the book. Rests on Ranges and Changes.
 -- Each rule takes just what it reads. `rules` is what question 1 and `check` decide.
 use Prim.Native.Nat.{ℕ, _+_, _-_}
 use mathlib.Core.Bool.{Bool, true, false, not, _&&_, _||_}
@@ -11,6 +11,7 @@ use Rattle.prelude.specs.Texts.{sameText}
 use Rattle.prelude.specs.declared.Text.{Text}
 use Rattle.prelude.specs.declared.Terms.{Terms}
 use Rattle.text.specs.Numbered.{numberedText}
+use Rattle.store.specs.Layout.{mostOrders, mostRequests}
 use Rattle.store.specs.declared.Names.{Names}
 use Rattle.store.specs.declared.Pending.{Pending}
 use Rattle.store.specs.declared.GatewayCancel.{GatewayCancel}
@@ -18,11 +19,11 @@ use Rattle.store.specs.declared.Order.{Order}
 use Rattle.store.specs.declared.Request.{Request}
 use Rattle.store.specs.Book.{Book, orderIn, requestIn}
 use Rattle.store.specs.Requests.{noRequest}
-use Rattle.machine.specs.Codes.{pendingNew, new, limit, mostTries}
+use Rattle.machine.specs.Constants.{mostTries}
 use Rattle.machine.specs.Orders.{isEmpty, isDone, hasPending, hasGateway}
 use Rattle.machine.specs.Changes.{isFirst, isReplace, isGateway, isCancel, isAnswered}
-use Rattle.format.specs.Codes.{isSide, isOrdtype, isTimeinforce, isStatus}
-use Rattle.machine.specs.Ranges.{isQty, isPrice, textWithin, nameRange}
+use Rattle.format.specs.Codes.{isSide, isOrdtype, isTimeinforce, isStatus, isQty, isPrice, pendingNew, new, limit}
+use Rattle.machine.specs.Ranges.{textWithin, nameRange}
 
 -- ---- every field is in its range
 
@@ -174,4 +175,4 @@ unfoldable pub rules : Book → Bool
 rules b =
     let n : ℕ = length (b .orders) in
     let m : ℕ = length (b .requests) in
-    leb n 64 && leb m 256 && allBelow (orderRule b) n && allBelow (requestRule b) m && allBelow (nameRule b) n && allBelow (keyRule b) m
+    leb n mostOrders && leb m mostRequests && allBelow (orderRule b) n && allBelow (requestRule b) m && allBelow (nameRule b) n && allBelow (keyRule b) m

@@ -7,9 +7,9 @@ use mathlib.Core.List.{List}
 use lib.ListN.{length}
 use Rattle.prelude.specs.Span.{splice}
 use Rattle.records.specs.Record.{isEvent}
-use Rattle.records.specs.Answer.{answerBytes, answerMessages}
-use Rattle.records.specs.AnswerBack.{areMessages}
+use Rattle.records.specs.Answer.{answerBytes, answerRefusal, answerMessages, answerAlarm, areMessages}
 use Rattle.store.specs.Book.{Book}
+use Rattle.machine.specs.Constants.{mostAlarm}
 use Rattle.machine.specs.Changes.{Event}
 use Rattle.machine.specs.Machine.{stepOf}
 use Rattle.machine.specs.Rules.{rules}
@@ -23,6 +23,15 @@ MessagesRight = (b : Book) (e : Event) → rules b ≡ true → WholeBook b → 
 abbrev pub MessagesFew : Type 0
 MessagesFew = (c : Change) → length (messagesOf c) ≤ 2
 
+-- what our reader reads of a buffer: the answer of a change, whatever stands behind it
+pub record Answers (c : Change) (buf : List ℕ) : Type 0 where
+  pub taken : answerRefusal buf ≡ 0
+  pub messages : answerMessages buf ≡ messagesOf c
+  pub alarm : answerAlarm buf ≡ c .output .alarm
+  -- none, or one of the paper's
+  pub listed : answerAlarm buf ≤ mostAlarm
+
+-- the answer that was written is read as what was said
 abbrev pub AnswerRead : Type 0
-AnswerRead = (b : Book) (e : Event) (buf : List ℕ) (alarm : ℕ) → rules b ≡ true → WholeBook b → isEvent e ≡ true → 1024 ≤ length buf
-    → answerMessages (splice buf 0 (answerBytes alarm (messagesOf (stepOf b e)))) ≡ messagesOf (stepOf b e)
+AnswerRead = (b : Book) (e : Event) (buf : List ℕ) → rules b ≡ true → WholeBook b → isEvent e ≡ true → 1024 ≤ length buf
+    → let c = stepOf b e in Answers c (splice buf 0 (answerBytes (c .output .alarm) (messagesOf c)))

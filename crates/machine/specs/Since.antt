@@ -1,5 +1,5 @@
 -- Demand 3 from any book that keeps its rules, the image: what holds after every list of calls since it. Rests on Claim.
--- Demand 3 from the empty book is a case. What stands in quotes is document 02's, wish 10. The image is the first argument throughout.
+-- Demand 3 from the empty book is a case. What stands in quotes is the desk's wording of wish 10. The image is the first argument throughout.
 use Prim.Native.Nat.{ℕ, _+_, _≤_}
 use mathlib.Core.Path.{_≡_}
 use mathlib.Core.Bool.{Bool, true, false, not, _&&_, _||_}
@@ -15,12 +15,13 @@ use Rattle.store.specs.declared.Order.{Order}
 use Rattle.store.specs.declared.Request.{Request}
 use Rattle.store.specs.Book.{Book, orderIn}
 use Rattle.store.specs.Finds.{bearsName, findName, findDownstream}
-use Rattle.machine.specs.Codes.{reportKind}
+use Rattle.format.specs.Codes.{buy}
+use Rattle.machine.specs.Constants.{reportKind}
 use Rattle.machine.specs.Orders.{isDone, hasGateway}
 use Rattle.machine.specs.Changes.{Message, isGateway}
 use Rattle.machine.specs.Rules.{rules}
-use Rattle.machine.specs.History.{Decoded, Entry, State, run, Kinds}
-use Rattle.machine.specs.Claim.{toldOf, statusOf, begins, isEvent, cancelsIn, once, sent, isFor, failed, Each}
+use Rattle.machine.specs.History.{Decoded, Entry, State, startFrom, run, Kinds}
+use Rattle.machine.specs.Claim.{lastQtyOf, statusOf, begins, sent, putOutOf, failed, Each}
 
 -- ---- what the image holds
 
@@ -48,29 +49,24 @@ heldOut image name = downstreams (λ q. isGateway q && bearsName name (orderIn i
 abbrev pub known : Book → Text → List Entry → Bool
 known image d earlier = isHeld image d || sent d earlier
 
-unfoldable pub newBy : Book → Text → Entry → (earlier : List Entry) → List Text
-newBy image name e earlier =
-    if isEvent 2 (e .input) then [] else those (λ d. isFor name (e .left) d && not (known image d earlier)) (once (cancelsIn (e .messages)))
-
 abbrev pub newOut : Book → Text → List Entry → List Text
-newOut image name [] = []
-newOut image name (e ∷ earlier) = newBy image name e earlier ++ (if begins name e then [] else newOut image name earlier)
+newOut image name past = putOutOf (known image) name past
 
 -- of the image, what counts still: "until the gateway cancel begins again"
-abbrev pub begun : Text → List Entry → Bool
-begun name = someOf (begins name)
+abbrev pub begunSince : Text → List Entry → Bool
+begunSince name = someOf (begins name)
 
 abbrev pub baseTries : Book → Text → List Entry → ℕ
-baseTries image name past = if begun name past then 0 else heldTries image name
+baseTries image name past = if begunSince name past then 0 else heldTries image name
 
 abbrev pub baseOut : Book → Text → List Entry → List Text
-baseOut image name past = if begun name past then [] else heldOut image name
+baseOut image name past = if begunSince name past then [] else heldOut image name
 
 -- ---- the claim: s is the book that is left, and the history since the image
 
 pub record Demand3From (image : Book) (s : State) : Type 0 where
   -- the LastQty of an order's reports since, and the cumulative quantity that the image held, are its cumulative quantity
-  pub filled : Each s (λ o. toldOf (o .client) (o .names .name) (s .past) + heldQty image (o .names .name) ≡ o .state .cumqty)
+  pub filled : Each s (λ o. lastQtyOf (o .client) (o .names .name) (s .past) + heldQty image (o .names .name) ≡ o .state .cumqty)
   pub ordered : Each s (λ o. o .state .cumqty ≤ o .terms .qty)
   -- a done status that an order had in the image, or after some call since, it has still
   pub held : (name : Text) (st : ℕ) → statusOf name image ≡ some st → isDone st ≡ true → statusOf name (s .book) ≡ some st
@@ -81,33 +77,28 @@ pub record Demand3From (image : Book) (s : State) : Type 0 where
       ≡ length (newOut image (o .names .name) (s .past)) + baseTries image (o .names .name) (s .past))
   pub few : Each s (λ o. hasGateway o ≡ true → o .gateway .tries ≤ 3)
 
--- nothing has happened since the image
-abbrev pub fresh : Book → State
-fresh image = record { book = image; past = [] }
-
 abbrev pub DemandFrom : Type 1
-DemandFrom = (In : Type 0) (read : In → Decoded) → Kinds read → (image : Book) → rules image ≡ true → (is : List In) → Demand3From image (run read (fresh image) is)
+DemandFrom = (In : Type 0) (read : In → Decoded) → Kinds read → (image : Book) → rules image ≡ true → (is : List In) → Demand3From image (run read (startFrom image) is)
 
 -- ---- the net position: bought and sold apart, so that no number is signed
 
--- 49 is FIX's Buy
-abbrev pub onSide : (buy : Bool) (side : ℕ) → Bool
-onSide buy side = if buy then eqb side 49 else not (eqb side 49)
+abbrev pub onSide : (bought : Bool) (side : ℕ) → Bool
+onSide bought side = if bought then eqb side buy else not (eqb side buy)
 
 -- what is filled of an order, where it is that client's in that symbol on that side
-abbrev pub sideOf : (buy : Bool) (client : ℕ) (symbol : Text) → Order → ℕ
-sideOf buy client symbol o = if eqb (o .client) client && (sameText (o .names .symbol) symbol && onSide buy (o .terms .side)) then o .state .cumqty else 0
+abbrev pub filledOn : (bought : Bool) (client : ℕ) (symbol : Text) → Order → ℕ
+filledOn bought client symbol o = if eqb (o .client) client && (sameText (o .names .symbol) symbol && onSide bought (o .terms .side)) then o .state .cumqty else 0
 
 -- the LastQty of a report, by the message's own client, symbol and side
-abbrev pub toldSide : (buy : Bool) (client : ℕ) (symbol : Text) → Message → ℕ
-toldSide buy client symbol m =
-    if eqb (m .kind) reportKind && (eqb (m .client) client && (sameText (m .ids .symbol) symbol && onSide buy (m .terms .side))) then m .exec .lastqty else 0
+abbrev pub lastQtyOn : (bought : Bool) (client : ℕ) (symbol : Text) → Message → ℕ
+lastQtyOn bought client symbol m =
+    if eqb (m .kind) reportKind && (eqb (m .client) client && (sameText (m .ids .symbol) symbol && onSide bought (m .terms .side))) then m .exec .lastqty else 0
 
 -- what the image held and what was told since are what the book holds, whatever the image: a book that breaks its rules stays as it is
 abbrev pub Net : Book → State → Type 0
-Net image s = (buy : Bool) (client : ℕ) (symbol : Text)
-    → totalOf (sideOf buy client symbol) (image .orders) + totalOf (λ e. totalOf (toldSide buy client symbol) (e .messages)) (s .past)
-    ≡ totalOf (sideOf buy client symbol) (s .book .orders)
+Net image s = (bought : Bool) (client : ℕ) (symbol : Text)
+    → totalOf (filledOn bought client symbol) (image .orders) + totalOf (λ e. totalOf (lastQtyOn bought client symbol) (e .messages)) (s .past)
+    ≡ totalOf (filledOn bought client symbol) (s .book .orders)
 
 abbrev pub NetFrom : Type 1
-NetFrom = (In : Type 0) (read : In → Decoded) (image : Book) (is : List In) → Net image (run read (fresh image) is)
+NetFrom = (In : Type 0) (read : In → Decoded) (image : Book) (is : List In) → Net image (run read (startFrom image) is)

@@ -3,10 +3,9 @@
 use Prim.Native.Nat.{ℕ, _^_, _<_}
 use mathlib.Core.Path.{_≡_}
 use mathlib.Core.Bool.{true}
-use mathlib.Core.List.{[]}
 use lib.ListN.{length}
 use Rattle.prelude.specs.Texts.{WholeText}
-use Rattle.store.specs.Book.{Book, orderIn, requestIn}
+use Rattle.store.specs.Book.{Book, emptyBook, orderIn, requestIn}
 use Rattle.store.specs.Orders.{WholeOrder}
 use Rattle.store.specs.Requests.{WholeRequest}
 use Rattle.machine.specs.Changes.{Event}
@@ -30,7 +29,7 @@ pub record WholeEvent (e : Event) : Type 0 where
   pub venueorderid : WholeText (e .ids .venueorderid)
 
 abbrev pub WholeStart : Type 0
-WholeStart = (setting : ℕ) → setting < 2 ^ 32 → WholeBook (record { setting = setting; orders = []; requests = [] })
+WholeStart = (setting : ℕ) → setting < 2 ^ 32 → WholeBook (emptyBook setting)
 
 abbrev pub WholeKept : Type 0
 WholeKept = (b : Book) (e : Event) → Ranged e → WholeEvent e → rules b ≡ true → WholeBook b → WholeBook (bookAfter b e)

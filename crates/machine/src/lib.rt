@@ -9,7 +9,7 @@ use store::Request;
 // What the handling of an event needs of the book beside its order: the order's link (its index
 // and one, 0 for no order), how many requests are in use, and the order's latest cancel (all zero
 // where there is none).
-pub struct Facts {
+pub struct Findings {
     pub place: u16,
     pub requests: u16,
     pub cancel: Request,

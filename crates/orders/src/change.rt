@@ -12,7 +12,7 @@ use crate::order::NO_TEXT;
 use crate::order::one_less_16;
 use crate::order::one_more_16;
 use machine::Change;
-use machine::Facts;
+use machine::Findings;
 use machine::Output;
 use machine::Requests;
 use prelude::Text;
@@ -22,15 +22,7 @@ use store::Names;
 use store::Order;
 use store::Request;
 use store::State;
-
-// A request's kind: `Sent.kind` and `Sent.origin` in one.
-pub const FIRST: u8 = 0;
-
-pub const CANCEL: u8 = 1;
-
-pub const REPLACE: u8 = 2;
-
-pub const GATEWAY: u8 = 3;
+use store::kinds;
 
 pub const NO_STATE: State = State {
     status: 0,
@@ -48,19 +40,19 @@ pub const NO_LINKS: Links = Links {
 pub fn is_first(q: Request) -> bool
     ensures { λ r. ⌜ r ≡ isFirst q ⌝ }
 {
-    q.kind == FIRST
+    q.kind == kinds::FIRST
 }
 
 pub fn is_replace(q: Request) -> bool
     ensures { λ r. ⌜ r ≡ isReplace q ⌝ }
 {
-    q.kind == REPLACE
+    q.kind == kinds::REPLACE
 }
 
 pub fn is_gateway(q: Request) -> bool
     ensures { λ r. ⌜ r ≡ isGateway q ⌝ }
 {
-    q.kind == GATEWAY
+    q.kind == kinds::GATEWAY
 }
 
 // The client's or the gateway's.
@@ -222,13 +214,6 @@ pub fn saying(m: Record, place: u16, o: Order) -> Change
     telling(m, unchanged(place, o))
 }
 
-// A request is sent: it is added, and its message goes out.
-pub fn sending(m: Record, q: Request, place: u16, o: Order) -> Change
-    ensures { λ r. ⌜ r ≡ telling m (adding q (unchanged place o)) ⌝ }
-{
-    telling(m, adding(q, unchanged(place, o)))
-}
-
 // The request of this link is answered, and the order at a place stands as it is given.
 pub fn settled(k: u16, place: u16, o: Order) -> Change
     ensures { λ r. ⌜ r ≡ answering k (unchanged place o) ⌝ }
@@ -261,7 +246,7 @@ pub fn raising(a: u8, place: u16, o: Order) -> Change
 }
 
 // The link of a request that is added.
-pub fn next_link(f: Facts) -> u16
+pub fn next_link(f: Findings) -> u16
     ensures { λ r. ⌜ r ≡ nextLink f ⌝ }
 {
     one_more_16(f.requests)
@@ -284,7 +269,7 @@ pub fn next_downstream(o: Order) -> Text
 }
 
 // The request under it.
-pub fn next_request(f: Facts, o: Order, kind: u8, clordid: Text, origclordid: Text) -> Request
+pub fn next_request(f: Findings, o: Order, kind: u8, clordid: Text, origclordid: Text) -> Request
     ensures { λ r. ⌜ r ≡ nextRequest f o kind clordid origclordid ⌝ }
 {
     let order = one_less_16(f.place);
@@ -300,7 +285,7 @@ pub fn next_request(f: Facts, o: Order, kind: u8, clordid: Text, origclordid: Te
 }
 
 // The order with that number taken. A cancel becomes the order's latest.
-pub fn numbered_order(f: Facts, cancels: bool, o: Order) -> Order
+pub fn numbered_order(f: Findings, cancels: bool, o: Order) -> Order
     ensures { λ r. ⌜ r ≡ numberedOrder f cancels o ⌝ }
 {
     let amendments = next_number(o);

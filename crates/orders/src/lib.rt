@@ -1,4 +1,4 @@
-// Orders, the messages about them, and changes: the words in which the crate book handles events.
+// Orders, the messages about them, and changes: the words in which the handling is written.
 // Every function is total and equals a definition of machine. Rests on text.
 pub mod change;
 pub mod message;

@@ -2,17 +2,16 @@
 // and src/book/amend.rs, as records. Each function equals its definition in machine's Messages.
 // Rests on order.
 ghost use mathlib.Core.Path.{_≡_};
-ghost use Prim.Native.Nat.{_+_, _^_, _≤_};
 ghost use mathlib.Core.Bool.{not};
-ghost use Rattle.prelude.specs.Cases.{if_then_else_};
 ghost use Rattle.machine.specs.Orders.{isEmpty};
-ghost use Rattle.machine.specs.Messages.{noMessage, bitIf, termsBits, noteBits, report, cancelReject, toVenue, newOrder, cancelRequest, replaceRequest};
-ghost use Rattle.orders.specs.Parts.{toldOf};
-ghost use Rattle.orders.specs.Within.{Within};
-use crate::order::LIMIT;
+ghost use Rattle.machine.specs.Messages.{noMessage, report, cancelReject, toVenue, newOrder, cancelRequest, replaceRequest};
+ghost use Rattle.orders.specs.Laws.Parts.{toldOf};
+ghost use Rattle.orders.specs.Laws.Maps.{withBitIf, withTerms, withNote, reportMap, rejectMap, venueMap, ToVenue, extraBits};
 use crate::order::NO_TEXT;
 use crate::order::is_empty;
 use crate::order::leaves_qty;
+use format::bit;
+use format::codes;
 use machine::Note;
 use prelude::Terms;
 use prelude::Text;
@@ -22,24 +21,6 @@ use records::LongText;
 use records::Record;
 use records::Told;
 use store::Order;
-
-// The kinds of messages.
-pub const REPORT: u8 = 16;
-
-pub const CANCEL_REJECT: u8 = 17;
-
-pub const NEW_ORDER: u8 = 18;
-
-pub const CANCEL_REQUEST: u8 = 19;
-
-pub const REPLACE_REQUEST: u8 = 20;
-
-// The bits that every report has, every cancel reject and every message to a venue.
-const REPORT_BITS: u32 = 0x0703_73cd;
-
-const CANCEL_REJECT_BITS: u32 = 0x2000_2019;
-
-const TO_VENUE_BITS: u32 = 0x0000_03e2;
 
 pub const NO_LONG_TEXT: LongText = LongText {
     bytes: [0u8; 64],
@@ -112,43 +93,61 @@ pub fn no_message() -> Record
     }
 }
 
-// A bit of a map where the test holds.
-fn bit_if(t: bool, bit: u32) -> u32
-    ensures { λ r. ⌜ Within (if t then bit else 0) bit r ⌝ }
+// A map with one more bit where the test holds.
+fn with_bit_if(map: u32, t: bool, k: u32) -> u32
+    ensures { λ r. ⌜ r ≡ withBitIf map t k ⌝ }
 {
     if t {
-        return bit;
+        return bits::with_bit(map, k);
     }
-    0
+    map
 }
 
 // Price and time in force are there where the terms have them.
-fn terms_bits(t: Terms) -> u32
-    ensures { λ r. ⌜ Within (termsBits t) 3072 r ⌝ }
+fn with_terms(map: u32, t: Terms) -> u32
+    ensures { λ r. ⌜ r ≡ withTerms map t ⌝ }
 {
-    let price = bit_if(t.ordtype == LIMIT, 0x400);
-    let timeinforce = bit_if(t.timeinforce != 0, 0x800);
-    price + timeinforce
+    let priced = with_bit_if(map, t.ordtype == codes::LIMIT, bit::PRICE);
+    with_bit_if(priced, t.timeinforce != 0, bit::TIMEINFORCE)
 }
 
-fn note_bits(n: Note) -> u32
-    ensures { λ r. ⌜ Within (noteBits n) 404226048 r ⌝ }
+fn with_note(map: u32, n: Note) -> u32
+    ensures { λ r. ⌜ r ≡ withNote map n ⌝ }
 {
-    let text = bit_if(n.text.len != 0, 0x0010_0000);
-    let fixedtext = bit_if(n.fixedtext != 0, 0x0800_0000);
-    let reason = bit_if(n.origin != 0, 0x0008_0000);
-    let origin = bit_if(n.origin != 0, 0x1000_0000);
-    text + fixedtext + (reason + origin)
+    let given = n.origin != 0;
+    let said = with_bit_if(map, n.text.len != 0, bit::TEXT);
+    let worded = with_bit_if(said, n.fixedtext != 0, bit::FIXEDTEXT);
+    let reasoned = with_bit_if(worded, given, bit::REASON);
+    with_bit_if(reasoned, given, bit::ORIGIN)
 }
 
-// The bits that a report may have.
-fn report_bits(origclordid: Text, terms: Terms, n: Note) -> u32
-    ensures { λ r. ⌜ Within (bitIf (not (isEmpty origclordid)) 4 + (termsBits terms + noteBits n)) 404229136 r ⌝ }
+fn report_map(origclordid: Text, terms: Terms, n: Note) -> u32
+    ensures { λ r. ⌜ r ≡ reportMap (not (isEmpty origclordid)) terms n ⌝ }
 {
-    let named = bit_if(!is_empty(origclordid), 0x10);
-    let ordered = terms_bits(terms);
-    let noted = note_bits(n);
-    named + (ordered + noted)
+    let map = format::required_of(codes::REPORT);
+    let named = with_bit_if(map, !is_empty(origclordid), bit::ORIGCLORDID);
+    let ordered = with_terms(named, terms);
+    with_note(ordered, n)
+}
+
+// A cancel reject's reason comes with its note.
+fn reject_map(name: Text, n: Note) -> u32
+    ensures { λ r. ⌜ r ≡ rejectMap (not (isEmpty name)) n ⌝ }
+{
+    let map = bits::with_bit(bits::with_bit(0, bit::CLIENT), bit::CLORDID);
+    let told = bits::with_bit(bits::with_bit(map, bit::ORIGCLORDID), bit::STATUS);
+    let answered = bits::with_bit(told, bit::RESPONSETO);
+    let named = with_bit_if(answered, !is_empty(name), bit::NAME);
+    with_note(named, n)
+}
+
+// The venue's OrderID is there where the order has one.
+fn venue_map(kind: u8, venueorderid: Text, terms: Terms) -> u32
+    ensures { λ r. ⌜ r ≡ venueMap kind (not (isEmpty venueorderid)) terms ⌝ }
+{
+    let map = format::required_of(kind);
+    let named = with_bit_if(map, !is_empty(venueorderid), bit::VENUEORDERID);
+    with_terms(named, terms)
 }
 
 // What a report says that no event does.
@@ -179,7 +178,7 @@ pub fn report(
     ensures { λ r. ⌜ r ≡ report o clordid origclordid exectype lastqty fillprice n ⌝ }
 {
     let terms = o.terms;
-    let bits = report_bits(origclordid, terms, n);
+    let map = report_map(origclordid, terms, n);
     let told = told_of(o, fillprice, n);
     let order = o.names;
     let name = order.name;
@@ -191,8 +190,8 @@ pub fn report(
     ids.clordid = clordid;
     ids.origclordid = origclordid;
     ids.symbol = symbol;
-    m.kind = REPORT;
-    m.map = REPORT_BITS + bits;
+    m.kind = codes::REPORT;
+    m.map = map;
     m.client = o.client;
     m.reason = n.reason;
     m.ids = ids;
@@ -220,16 +219,15 @@ pub fn cancel_reject(
 ) -> Record
     ensures { λ r. ⌜ r ≡ cancelReject client name status clordid origclordid responseto n ⌝ }
 {
-    let named = bit_if(!is_empty(name), 4);
-    let noted = note_bits(n);
+    let map = reject_map(name, n);
     let text = n.text;
     let mut m = no_message();
     let mut ids = m.ids;
     ids.name = name;
     ids.clordid = clordid;
     ids.origclordid = origclordid;
-    m.kind = CANCEL_REJECT;
-    m.map = CANCEL_REJECT_BITS + (named + noted);
+    m.kind = codes::CANCEL_REJECT;
+    m.map = map;
     m.client = client;
     m.reason = n.reason;
     m.ids = ids;
@@ -245,17 +243,16 @@ pub fn cancel_reject(
 // the order by.
 fn to_venue(
     kind: u8,
-    bits: u32,
     o: Order,
     downstream: Text,
     venueorderid: Text,
     origdownstream: Text,
     terms: Terms,
 ) -> Record
-    requires { ⌜ bits ≤ 1074003968 ⌝ }
-    ensures { λ r. ⌜ r ≡ toVenue kind bits o downstream venueorderid origdownstream terms ⌝ }
+    requires { ⌜ ToVenue kind ⌝ }
+    ensures { λ r. ⌜ r ≡ toVenue kind (extraBits kind (not (isEmpty venueorderid))) o downstream venueorderid origdownstream terms ⌝ }
 {
-    let ordered = terms_bits(terms);
+    let map = venue_map(kind, venueorderid, terms);
     let names = o.names;
     let symbol = names.symbol;
     let mut m = no_message();
@@ -265,7 +262,7 @@ fn to_venue(
     ids.venueorderid = venueorderid;
     ids.origdownstream = origdownstream;
     m.kind = kind;
-    m.map = TO_VENUE_BITS + (bits + ordered);
+    m.map = map;
     m.venue = o.venue;
     m.ids = ids;
     m.terms = terms;
@@ -276,16 +273,7 @@ pub fn new_order(o: Order, downstream: Text) -> Record
     ensures { λ r. ⌜ r ≡ newOrder o downstream ⌝ }
 {
     let terms = o.terms;
-    to_venue(NEW_ORDER, 0, o, downstream, NO_TEXT, NO_TEXT, terms)
-}
-
-// The venue's OrderID is there where the order has one, and the downstream ClOrdID that is amended
-// always is.
-fn amend_bits(venueorderid: Text) -> u32
-    ensures { λ r. ⌜ Within (2 ^ 30 + bitIf (not (isEmpty venueorderid)) 18) 1074003968 r ⌝ }
-{
-    let named = bit_if(!is_empty(venueorderid), 0x0004_0000);
-    0x4000_0000 + named
+    to_venue(codes::NEW_ORDER, o, downstream, NO_TEXT, NO_TEXT, terms)
 }
 
 pub fn cancel_request(o: Order, downstream: Text) -> Record
@@ -295,10 +283,8 @@ pub fn cancel_request(o: Order, downstream: Text) -> Record
     let names = o.names;
     let venueorderid = names.venueorderid;
     let orig = names.downstream;
-    let bits = amend_bits(venueorderid);
     to_venue(
-        CANCEL_REQUEST,
-        bits,
+        codes::CANCEL_REQUEST,
         o,
         downstream,
         venueorderid,
@@ -313,10 +299,8 @@ pub fn replace_request(o: Order, downstream: Text, terms: Terms) -> Record
     let names = o.names;
     let venueorderid = names.venueorderid;
     let orig = names.downstream;
-    let bits = amend_bits(venueorderid);
     to_venue(
-        REPLACE_REQUEST,
-        bits,
+        codes::REPLACE_REQUEST,
         o,
         downstream,
         venueorderid,

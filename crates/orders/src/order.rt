@@ -4,6 +4,7 @@ ghost use mathlib.Core.Path.{_≡_};
 ghost use Prim.Native.Nat.{_-_};
 ghost use Rattle.prelude.specs.Cases.{if_then_else_};
 ghost use Rattle.machine.specs.Orders.{oneMore, isEmpty, hasPending, hasGateway, isDone, leavesQty, statusAt, setStatus, textNone, keptOrderId, recordVenueOrderId, pendingTerms, applyReplace, nextSequence, nextExec};
+use format::codes;
 use prelude::Terms;
 use prelude::Text;
 use store::GatewayCancel;
@@ -13,30 +14,6 @@ use store::Order;
 use store::Pending;
 use store::Request;
 use store::State;
-
-// OrdStatus(39).
-pub const PENDING_NEW: u8 = b'A';
-
-pub const NEW: u8 = b'0';
-
-pub const PARTIALLY_FILLED: u8 = b'1';
-
-pub const FILLED: u8 = b'2';
-
-pub const PENDING_CANCEL: u8 = b'6';
-
-pub const PENDING_REPLACE: u8 = b'E';
-
-pub const CANCELED: u8 = b'4';
-
-pub const EXPIRED: u8 = b'C';
-
-pub const REJECTED: u8 = b'8';
-
-// OrdType(40).
-pub const MARKET: u8 = b'1';
-
-pub const LIMIT: u8 = b'2';
 
 pub const NO_TEXT: Text = Text {
     bytes: [0u8; 32],
@@ -173,7 +150,7 @@ pub fn has_gateway(o: Order) -> bool
 pub fn is_done(s: u8) -> bool
     ensures { λ r. ⌜ r ≡ isDone s ⌝ }
 {
-    (s == FILLED) | (s == CANCELED) | (s == EXPIRED) | (s == REJECTED)
+    (s == codes::FILLED) | (s == codes::CANCELED) | (s == codes::EXPIRED) | (s == codes::REJECTED)
 }
 
 pub fn leaves_qty(o: Order) -> u64
@@ -190,8 +167,8 @@ pub fn leaves_qty(o: Order) -> u64
 pub fn status_at(cumqty: u64, s: u8) -> u8
     ensures { λ r. ⌜ r ≡ statusAt cumqty s ⌝ }
 {
-    if ((s == NEW) | (s == PENDING_NEW)) & (0 < cumqty) {
-        return PARTIALLY_FILLED;
+    if ((s == codes::NEW) | (s == codes::PENDING_NEW)) & (0 < cumqty) {
+        return codes::PARTIALLY_FILLED;
     }
     s
 }

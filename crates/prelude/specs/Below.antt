@@ -156,6 +156,32 @@ module _ (p q : ℕ → Bool) where
   count-ext zero h = refl
   count-ext (suc n) h = rw (count-ext n (λ k l. h k (omega arith)), h n (omega arith))
 
+-- ---- a longer range whose rest does not pass
+
+module _ (p : ℕ → Bool) (n : ℕ) where
+  pub first-past : (m : ℕ) → n ≤ m → ((k : ℕ) → n ≤ k → k < m → p k ≡ false) → firstBelow p m ≡ firstBelow p n
+  unfolding firstBelow
+  first-past zero l h = let z : 0 ≡ n = omega arith in ap (firstBelow p) z
+  first-past (suc m) l h =
+      ⊎-elim (λ e. ap (firstBelow p) (sym e))
+      (λ u. miss (firstBelow p m) (p m) (h m (le-of-suc-le-suc u) (omega arith)) ∙ first-past m (le-of-suc-le-suc u) (λ k a b. h k a (omega arith)))
+      (eq-or-lt-of-le l)
+    where
+      miss : (o : Option ℕ) (a : Bool) → a ≡ false → maybe (if a then some m else none) some o ≡ o
+      miss none a e = unfold maybe if_then_else_ in rw e
+      miss (some k) a e = unfold maybe in refl
+
+  pub count-past : (m : ℕ) → n ≤ m → ((k : ℕ) → n ≤ k → k < m → p k ≡ false) → countBelow p m ≡ countBelow p n
+  unfolding countBelow
+  count-past zero l h = let z : 0 ≡ n = omega arith in ap (countBelow p) z
+  count-past (suc m) l h =
+      ⊎-elim (λ e. ap (countBelow p) (sym e))
+      (λ u. miss (countBelow p m) (p m) (h m (le-of-suc-le-suc u) (omega arith)) ∙ count-past m (le-of-suc-le-suc u) (λ k a b. h k a (omega arith)))
+      (eq-or-lt-of-le l)
+    where
+      miss : (c : ℕ) (a : Bool) → a ≡ false → c + (if a then 1 else 0) ≡ c
+      miss c a e = unfold if_then_else_ in rw e (omega arith)
+
 -- ---- tests that hold of all
 
 both-swap : (a b c d : Bool) → (a && b) && (c && d) ≡ (a && c) && (b && d)

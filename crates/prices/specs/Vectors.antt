@@ -5,7 +5,7 @@ use mathlib.Core.Path.{_≡_}
 use lib.Dec.{ltb}
 use Rattle.prelude.specs.Cases.{if_then_else_}
 use Rattle.prelude.specs.Number.{word64}
-use Rattle.wide.specs.Wide.{told, implied, fillPrice}
+use Rattle.wide.specs.Wide.{byLastPx, implied, fillPrice}
 use Rattle.prices.specs.declared.Vector.{Vector}
 
 -- nine numbers of 8 bytes
@@ -30,6 +30,6 @@ storedOf v = v .low + 2 ^ 64 * v .high
 -- where the price comes from
 unfoldable pub sourceOf : Vector → ℕ
 sourceOf v =
-    if told (v .lastqty) (v .lastpx) (v .rise) then 1
+    if byLastPx (v .lastqty) (v .lastpx) (v .rise) then 1
     else if ltb 0 (implied (v .cumqty) (v .avgpx) (v .oldcum) (v .oldavg) (v .rise)) then 2
     else 3

@@ -34,7 +34,7 @@ struct Verdict {
 struct Tally {
     vectors: u64,
     differ: u64,
-    told: u64,
+    bylastpx: u64,
     implied: u64,
     average: u64,
 }
@@ -90,7 +90,7 @@ fn vector_of(s: &[u8]) -> Vector
 fn source(v: Vector) -> u64
     ensures { λ r. ⌜ r ≡ sourceOf v ⌝ }
 {
-    if wide::told(v.lastqty, v.lastpx, v.rise) {
+    if wide::by_last_px(v.lastqty, v.lastpx, v.rise) {
         return 1;
     }
     let quotient = wide::implied(v.cumqty, v.avgpx, v.oldcum, v.oldavg, v.rise);
@@ -148,7 +148,7 @@ fn counted(t: Tally, v: Verdict) -> Tally {
     Tally {
         vectors: more(t.vectors, true),
         differ: more(t.differ, !v.same),
-        told: more(t.told, v.source == 1),
+        bylastpx: more(t.bylastpx, v.source == 1),
         implied: more(t.implied, v.source == 2),
         average: more(t.average, v.source == 3),
     }
@@ -160,7 +160,7 @@ fn judged() -> Tally {
     let mut t = Tally {
         vectors: 0,
         differ: 0,
-        told: 0,
+        bylastpx: 0,
         implied: 0,
         average: 0,
     };
@@ -186,7 +186,7 @@ fn main() {
     let t = judged();
     line(b"vectors ", t.vectors);
     line(b"differ ", t.differ);
-    line(b"by LastPx ", t.told);
+    line(b"by LastPx ", t.bylastpx);
     line(b"by the quotient ", t.implied);
     line(b"by the average ", t.average);
 }

@@ -1,5 +1,5 @@
 -- The fields of a record by their bits: its numbers, its texts, and what each field holds. Rests on format.
-use Prim.Native.Nat.{ℕ, _-_, _≤_, _<_, min}
+use Prim.Native.Nat.{ℕ, _-_, min}
 use mathlib.Core.List.{List, [], _∷_, _++_}
 use lib.ListN.{length, getD, take, drop, replicate}
 use lib.Dec.{eqb}
@@ -8,7 +8,7 @@ use Rattle.prelude.specs.Number.{number, bytesOf}
 use Rattle.prelude.specs.Texts.{contents, textOf}
 use Rattle.prelude.specs.declared.Text.{Text}
 use Rattle.format.specs.Format.{size, isTextBit}
-use Rattle.format.specs.Places.{value, between}
+use Rattle.format.specs.Places.{value}
 use Rattle.records.specs.declared.LongText.{LongText}
 use Rattle.records.specs.declared.Ids.{Ids}
 use Rattle.records.specs.declared.Record.{Record}
@@ -175,39 +175,3 @@ blank = recordFrom 0 0 [] 0 (record {
   venueorderid = textOf [];
   origdownstream = textOf [];
 }) (longOf [])
-
--- ---- what code asks of places and numbers
-
--- texts have room, and the fill price at most two words
-pub record Short (at : List ℕ) : Type 0 where
-  pub name : getD at 3 0 - getD at 2 0 ≤ 33
-  pub clordid : getD at 4 0 - getD at 3 0 ≤ 33
-  pub origclordid : getD at 5 0 - getD at 4 0 ≤ 33
-  pub downstream : getD at 6 0 - getD at 5 0 ≤ 33
-  pub symbol : getD at 7 0 - getD at 6 0 ≤ 33
-  pub venueorderid : getD at 19 0 - getD at 18 0 ≤ 33
-  pub text : getD at 21 0 - getD at 20 0 ≤ 65
-  pub fillprice : getD at 27 0 - getD at 26 0 ≤ 16
-  pub origdownstream : getD at 31 0 - getD at 30 0 ≤ 33
-
--- numbers fit the types of their fields
-pub record Narrow (n : List ℕ) : Type 0 where
-  pub client : getD n 0 0 < 65536
-  pub venue : getD n 1 0 < 65536
-  pub side : getD n 7 0 < 256
-  pub ordtype : getD n 8 0 < 256
-  pub timeinforce : getD n 11 0 < 256
-  pub exectype : getD n 12 0 < 256
-  pub status : getD n 13 0 < 256
-  pub reason : getD n 19 0 < 4294967296
-  pub verdict : getD n 23 0 < 256
-  pub fixedtext : getD n 27 0 < 256
-  pub origin : getD n 28 0 < 256
-  pub responseto : getD n 29 0 < 256
-
--- what stands between two places behind a length byte
-abbrev pub tailAt : List ℕ → List ℕ → ℕ → List ℕ
-tailAt s at b = drop 1 (between s at b)
-
-abbrev pub builtFrom : List ℕ → ℕ → ℕ → List ℕ → List ℕ → Record
-builtFrom s k m at n = recordFrom k m n (number (drop 8 (between s at 26))) (idsOf (tailAt s at)) (longOf (tailAt s at 20))

@@ -1,12 +1,5 @@
-pub mod Scan
 pub mod Fields
 pub mod Record
 pub mod Answer
-pub mod Reading
-pub mod Writing
-pub mod Right
-pub mod Back
-pub mod AnswerBack
-pub mod ReadingAnswer
-pub mod Accepted
-pub mod Ranges
+pub mod RoundTrip
+pub mod Laws

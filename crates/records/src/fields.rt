@@ -1,4 +1,4 @@
-// Numbers and texts in buffers: read, written, copied. Rests on prelude.
+// Numbers and texts in buffers: read, written, copied. Rests on words.
 ghost use mathlib.Core.Path.{_≡_};
 ghost use mathlib.Core.List.{_∷_, _++_};
 ghost use Prim.Native.Nat.{_<_, _+_, _≤_};
@@ -8,24 +8,12 @@ ghost use Rattle.prelude.specs.Number.{number, bytesOf, bound, word16, word32};
 ghost use Rattle.prelude.specs.Texts.{textOf};
 use prelude::Text;
 
-fn wide(x: u8) -> u64
-    ensures { λ r. ⌜ (r ≡ x) × (r < 256) ⌝ }
-{
-    x as u64
-}
-
-fn wide32(x: u8) -> u32
-    ensures { λ r. ⌜ (r ≡ x) × (r < 256) ⌝ }
-{
-    x as u32
-}
-
 // The number of 2 bytes at a position.
-pub(crate) fn half(s: &[u8], at: usize) -> u32
+pub(crate) fn half(s: &[u8], at: usize) -> u16
     requires { ⌜ at + 2 ≤ length (now s) ⌝ }
     ensures { λ r. ⌜ (r ≡ word16 (now (s .entry)) at) × (r < 65536) ⌝ }
 {
-    wide32(s[at]) + 256 * wide32(s[at + 1])
+    words::get16(&s[at..at + 2])
 }
 
 // The number of 4 bytes at a position.
@@ -33,7 +21,7 @@ pub(crate) fn word(s: &[u8], at: usize) -> u32
     requires { ⌜ at + 4 ≤ length (now s) ⌝ }
     ensures { λ r. ⌜ r ≡ word32 (now (s .entry)) at ⌝ }
 {
-    wide32(s[at]) + 256 * (wide32(s[at + 1]) + 256 * (wide32(s[at + 2]) + 256 * wide32(s[at + 3])))
+    words::get32(&s[at..at + 4])
 }
 
 // The number of n bytes at a position.
@@ -45,7 +33,7 @@ pub(crate) fn number_at(s: &[u8], at: usize, n: usize) -> u64
     let mut i = n;
     while 0 < i {
         i -= 1;
-        v = v * 256 + wide(s[at + i]);
+        v = v * 256 + words::wide(s[at + i]);
     }
     v
 }

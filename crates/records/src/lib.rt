@@ -1,5 +1,5 @@
-// Events and messages: the record, read and written. Rests on format; the modules `fields`, `places`,
-// `reader`, `scan`, `take` and `put` do the parts.
+// Events and messages: the record, read and written. Rests on format and places; the modules `fields`,
+// `scan`, `take` and `put` do the parts.
 ghost use mathlib.Core.Path.{_≡_};
 ghost use mathlib.Core.List.{[]};
 ghost use Prim.Native.Nat.{_<_, _+_, _≤_};
@@ -8,17 +8,25 @@ ghost use lib.ListN.{length};
 ghost use Rattle.prelude.specs.Span.{splice};
 ghost use Rattle.prelude.specs.Cases.{if_then_else_};
 ghost use Rattle.records.specs.Fields.{blank};
-ghost use Rattle.records.specs.Record.{recordBytes, nameIn, eventRefusal, eventIn, Shapes, Reads};
-ghost use Rattle.records.specs.Answer.{headBytes, answerBytes, chosen, ReadsMessage, ReadsFrom, ReadsAnswer, Holds};
+ghost use Rattle.records.specs.Record.{recordBytes, eventIn};
+ghost use Rattle.format.specs.Refusal.{nameIn, eventRefusal};
+ghost use Rattle.records.specs.Laws.Seen.{Shapes, Reads, ReadsMessage, ReadsFrom};
+ghost use Rattle.records.specs.Answer.{headSize, headBytes, answerBytes, chosen, ReadsAnswer, Holds};
+use format::codes;
 use prelude::Terms;
 use prelude::Text;
 
 mod fields;
-mod places;
 mod put;
-mod reader;
 mod scan;
 mod take;
+
+// The head of an answer: its length in 2 bytes, how many messages, the alarm.
+const HEAD: usize = 4;
+
+const COUNT: usize = 2;
+
+const ALARM: usize = 3;
 
 // A field's number and whether it is in range.
 struct Seen {
@@ -125,7 +133,7 @@ fn shape_at(s: &[u8], o: usize) -> Shape
         map: 0,
         at: none,
     };
-    if reader::left_at(s, o) < 5 {
+    if places::left_at(s, o) < 5 {
         return no;
     }
     let map = fields::word(s, o + 1);
@@ -203,7 +211,7 @@ pub fn read_event(s: &[u8]) -> EventRead
             event: take::no_record(),
         };
     }
-    if 9 < s[0] {
+    if codes::EVENT_GATEWAY_CANCEL < s[0] {
         return EventRead {
             refusal: 3,
             event: take::no_record(),
@@ -241,12 +249,12 @@ fn put_record(dst: &mut [u8], o: usize, r: Record) -> usize
 }
 
 fn put_head(dst: &mut [u8], n: usize, count: u8, alarm: u8)
-    requires { ⌜ 4 ≤ length (now dst) ⌝ }
+    requires { ⌜ headSize ≤ length (now dst) ⌝ }
     ensures { λ _. ⌜ now (dst .exit) ≡ splice (now (dst .entry)) 0 (headBytes n count alarm) ⌝ }
 {
-    let p = fields::put_number(dst, 0, n as u64, 2);
-    dst[p] = count;
-    dst[3] = alarm;
+    let marks = [count, alarm];
+    let p = fields::put_number(dst, 0, n as u64, COUNT);
+    fields::copy(dst, p, &marks, 0, HEAD - COUNT);
 }
 
 // Writes an answer of at most two messages, and returns its length; nothing, and 0, where the
@@ -258,10 +266,10 @@ pub fn write_answer(answer: &mut [u8], alarm: u8, count: u8, first: Record, seco
         return 0;
     }
     if count == 0 {
-        put_head(answer, 4, 0, alarm);
-        return 4;
+        put_head(answer, HEAD, 0, alarm);
+        return HEAD as u32;
     }
-    let p = put_record(answer, 4, first);
+    let p = put_record(answer, HEAD, first);
     if count == 1 {
         put_head(answer, p, 1, alarm);
         return p as u32;
@@ -280,7 +288,7 @@ fn read_message(s: &[u8], o: usize) -> Got
     if got.refusal == 3 {
         return refused(3, 0);
     }
-    if s[o] < 16 {
+    if s[o] < codes::REPORT {
         return refused(3, 0);
     }
     got
@@ -302,7 +310,7 @@ fn no_answer(refusal: u32) -> AnswerRead
 fn read_none(s: &[u8], alarm: u8) -> AnswerRead
     ensures { λ r. ⌜ ReadsFrom (now (s .entry)) 0 alarm r ⌝ }
 {
-    if s.len() != 4 {
+    if s.len() != HEAD {
         return no_answer(3);
     }
     let none = take::no_record();
@@ -318,7 +326,7 @@ fn read_none(s: &[u8], alarm: u8) -> AnswerRead
 fn read_one(s: &[u8], alarm: u8) -> AnswerRead
     ensures { λ r. ⌜ ReadsFrom (now (s .entry)) 1 alarm r ⌝ }
 {
-    let got = read_message(s, 4);
+    let got = read_message(s, HEAD);
     if got.refusal == 3 {
         return no_answer(3);
     }
@@ -343,7 +351,7 @@ fn read_two(s: &[u8], alarm: u8) -> AnswerRead
     requires { ⌜ length (now s) < 65536 ⌝ }
     ensures { λ r. ⌜ ReadsFrom (now (s .entry)) 2 alarm r ⌝ }
 {
-    let one = read_message(s, 4);
+    let one = read_message(s, HEAD);
     if one.refusal == 3 {
         return no_answer(3);
     }
@@ -375,18 +383,18 @@ fn read_two(s: &[u8], alarm: u8) -> AnswerRead
 pub fn read_answer(s: &[u8]) -> AnswerRead
     ensures { λ r. ⌜ ReadsAnswer (now (s .entry)) r ⌝ }
 {
-    if s.len() < 4 {
+    if s.len() < HEAD {
         return no_answer(3);
     }
     let n = fields::half(s, 0) as usize;
-    if n < 4 {
+    if n < HEAD {
         return no_answer(3);
     }
     if s.len() < n {
         return no_answer(3);
     }
-    let count = s[2];
-    let alarm = s[3];
+    let count = s[COUNT];
+    let alarm = s[ALARM];
     let a = &s[0..n];
     if count == 0 {
         return read_none(a, alarm);

@@ -123,7 +123,7 @@ pub(crate) fn put_field(
     if !bits::has(map, b as u32) {
         return at;
     }
-    let n = crate::places::size_of(b);
+    let n = places::size_of(b);
     if n == 255 {
         if b == 20 {
             return put_long(dst, at, text);

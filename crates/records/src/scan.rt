@@ -5,14 +5,14 @@ ghost use Prim.Native.Nat.{ℕ, _<_, _+_, _-_, _≤_};
 ghost use lib.ListN.{length, getD};
 ghost use Rattle.prelude.specs.Below.{allBelow};
 ghost use Rattle.prelude.specs.Span.{span};
-ghost use Rattle.format.specs.Places.{strip, value, Rising, heldAt, rightIn};
-ghost use Rattle.records.specs.Scan.{heldIn, rightOf, Scanned};
+ghost use Rattle.format.specs.Places.{strip, value};
+ghost use Rattle.format.specs.Laws.Seen.{Rising, heldAt, rightIn};
+ghost use Rattle.records.specs.Laws.Seen.{heldIn, rightOf, Scanned};
 use crate::Numbers;
 use crate::Seen;
 use crate::fields::number_at;
-use crate::places::in_range;
-use crate::places::range_of;
-use crate::places::size_of;
+use places::may_hold;
+use places::size_of;
 
 // The number of field b, which stands from one place to another; of a text its length.
 pub(crate) fn value_at(s: &[u8], b: usize, from: usize, to: usize) -> u64
@@ -45,7 +45,7 @@ fn checked(s: &[u8], map: u32, b: usize, from: usize, to: usize) -> Seen
     }
     let v = value_at(s, b, from, to);
     Seen {
-        right: in_range(range_of(b), v),
+        right: may_hold(b, v),
         value: v,
     }
 }

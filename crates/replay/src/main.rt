@@ -1,5 +1,5 @@
 // Replays stored days from standard input (tests/replay/README.md has the format) and holds every
-// refusal and every byte of every answer buffer to what is stored. Rests on gateway.
+// refusal and every byte of every answer buffer to what is stored. Rests on gateway and words.
 ghost use Prim.Native.Nat.{_≤_};
 ghost use lib.ListN.{length};
 use std::num::wrapping_add_u32;
@@ -19,12 +19,6 @@ struct Tally {
 struct Step {
     more: bool,
     tally: Tally,
-}
-
-fn wide(x: u8) -> usize
-    ensures { λ r. ⌜ r ≤ 255 ⌝ }
-{
-    x as usize
 }
 
 fn fill(s: &mut [u8]) {
@@ -78,7 +72,7 @@ fn read16() -> usize
 {
     let mut head = [0u8; 2];
     let got = io::read_full(0, &mut head);
-    wide(head[0]) + 256 * wide(head[1])
+    words::number(head[0], head[1])
 }
 
 fn read8() -> u8 {

@@ -4,31 +4,23 @@
 ghost use mathlib.Core.Path.{_≡_};
 ghost use Prim.Native.Nat.{_≤_};
 ghost use lib.ListN.{length};
-ghost use Rattle.rules.specs.Keeps.{keepsOf, decided};
-use words::get16;
+ghost use Rattle.store.specs.Layout.{bookSize, mostOrders, mostRequests};
+ghost use Rattle.rules.specs.Keeps.{keepsOf};
+ghost use Rattle.rules.specs.Laws.Keeps.{decided};
+use places::get16;
+use store::layout;
 
 mod distinct; // names and ClOrdIDs are distinct
 mod links; // an order's links and counts
 mod marks; // a status and a gateway cancel's marks
 mod numbered; // a name with a number
 mod numbers; // requests
+mod places; // numbers and texts at an index
 mod ranges; // fields in their ranges
-mod words; // numbers and texts at an index
-
-const BOOK: usize = 65536;
-
-// The header: where the counts stand.
-const ORDER_COUNT: usize = 0;
-
-const REQUEST_COUNT: usize = 2;
-
-const MOST_ORDERS: usize = 64;
-
-const MOST_REQUESTS: usize = 256;
 
 // The rules of n orders and m requests, one after the other.
 fn decide(book: &[u8], n: usize, m: usize) -> bool
-    requires { ⌜ (length (now book) ≡ 65536) × (n ≤ 64) × (m ≤ 256) ⌝ }
+    requires { ⌜ (length (now book) ≡ bookSize) × (n ≤ mostOrders) × (m ≤ mostRequests) ⌝ }
     ensures { λ r. ⌜ r ≡ decided (now (book .entry)) n m ⌝ }
 {
     if !ranges::ranges_ok(book, n, m) {
@@ -52,15 +44,15 @@ fn decide(book: &[u8], n: usize, m: usize) -> bool
 pub fn keeps(book: &[u8]) -> bool
     ensures { λ r. ⌜ r ≡ keepsOf (now (book .entry)) ⌝ }
 {
-    if book.len() != BOOK {
+    if book.len() != layout::BOOK {
         return false;
     }
-    let n = get16(book, ORDER_COUNT) as usize;
-    if n > MOST_ORDERS {
+    let n = get16(book, layout::ORDER_COUNT) as usize;
+    if n > layout::MOST_ORDERS {
         return false;
     }
-    let m = get16(book, REQUEST_COUNT) as usize;
-    if m > MOST_REQUESTS {
+    let m = get16(book, layout::REQUEST_COUNT) as usize;
+    if m > layout::MOST_REQUESTS {
         return false;
     }
     decide(book, n, m)

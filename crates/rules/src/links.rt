@@ -1,4 +1,4 @@
-// One order: the requests that its links name, its counts and its status. Rests on marks and words.
+// One order: the requests that its links name, its counts and its status. Rests on marks and places.
 ghost use mathlib.Core.Path.{_≡_};
 ghost use Prim.Native.Nat.{ℕ, _+_, _-_, _≤_, _<_};
 ghost use lib.Dec.{eqb, leb};
@@ -6,49 +6,28 @@ ghost use lib.ListN.{length, getD};
 ghost use Rattle.prelude.specs.Below.{allBelow, countBelow};
 ghost use Rattle.prelude.specs.Cases.{if_then_else_};
 ghost use Rattle.store.specs.Book.{orderAt};
-ghost use Rattle.machine.specs.Codes.{mostTries};
+ghost use Rattle.machine.specs.Constants.{mostTries};
 ghost use Rattle.machine.specs.Changes.{isCancel};
 ghost use Rattle.machine.specs.Rules.{currentTest, pendingTest, statusRule};
-ghost use Rattle.rules.specs.Here.{ofOrderAt, linkedAt, optionalAt, countsAt, linksAt, linksOf, ownAt};
+ghost use Rattle.store.specs.Layout.{bookSize, mostOrders, mostRequests};
+ghost use Rattle.rules.specs.Laws.Here.{ofOrderAt, linkedAt, optionalAt, countsAt, linksAt, linksOf, ownAt};
 use crate::marks::is_done;
 use crate::marks::unsent_of;
-use crate::words::ORDER;
-use crate::words::ORDERS;
-use crate::words::REQUEST;
-use crate::words::REQUESTS;
-use crate::words::get16;
-use crate::words::get64;
-use crate::words::same_at;
+use crate::places::get16;
+use crate::places::get64;
+use crate::places::same_at;
+use format::codes;
+use store::kinds;
+use store::layout;
 
-const KIND: usize = 2;
+// The most tries of a gateway cancel, and of one that is unsent.
+const MOST_TRIES: u8 = 3;
 
-const ANSWERED: usize = 3;
-
-const DOWNSTREAM: usize = 70;
-
-const QTY: usize = 172;
-
-const STATUS: usize = 188;
-
-const CUMQTY: usize = 189;
-
-const AMENDMENTS: usize = 213;
-
-const CURRENT: usize = 215;
-
-const CANCEL: usize = 217;
-
-const PENDING: usize = 219;
-
-const STAGE: usize = 239;
-
-const TRIES: usize = 240;
-
-const ORIGDOWNSTREAM: usize = 241;
+const MOST_UNSENT: u8 = MOST_TRIES - 1;
 
 // Whether the request of a link is there and is order i's.
 fn own(book: &[u8], m: usize, i: usize, link: u16) -> bool
-    requires { ⌜ (length (now book) ≡ 65536) × (m ≤ 256) × (i < 64) ⌝ }
+    requires { ⌜ (length (now book) ≡ bookSize) × (m ≤ mostRequests) × (i < mostOrders) ⌝ }
     ensures { λ r. ⌜ r ≡ ownAt (now (book .entry)) m i link ⌝ }
 {
     let k = link as usize;
@@ -58,31 +37,34 @@ fn own(book: &[u8], m: usize, i: usize, link: u16) -> bool
     if m < k {
         return false;
     }
-    let o = get16(book, REQUESTS + (k - 1) * REQUEST);
+    let o = get16(
+        book,
+        layout::REQUESTS + (k - 1) * layout::REQUEST + layout::REQUEST_ORDER,
+    );
     o == (i as u16)
 }
 
 // The current downstream is the first request's or a replace's.
 fn current_ok(book: &[u8], m: usize, i: usize, link: u16) -> bool
-    requires { ⌜ (length (now book) ≡ 65536) × (m ≤ 256) × (i < 64) ⌝ }
+    requires { ⌜ (length (now book) ≡ bookSize) × (m ≤ mostRequests) × (i < mostOrders) ⌝ }
     ensures { λ r. ⌜ r ≡ linkedAt (now (book .entry)) m (currentTest (orderAt (now (book .entry)) i .names .downstream)) i link ⌝ }
 {
     if !own(book, m, i, link) {
         return false;
     }
     let j = (link as usize) - 1;
-    let kind = book[REQUESTS + j * REQUEST + KIND];
+    let kind = book[layout::REQUESTS + j * layout::REQUEST + layout::REQUEST_KIND];
     let same = same_at(
         book,
-        ORDERS + i * ORDER + DOWNSTREAM,
-        REQUESTS + j * REQUEST + DOWNSTREAM,
+        layout::ORDERS + i * layout::ORDER + layout::DOWNSTREAM,
+        layout::REQUESTS + j * layout::REQUEST + layout::REQUEST_DOWNSTREAM,
     );
-    !(!(kind == 0) & !(kind == 2)) & same
+    !(!(kind == kinds::FIRST) & !(kind == kinds::REPLACE)) & same
 }
 
 // The latest cancel, if any, is a cancel.
 fn cancel_ok(book: &[u8], m: usize, i: usize, link: u16) -> bool
-    requires { ⌜ (length (now book) ≡ 65536) × (m ≤ 256) × (i < 64) ⌝ }
+    requires { ⌜ (length (now book) ≡ bookSize) × (m ≤ mostRequests) × (i < mostOrders) ⌝ }
     ensures { λ r. ⌜ r ≡ optionalAt (now (book .entry)) m isCancel i link ⌝ }
 {
     if link == 0 {
@@ -92,13 +74,13 @@ fn cancel_ok(book: &[u8], m: usize, i: usize, link: u16) -> bool
         return false;
     }
     let j = (link as usize) - 1;
-    let kind = book[REQUESTS + j * REQUEST + KIND];
-    !(kind == 0) & !(kind == 2)
+    let kind = book[layout::REQUESTS + j * layout::REQUEST + layout::REQUEST_KIND];
+    !(kind == kinds::FIRST) & !(kind == kinds::REPLACE)
 }
 
 // Pending terms name an unanswered client replace.
 fn pending_ok(book: &[u8], m: usize, i: usize, link: u16) -> bool
-    requires { ⌜ (length (now book) ≡ 65536) × (m ≤ 256) × (i < 64) ⌝ }
+    requires { ⌜ (length (now book) ≡ bookSize) × (m ≤ mostRequests) × (i < mostOrders) ⌝ }
     ensures { λ r. ⌜ r ≡ optionalAt (now (book .entry)) m pendingTest i link ⌝ }
 {
     if link == 0 {
@@ -107,8 +89,8 @@ fn pending_ok(book: &[u8], m: usize, i: usize, link: u16) -> bool
     if !own(book, m, i, link) {
         return false;
     }
-    let at = REQUESTS + ((link as usize) - 1) * REQUEST;
-    (book[at + KIND] == 2) & (book[at + ANSWERED] == 0)
+    let at = layout::REQUESTS + ((link as usize) - 1) * layout::REQUEST;
+    (book[at + layout::REQUEST_KIND] == kinds::REPLACE) & (book[at + layout::REQUEST_ANSWERED] == 0)
 }
 
 // Amendments are the requests less one.
@@ -118,54 +100,54 @@ fn count_ok(amendments: u16, count: u16) -> bool
     (amendments as u32) + 1 == (count as u32)
 }
 
-// Above a cumulative of 0 the status is not A or 0.
+// Above a cumulative of 0 the status is not pending new or new.
 fn status_ok(cumqty: u64, status: u8) -> bool
     ensures { λ r. ⌜ r ≡ statusRule cumqty status ⌝ }
 {
-    (cumqty == 0) | !((status == 65) | (status == 48))
+    (cumqty == 0) | !((status == codes::PENDING_NEW) | (status == codes::NEW))
 }
 
-// At most 3, and at most 2 where unsent.
+// At most so many, and one fewer where unsent.
 fn tries_ok(tries: u8, unsent: bool) -> bool
     ensures { λ r. ⌜ r ≡ leb tries (if unsent then mostTries - 1 else mostTries) ⌝ }
 {
     if unsent {
-        return tries <= 2;
+        return tries <= MOST_UNSENT;
     }
-    tries <= 3
+    tries <= MOST_TRIES
 }
 
 // Order i, which has count requests: its counts and its status.
 fn counts_ok(book: &[u8], count: u16, i: usize) -> bool
-    requires { ⌜ (length (now book) ≡ 65536) × (i < 64) ⌝ }
+    requires { ⌜ (length (now book) ≡ bookSize) × (i < mostOrders) ⌝ }
     ensures { λ r. ⌜ r ≡ countsAt (now (book .entry)) count i ⌝ }
 {
-    let at = ORDERS + i * ORDER;
-    let amendments = get16(book, at + AMENDMENTS);
+    let at = layout::ORDERS + i * layout::ORDER;
+    let amendments = get16(book, at + layout::AMENDMENTS);
     let counted = count_ok(amendments, count);
-    let qty = get64(book, at + QTY);
-    let cumqty = get64(book, at + CUMQTY);
-    let code = book[at + STATUS];
+    let qty = get64(book, at + layout::QTY);
+    let cumqty = get64(book, at + layout::CUMQTY);
+    let code = book[at + layout::STATUS];
     let status = status_ok(cumqty, code);
     let over = is_done(code);
-    let pending = get16(book, at + PENDING);
-    let link = get16(book, at + ORIGDOWNSTREAM);
-    let unsent = unsent_of(book[at + STAGE], link);
-    let tries = tries_ok(book[at + TRIES], unsent);
+    let pending = get16(book, at + layout::PENDING_REQUEST);
+    let link = get16(book, at + layout::ORIGDOWNSTREAM);
+    let unsent = unsent_of(book[at + layout::STAGE], link);
+    let tries = tries_ok(book[at + layout::TRIES], unsent);
     counted & (cumqty <= qty) & status & (!over | ((pending == 0) & (link == 0))) & tries
 }
 
 // Order i, which has count requests of m.
 fn links_at(book: &[u8], m: usize, count: u16, i: usize) -> bool
-    requires { ⌜ (length (now book) ≡ 65536) × (m ≤ 256) × (i < 64) ⌝ }
+    requires { ⌜ (length (now book) ≡ bookSize) × (m ≤ mostRequests) × (i < mostOrders) ⌝ }
     ensures { λ r. ⌜ r ≡ linksAt (now (book .entry)) m count i ⌝ }
 {
-    let at = ORDERS + i * ORDER;
-    let x = get16(book, at + CURRENT);
+    let at = layout::ORDERS + i * layout::ORDER;
+    let x = get16(book, at + layout::CURRENT);
     let current = current_ok(book, m, i, x);
-    let y = get16(book, at + CANCEL);
+    let y = get16(book, at + layout::CANCEL);
     let cancel = cancel_ok(book, m, i, y);
-    let z = get16(book, at + PENDING);
+    let z = get16(book, at + layout::PENDING_REQUEST);
     let pending = pending_ok(book, m, i, z);
     let counts = counts_ok(book, count, i);
     current & cancel & pending & counts
@@ -173,7 +155,7 @@ fn links_at(book: &[u8], m: usize, count: u16, i: usize) -> bool
 
 // The first n orders; next has how many of the m requests each has.
 pub(crate) fn links_ok(book: &[u8], n: usize, m: usize, next: &[u16; 64]) -> bool
-    requires { ⌜ (length (now book) ≡ 65536) × (n ≤ 64) × (m ≤ 256) × ((o : ℕ) → o < 64 → getD (now next) o 0 ≡ countBelow (ofOrderAt (now book) o) m) ⌝ }
+    requires { ⌜ (length (now book) ≡ bookSize) × (n ≤ mostOrders) × (m ≤ mostRequests) × ((o : ℕ) → o < mostOrders → getD (now next) o 0 ≡ countBelow (ofOrderAt (now book) o) m) ⌝ }
     ensures { λ r. ⌜ r ≡ allBelow (linksOf (now (book .entry)) m) n ⌝ }
 {
     let mut i: usize = 0;

@@ -1,13 +1,17 @@
 // A done status, and the two marks of a gateway cancel, as store reads them off its stage and its
-// link. Rests on nothing.
+// link. Rests on format.
 ghost use mathlib.Core.Path.{_≡_};
 ghost use Rattle.store.specs.Orders.{malformed, unsentOf, stuckOf};
 ghost use Rattle.machine.specs.Orders.{isDone};
+use format::codes;
 
 pub(crate) fn is_done(status: u8) -> bool
     ensures { λ r. ⌜ r ≡ isDone status ⌝ }
 {
-    (status == 50) | (status == 52) | (status == 67) | (status == 56)
+    (status == codes::FILLED)
+        | (status == codes::CANCELED)
+        | (status == codes::EXPIRED)
+        | (status == codes::REJECTED)
 }
 
 // Whether a stage and the link beside it do not go together.

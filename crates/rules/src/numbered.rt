@@ -1,5 +1,5 @@
 // Whether a text is a name with a number, in place: the name by words that overlap, the dash and the
-// digits as one word, and zeros after them. Rests on words.
+// digits as one word, and zeros after them. Rests on places.
 ghost use mathlib.Core.Path.{_≡_};
 ghost use mathlib.Core.Bool.{true};
 ghost use Prim.Native.Nat.{_+_, _≤_, _<_};
@@ -8,10 +8,10 @@ ghost use Rattle.prelude.specs.Below.{allBelow};
 ghost use Rattle.prelude.specs.Texts.{textAt, sameText};
 ghost use Rattle.text.specs.Numbered.{numberedText};
 ghost use Rattle.machine.specs.Ranges.{nameRange};
-ghost use Rattle.rules.specs.Suffix.{IsSuffix, alikeAt};
-use crate::words::filled;
-use crate::words::get64;
-use crate::words::same_word;
+ghost use Rattle.rules.specs.Laws.Suffix.{IsSuffix, alikeAt};
+use crate::places::filled;
+use crate::places::get64;
+use crate::places::same_word;
 
 // The dash and the digits as a word, and how many they are.
 struct Suffix {
@@ -59,7 +59,7 @@ fn same_few(s: &[u8], x: usize, y: usize, n: usize) -> bool
     true
 }
 
-// The same, from 8 bytes on by three words that overlap.
+// The same, from 8 bytes on by three places that overlap.
 fn same_start(s: &[u8], x: usize, y: usize, n: usize) -> bool
     requires { ⌜ (x + 33 ≤ length (now s)) × (y + 33 ≤ length (now s)) × (n ≤ 20) ⌝ }
     ensures { λ r. ⌜ r ≡ allBelow (alikeAt (now (s .entry)) x y) n ⌝ }

@@ -1,70 +1,23 @@
-// Every field of an order is in its range. Rests on format, marks and words.
+// Every field of an order is in its range. Rests on format, marks and places.
 ghost use mathlib.Core.Path.{_≡_};
 ghost use Prim.Native.Nat.{_+_, _≤_, _<_};
 ghost use lib.ListN.{length};
 ghost use Rattle.prelude.specs.Below.{allBelow};
 ghost use Rattle.prelude.specs.Texts.{textAt};
 ghost use Rattle.format.specs.Codes.{isAlnum, alnumAt, isNone, isName};
+ghost use Rattle.store.specs.Layout.{bookSize, mostOrders};
 ghost use Rattle.store.specs.Book.{orderAt};
 ghost use Rattle.machine.specs.Ranges.{textWithin};
 ghost use Rattle.machine.specs.Rules.{namesRange, forceRange, pricedRange, termsRange, pendingRange, gatewayRange};
-ghost use Rattle.rules.specs.Here.{rangeAt};
+ghost use Rattle.rules.specs.Laws.Here.{rangeAt};
 use crate::marks::stuck_of;
 use crate::marks::unsent_of;
-use crate::words::ORDER;
-use crate::words::ORDERS;
-use crate::words::filled;
-use crate::words::get16;
-use crate::words::get32;
-use crate::words::get64;
-
-const NAME: usize = 4;
-
-const CLORDID: usize = 37;
-
-const DOWNSTREAM: usize = 70;
-
-const SYMBOL: usize = 103;
-
-const VENUEORDERID: usize = 136;
-
-const SIDE: usize = 169;
-
-const ORDTYPE: usize = 170;
-
-const TIMEINFORCE: usize = 171;
-
-const QTY: usize = 172;
-
-const PRICE: usize = 180;
-
-const STATUS: usize = 188;
-
-const AVGPX: usize = 197;
-
-const PENDING_REQUEST: usize = 219;
-
-const PENDING_QTY: usize = 221;
-
-const PENDING_PRICE: usize = 229;
-
-const PENDING_ORDTYPE: usize = 237;
-
-const PENDING_TIMEINFORCE: usize = 238;
-
-const STAGE: usize = 239;
-
-const TRIES: usize = 240;
-
-const ORIGDOWNSTREAM: usize = 241;
-
-const REFUSEDSENDS: usize = 243;
-
-const LIMIT: u8 = 50;
-
-const MOST_PRICE: u64 = 100000000000000;
-
-const MOST_QTY: u64 = 1000000000000;
+use crate::places::filled;
+use crate::places::get16;
+use crate::places::get32;
+use crate::places::get64;
+use format::codes;
+use store::layout;
 
 // A text of low to high bytes, zeros after it.
 fn within(book: &[u8], at: usize, low: u8, high: u8) -> bool
@@ -79,7 +32,7 @@ fn within(book: &[u8], at: usize, low: u8, high: u8) -> bool
 fn is_alnum(c: u8) -> bool
     ensures { λ r. ⌜ r ≡ isAlnum c ⌝ }
 {
-    ((48 <= c) & (c <= 57)) | (((65 <= c) & (c <= 90)) | ((97 <= c) & (c <= 122)))
+    ((b'0' <= c) & (c <= b'9')) | (((b'A' <= c) & (c <= b'Z')) | ((b'a' <= c) & (c <= b'z')))
 }
 
 // Letters and digits: always 20 steps, so that they are taken many at a time.
@@ -104,7 +57,8 @@ fn is_none(book: &[u8], at: usize) -> bool
     if book[at + 32] != 4 {
         return false;
     }
-    (book[at] == 78) & ((book[at + 1] == 79) & ((book[at + 2] == 78) & (book[at + 3] == 69)))
+    (book[at] == b'N')
+        & ((book[at + 1] == b'O') & ((book[at + 2] == b'N') & (book[at + 3] == b'E')))
 }
 
 // 1 to 20 letters and digits, not NONE.
@@ -125,16 +79,16 @@ fn is_name(book: &[u8], at: usize) -> bool
 }
 
 fn names_ok(book: &[u8], i: usize) -> bool
-    requires { ⌜ (length (now book) ≡ 65536) × (i < 64) ⌝ }
+    requires { ⌜ (length (now book) ≡ bookSize) × (i < mostOrders) ⌝ }
     ensures { λ r. ⌜ r ≡ namesRange (orderAt (now (book .entry)) i .names) ⌝ }
 {
-    let at = ORDERS + i * ORDER;
-    let fine = filled(book, at + NAME);
-    let plain = is_name(book, at + NAME);
-    let clordid = within(book, at + CLORDID, 1, 32);
-    let downstream = within(book, at + DOWNSTREAM, 1, 32);
-    let symbol = within(book, at + SYMBOL, 1, 16);
-    let venueorderid = within(book, at + VENUEORDERID, 0, 32);
+    let at = layout::ORDERS + i * layout::ORDER;
+    let fine = filled(book, at + layout::NAME);
+    let plain = is_name(book, at + layout::NAME);
+    let clordid = within(book, at + layout::CLORDID, 1, 32);
+    let downstream = within(book, at + layout::DOWNSTREAM, 1, 32);
+    let symbol = within(book, at + layout::SYMBOL, 1, 16);
+    let venueorderid = within(book, at + layout::VENUEORDERID, 0, 32);
     (fine & plain) & clordid & downstream & symbol & venueorderid
 }
 
@@ -151,75 +105,75 @@ fn priced_ok(ordtype: u8, price: u64) -> bool
     ensures { λ r. ⌜ r ≡ pricedRange ordtype price ⌝ }
 {
     let listed = format::is_ordtype(ordtype);
-    listed & (price <= MOST_PRICE) & ((ordtype == LIMIT) | (price == 0))
+    listed & (price <= codes::MOST_PRICE) & ((ordtype == codes::LIMIT) | (price == 0))
 }
 
 fn terms_ok(book: &[u8], i: usize) -> bool
-    requires { ⌜ (length (now book) ≡ 65536) × (i < 64) ⌝ }
+    requires { ⌜ (length (now book) ≡ bookSize) × (i < mostOrders) ⌝ }
     ensures { λ r. ⌜ r ≡ termsRange (orderAt (now (book .entry)) i .terms) ⌝ }
 {
-    let at = ORDERS + i * ORDER;
-    let side = format::is_side(book[at + SIDE]);
-    let price = get64(book, at + PRICE);
-    let priced = priced_ok(book[at + ORDTYPE], price);
-    let force = force_ok(book[at + TIMEINFORCE]);
-    let qty = get64(book, at + QTY);
-    side & priced & force & (qty <= MOST_QTY)
+    let at = layout::ORDERS + i * layout::ORDER;
+    let side = format::is_side(book[at + layout::SIDE]);
+    let price = get64(book, at + layout::PRICE);
+    let priced = priced_ok(book[at + layout::ORDTYPE], price);
+    let force = force_ok(book[at + layout::TIMEINFORCE]);
+    let qty = get64(book, at + layout::QTY);
+    side & priced & force & (qty <= codes::MOST_QTY)
 }
 
 // No pending terms are all zero.
 fn pending_ok(book: &[u8], i: usize) -> bool
-    requires { ⌜ (length (now book) ≡ 65536) × (i < 64) ⌝ }
+    requires { ⌜ (length (now book) ≡ bookSize) × (i < mostOrders) ⌝ }
     ensures { λ r. ⌜ r ≡ pendingRange (orderAt (now (book .entry)) i .pending) ⌝ }
 {
-    let at = ORDERS + i * ORDER;
-    let link = get16(book, at + PENDING_REQUEST);
-    let qty = get64(book, at + PENDING_QTY);
-    let price = get64(book, at + PENDING_PRICE);
-    let ordtype = book[at + PENDING_ORDTYPE];
-    let timeinforce = book[at + PENDING_TIMEINFORCE];
+    let at = layout::ORDERS + i * layout::ORDER;
+    let link = get16(book, at + layout::PENDING_REQUEST);
+    let qty = get64(book, at + layout::PENDING_QTY);
+    let price = get64(book, at + layout::PENDING_PRICE);
+    let ordtype = book[at + layout::PENDING_ORDTYPE];
+    let timeinforce = book[at + layout::PENDING_TIMEINFORCE];
     if link == 0 {
         return (qty == 0) & (price == 0) & (ordtype == 0) & (timeinforce == 0);
     }
     let priced = priced_ok(ordtype, price);
     let force = force_ok(timeinforce);
-    priced & force & (qty <= MOST_QTY)
+    priced & force & (qty <= codes::MOST_QTY)
 }
 
 // Not both marks; no gateway cancel is all zero.
 fn gateway_ok(book: &[u8], m: usize, i: usize) -> bool
-    requires { ⌜ (length (now book) ≡ 65536) × (i < 64) ⌝ }
+    requires { ⌜ (length (now book) ≡ bookSize) × (i < mostOrders) ⌝ }
     ensures { λ r. ⌜ r ≡ gatewayRange m (orderAt (now (book .entry)) i .gateway) ⌝ }
 {
-    let at = ORDERS + i * ORDER;
-    let stage = book[at + STAGE];
-    let link = get16(book, at + ORIGDOWNSTREAM);
+    let at = layout::ORDERS + i * layout::ORDER;
+    let stage = book[at + layout::STAGE];
+    let link = get16(book, at + layout::ORIGDOWNSTREAM);
     let unsent = unsent_of(stage, link);
     let stuck = stuck_of(stage, link);
-    let tries = book[at + TRIES];
-    let refusedsends = get32(book, at + REFUSEDSENDS);
+    let tries = book[at + layout::TRIES];
+    let refusedsends = get32(book, at + layout::REFUSEDSENDS);
     let none = !unsent & !stuck & (tries == 0) & (refusedsends == 0);
     !(unsent & stuck) & ((link as usize) <= m) & (!(link == 0) | none)
 }
 
 // Order i, in a book of m requests.
 fn range_ok(book: &[u8], m: usize, i: usize) -> bool
-    requires { ⌜ (length (now book) ≡ 65536) × (i < 64) ⌝ }
+    requires { ⌜ (length (now book) ≡ bookSize) × (i < mostOrders) ⌝ }
     ensures { λ r. ⌜ r ≡ rangeAt (now (book .entry)) m i ⌝ }
 {
-    let at = ORDERS + i * ORDER;
+    let at = layout::ORDERS + i * layout::ORDER;
     let names = names_ok(book, i);
     let terms = terms_ok(book, i);
-    let status = format::is_status(book[at + STATUS]);
-    let avgpx = get64(book, at + AVGPX);
+    let status = format::is_status(book[at + layout::STATUS]);
+    let avgpx = get64(book, at + layout::AVGPX);
     let pending = pending_ok(book, i);
     let gateway = gateway_ok(book, m, i);
-    names & terms & status & (avgpx <= MOST_PRICE) & pending & gateway
+    names & terms & status & (avgpx <= codes::MOST_PRICE) & pending & gateway
 }
 
 // The first n orders, in a book of m requests.
 pub(crate) fn ranges_ok(book: &[u8], n: usize, m: usize) -> bool
-    requires { ⌜ (length (now book) ≡ 65536) × (n ≤ 64) ⌝ }
+    requires { ⌜ (length (now book) ≡ bookSize) × (n ≤ mostOrders) ⌝ }
     ensures { λ r. ⌜ r ≡ allBelow (rangeAt (now (book .entry)) m) n ⌝ }
 {
     let mut i: usize = 0;

@@ -144,6 +144,10 @@ request·answered = 3
 abbrev pub request·clordid : ℕ
 request·clordid = 4
 
+-- the length of a text stands behind its 32 bytes
+abbrev pub request·clordidLen : ℕ
+request·clordidLen = request·clordid + 32
+
 abbrev pub request·origclordid : ℕ
 request·origclordid = 37
 

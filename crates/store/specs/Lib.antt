@@ -2,11 +2,6 @@ pub mod Layout
 pub mod Cells
 pub mod Requests
 pub mod Orders
-pub mod OrderLaws
 pub mod Book
-pub mod Tables
-pub mod Fields
-pub mod Laws
-pub mod Adds
 pub mod Finds
-pub mod Kept
+pub mod Laws

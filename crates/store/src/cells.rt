@@ -1,4 +1,4 @@
-// Numbers and texts at an index of a slice, read and written. Rests on prelude's spans and numbers.
+// Numbers and texts at an index of a slice, read and written. Rests on words and prelude's spans.
 ghost use mathlib.Core.Path.{_≡_};
 ghost use mathlib.Core.List.{[], _∷_};
 ghost use Prim.Native.Nat.{_+_, _≤_, _<_};
@@ -9,45 +9,26 @@ ghost use Rattle.prelude.specs.Texts.{textAt, WholeText};
 ghost use Rattle.store.specs.Cells.{textBytes};
 use prelude::Text;
 
-fn wide(x: u8) -> u64
-    ensures { λ r. ⌜ (r ≡ x) × (r < 256) ⌝ }
-{
-    x as u64
-}
-
+// A number at an index: its own bytes are lent to the one reader.
 pub(crate) fn get16(s: &[u8], at: usize) -> u16
     requires { ⌜ at + 2 ≤ length (now s) ⌝ }
     ensures { λ r. ⌜ r ≡ word16 (now (s .entry)) at ⌝ }
 {
-    let b0 = wide(s[at]);
-    let b1 = wide(s[at + 1]);
-    (b0 + 256 * b1) as u16
+    words::get16(&s[at..at + 2])
 }
 
 pub(crate) fn get32(s: &[u8], at: usize) -> u32
     requires { ⌜ at + 4 ≤ length (now s) ⌝ }
     ensures { λ r. ⌜ r ≡ word32 (now (s .entry)) at ⌝ }
 {
-    let b0 = wide(s[at]);
-    let b1 = wide(s[at + 1]);
-    let b2 = wide(s[at + 2]);
-    let b3 = wide(s[at + 3]);
-    (b0 + 256 * (b1 + 256 * (b2 + 256 * b3))) as u32
+    words::get32(&s[at..at + 4])
 }
 
 pub(crate) fn get64(s: &[u8], at: usize) -> u64
     requires { ⌜ at + 8 ≤ length (now s) ⌝ }
     ensures { λ r. ⌜ r ≡ word64 (now (s .entry)) at ⌝ }
 {
-    let b0 = wide(s[at]);
-    let b1 = wide(s[at + 1]);
-    let b2 = wide(s[at + 2]);
-    let b3 = wide(s[at + 3]);
-    let b4 = wide(s[at + 4]);
-    let b5 = wide(s[at + 5]);
-    let b6 = wide(s[at + 6]);
-    let b7 = wide(s[at + 7]);
-    b0 + 256 * (b1 + 256 * (b2 + 256 * (b3 + 256 * (b4 + 256 * (b5 + 256 * (b6 + 256 * b7))))))
+    words::get64(&s[at..at + 8])
 }
 
 fn bytes2(v: u16) -> [u8; 2]

@@ -3,34 +3,20 @@ ghost use mathlib.Core.Path.{_≡_};
 ghost use Prim.Native.Nat.{_≤_, _<_};
 ghost use lib.ListN.{length};
 ghost use Rattle.prelude.specs.Cases.{if_then_else_};
+ghost use Rattle.store.specs.Layout.{bookSize, mostOrders, mostRequests};
 ghost use Rattle.store.specs.Book.{bookOf};
-ghost use Rattle.store.specs.Finds.{foundOf, findName, findDownstream, findClordid, countClordids, namedAt, bearsAt, ofClientAt, usedAt, usedAsAt};
+ghost use Rattle.store.specs.Finds.{foundOf, findName, findDownstream, findClordid, countClordids};
+ghost use Rattle.store.specs.Laws.Finds.{namedAt, bearsAt, ofClientAt, usedAt, usedAsAt};
 use crate::Found;
 use crate::cells::get16;
+use crate::layout;
 use prelude::Text;
 
-// Where the tables start, the sizes of their records, and the texts that are looked at.
-const ORDERS: usize = 256;
-
-const ORDER: usize = 256;
-
-const NAME: usize = 4;
-
-const REQUESTS: usize = 16640;
-
-const REQUEST: usize = 128;
-
-const CLORDID: usize = 4;
-
-const CLORDID_LEN: usize = 36;
-
-const DOWNSTREAM: usize = 70;
-
 fn named(book: &[u8], k: usize, t: Text) -> bool
-    requires { ⌜ (length (now book) ≡ 65536) × (k < 64) ⌝ }
+    requires { ⌜ (length (now book) ≡ bookSize) × (k < mostOrders) ⌝ }
     ensures { λ r. ⌜ r ≡ namedAt (now (book .entry)) t k ⌝ }
 {
-    text::text_is(book, ORDERS + k * ORDER + NAME, t)
+    text::text_is(book, layout::ORDERS + k * layout::ORDER + layout::NAME, t)
 }
 
 // The first order of that name.
@@ -49,10 +35,14 @@ pub fn find_name(book: &[u8], t: Text) -> Found
 }
 
 fn bears(book: &[u8], k: usize, t: Text) -> bool
-    requires { ⌜ (length (now book) ≡ 65536) × (k < 256) ⌝ }
+    requires { ⌜ (length (now book) ≡ bookSize) × (k < mostRequests) ⌝ }
     ensures { λ r. ⌜ r ≡ bearsAt (now (book .entry)) t k ⌝ }
 {
-    text::text_is(book, REQUESTS + k * REQUEST + DOWNSTREAM, t)
+    text::text_is(
+        book,
+        layout::REQUESTS + k * layout::REQUEST + layout::REQUEST_DOWNSTREAM,
+        t,
+    )
 }
 
 // The first request that bears that downstream ClOrdID.
@@ -72,21 +62,28 @@ pub fn find_downstream(book: &[u8], t: Text) -> Found
 
 // Whether request k is of one of the first n orders, and of that client.
 fn of_client(book: &[u8], k: usize, n: usize, client: u16) -> bool
-    requires { ⌜ (length (now book) ≡ 65536) × (k < 256) × (n ≤ 64) ⌝ }
+    requires { ⌜ (length (now book) ≡ bookSize) × (k < mostRequests) × (n ≤ mostOrders) ⌝ }
     ensures { λ r. ⌜ r ≡ ofClientAt (now (book .entry)) n client k ⌝ }
 {
-    let o = get16(book, REQUESTS + k * REQUEST) as usize;
+    let o = get16(
+        book,
+        layout::REQUESTS + k * layout::REQUEST + layout::REQUEST_ORDER,
+    ) as usize;
     if o >= n {
         return false;
     }
-    get16(book, ORDERS + o * ORDER) == client
+    get16(book, layout::ORDERS + o * layout::ORDER + layout::CLIENT) == client
 }
 
 fn used_as(book: &[u8], k: usize, n: usize, client: u16, t: Text) -> bool
-    requires { ⌜ (length (now book) ≡ 65536) × (k < 256) × (n ≤ 64) ⌝ }
+    requires { ⌜ (length (now book) ≡ bookSize) × (k < mostRequests) × (n ≤ mostOrders) ⌝ }
     ensures { λ r. ⌜ r ≡ usedAsAt (now (book .entry)) n client t k ⌝ }
 {
-    if !text::text_is(book, REQUESTS + k * REQUEST + CLORDID, t) {
+    if !text::text_is(
+        book,
+        layout::REQUESTS + k * layout::REQUEST + layout::REQUEST_CLORDID,
+        t,
+    ) {
         return false;
     }
     if t.len == 0 {
@@ -113,10 +110,10 @@ pub fn find_clordid(book: &[u8], client: u16, t: Text) -> Found
 
 // 1 where request k has a ClOrdID and is that client's, else 0.
 fn used(book: &[u8], k: usize, n: usize, client: u16) -> usize
-    requires { ⌜ (length (now book) ≡ 65536) × (k < 256) × (n ≤ 64) ⌝ }
+    requires { ⌜ (length (now book) ≡ bookSize) × (k < mostRequests) × (n ≤ mostOrders) ⌝ }
     ensures { λ r. ⌜ (r ≡ (if usedAt (now (book .entry)) n client k then 1 else 0)) × (r ≤ 1) ⌝ }
 {
-    if book[REQUESTS + k * REQUEST + CLORDID_LEN] == 0 {
+    if book[layout::REQUESTS + k * layout::REQUEST + layout::REQUEST_CLORDID_LEN] == 0 {
         return 0;
     }
     if of_client(book, k, n, client) {

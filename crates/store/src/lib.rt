@@ -3,6 +3,7 @@
 // an empty book that nothing changes, and an index past a table has the answer that is stated.
 ghost use mathlib.Core.Path.{_≡_};
 ghost use Prim.Native.Nat.{_+_, _≤_};
+ghost use Rattle.store.specs.Layout.{ordersAt};
 ghost use Rattle.store.specs.Orders.{noPending, noGateway, noNames, noOrder};
 ghost use Rattle.store.specs.Requests.{noRequest};
 ghost use Rattle.store.specs.Book.{countAt, orderCount, requestCount, settingOf, loadOrder, storeOrder, addOrder, loadRequest, storeRequest, addRequest, markAnswered, clearBook};
@@ -11,6 +12,8 @@ use prelude::Text;
 
 mod cells; // numbers and texts at an index
 mod finds; // lookups
+pub mod kinds; // the kinds of requests
+pub mod layout; // where everything stands
 mod orders; // the record of an order
 mod requests; // the record of a request
 
@@ -76,9 +79,9 @@ pub struct Order {
     pub gateway: GatewayCancel,
 }
 
-// A request sent to a venue (the Rust's `Sent`), by the index of its order. Kind 0 is the order's
-// first, 1 a client's cancel, 2 a client's replace, 3 the gateway's cancel, which has no ClOrdID;
-// kinds 1 and 2 have an OrigClOrdID. `answered` is 0 or 1.
+// A request sent to a venue (the Rust's `Sent`), by the index of its order. `kind` is one of `kinds`:
+// a gateway's cancel has no ClOrdID, a client's cancel or replace has an OrigClOrdID. `answered` is 0
+// or 1.
 pub struct Request {
     pub order: u16,
     pub kind: u8,
@@ -93,19 +96,6 @@ pub enum Found {
     At(usize),
     Nothing,
 }
-
-const BOOK: usize = 65536;
-
-const ORDERS: usize = 64;
-
-const REQUESTS: usize = 256;
-
-// The header: where the counts and the setting stand.
-const ORDER_COUNT: usize = 0;
-
-const REQUEST_COUNT: usize = 2;
-
-const SETTING: usize = 4;
 
 // No replace waits.
 pub fn no_pending() -> Pending
@@ -196,10 +186,10 @@ pub fn no_request() -> Request
 }
 
 fn count_at(book: &[u8], at: usize, most: usize) -> usize
-    requires { ⌜ at + 2 ≤ 256 ⌝ }
+    requires { ⌜ at + 2 ≤ ordersAt ⌝ }
     ensures { λ r. ⌜ r ≡ countAt at most (now (book .entry)) ⌝ }
 {
-    if book.len() != BOOK {
+    if book.len() != layout::BOOK {
         return 0;
     }
     let n = cells::get16(book, at) as usize;
@@ -213,34 +203,34 @@ fn count_at(book: &[u8], at: usize, most: usize) -> usize
 pub fn order_count(book: &[u8]) -> usize
     ensures { λ r. ⌜ r ≡ orderCount (now (book .entry)) ⌝ }
 {
-    count_at(book, ORDER_COUNT, ORDERS)
+    count_at(book, layout::ORDER_COUNT, layout::MOST_ORDERS)
 }
 
 // Requests in use.
 pub fn request_count(book: &[u8]) -> usize
     ensures { λ r. ⌜ r ≡ requestCount (now (book .entry)) ⌝ }
 {
-    count_at(book, REQUEST_COUNT, REQUESTS)
+    count_at(book, layout::REQUEST_COUNT, layout::MOST_REQUESTS)
 }
 
 // The most ClOrdIDs that a client may use.
 pub fn setting(book: &[u8]) -> u32
     ensures { λ r. ⌜ r ≡ settingOf (now (book .entry)) ⌝ }
 {
-    if book.len() != BOOK {
+    if book.len() != layout::BOOK {
         return 0;
     }
-    cells::get32(book, SETTING)
+    cells::get32(book, layout::SETTING)
 }
 
 // The order in record i, or the order of zeros where there is no such record.
 pub fn load_order(book: &[u8], i: usize) -> Order
     ensures { λ r. ⌜ r ≡ loadOrder (now (book .entry)) i ⌝ }
 {
-    if book.len() != BOOK {
+    if book.len() != layout::BOOK {
         return no_order();
     }
-    if i >= ORDERS {
+    if i >= layout::MOST_ORDERS {
         return no_order();
     }
     orders::read(book, i)
@@ -250,10 +240,10 @@ pub fn load_order(book: &[u8], i: usize) -> Order
 pub fn store_order(book: &mut [u8], i: usize, o: Order)
     ensures { λ _. ⌜ now (book .exit) ≡ storeOrder (now (book .entry)) i o ⌝ }
 {
-    if book.len() != BOOK {
+    if book.len() != layout::BOOK {
         return;
     }
-    if i >= ORDERS {
+    if i >= layout::MOST_ORDERS {
         return;
     }
     orders::write(book, i, o);
@@ -263,25 +253,25 @@ pub fn store_order(book: &mut [u8], i: usize, o: Order)
 pub fn add_order(book: &mut [u8], o: Order)
     ensures { λ _. ⌜ now (book .exit) ≡ addOrder (now (book .entry)) o ⌝ }
 {
-    if book.len() != BOOK {
+    if book.len() != layout::BOOK {
         return;
     }
     let n = order_count(book);
-    if n >= ORDERS {
+    if n >= layout::MOST_ORDERS {
         return;
     }
     orders::write(book, n, o);
-    cells::put16(book, ORDER_COUNT, (n + 1) as u16);
+    cells::put16(book, layout::ORDER_COUNT, (n + 1) as u16);
 }
 
 // The request in record i, or the request of zeros where there is no such record.
 pub fn load_request(book: &[u8], i: usize) -> Request
     ensures { λ r. ⌜ r ≡ loadRequest (now (book .entry)) i ⌝ }
 {
-    if book.len() != BOOK {
+    if book.len() != layout::BOOK {
         return no_request();
     }
-    if i >= REQUESTS {
+    if i >= layout::MOST_REQUESTS {
         return no_request();
     }
     requests::read(book, i)
@@ -291,10 +281,10 @@ pub fn load_request(book: &[u8], i: usize) -> Request
 pub fn store_request(book: &mut [u8], i: usize, r: Request)
     ensures { λ _. ⌜ now (book .exit) ≡ storeRequest (now (book .entry)) i r ⌝ }
 {
-    if book.len() != BOOK {
+    if book.len() != layout::BOOK {
         return;
     }
-    if i >= REQUESTS {
+    if i >= layout::MOST_REQUESTS {
         return;
     }
     requests::write(book, i, r);
@@ -304,25 +294,25 @@ pub fn store_request(book: &mut [u8], i: usize, r: Request)
 pub fn add_request(book: &mut [u8], r: Request)
     ensures { λ _. ⌜ now (book .exit) ≡ addRequest (now (book .entry)) r ⌝ }
 {
-    if book.len() != BOOK {
+    if book.len() != layout::BOOK {
         return;
     }
     let n = request_count(book);
-    if n >= REQUESTS {
+    if n >= layout::MOST_REQUESTS {
         return;
     }
     requests::write(book, n, r);
-    cells::put16(book, REQUEST_COUNT, (n + 1) as u16);
+    cells::put16(book, layout::REQUEST_COUNT, (n + 1) as u16);
 }
 
 // Sets the answered byte of request i, or nothing where there is no such record.
 pub fn mark_answered(book: &mut [u8], i: usize)
     ensures { λ _. ⌜ now (book .exit) ≡ markAnswered (now (book .entry)) i ⌝ }
 {
-    if book.len() != BOOK {
+    if book.len() != layout::BOOK {
         return;
     }
-    if i >= REQUESTS {
+    if i >= layout::MOST_REQUESTS {
         return;
     }
     requests::mark(book, i);
@@ -332,9 +322,9 @@ pub fn mark_answered(book: &mut [u8], i: usize)
 pub fn clear(book: &mut [u8], setting: u32)
     ensures { λ _. ⌜ now (book .exit) ≡ clearBook (now (book .entry)) setting ⌝ }
 {
-    if book.len() != BOOK {
+    if book.len() != layout::BOOK {
         return;
     }
     cells::zero(book);
-    cells::put32(book, SETTING, setting);
+    cells::put32(book, layout::SETTING, setting);
 }

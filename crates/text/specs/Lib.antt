@@ -1,4 +1,3 @@
 pub mod Words
-pub mod InPlace
 pub mod Numbered
-pub mod NameLaws
+pub mod Laws

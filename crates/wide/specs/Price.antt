@@ -7,7 +7,7 @@ use native.Mathlib.Omega.{arith}
 use lib.Dec.{eqb, ltb, lit≤, lit<}
 use borrow.Author.Tests.{lt-ltb, le-ltb, ne-eqb, ltb-true, ltb-false}
 use Rattle.prelude.specs.Cases.{if_then_else_, split-if, if-true, if-false, both-true}
-use Rattle.wide.specs.Wide.{told, implied, fillPrice}
+use Rattle.wide.specs.Wide.{byLastPx, implied, fillPrice}
 use Rattle.wide.specs.Rounding.{nearest-none, nearest-le}
 
 -- ---- an amount, and the price that is implied
@@ -37,30 +37,30 @@ module _ (lastqty lastpx cumqty avgpx oldcum oldavg rise : ℕ) where
   abbrev quotient : ℕ
   quotient = implied cumqty avgpx oldcum oldavg rise
 
-  pub price-told : told lastqty lastpx rise ≡ true → the ≡ lastpx
+  pub price-last-px : byLastPx lastqty lastpx rise ≡ true → the ≡ lastpx
   unfolding fillPrice
-  price-told e = if-true (told lastqty lastpx rise) _ _ e
+  price-last-px e = if-true (byLastPx lastqty lastpx rise) _ _ e
 
-  pub price-implied : told lastqty lastpx rise ≡ false → 0 < quotient → the ≡ quotient
+  pub price-implied : byLastPx lastqty lastpx rise ≡ false → 0 < quotient → the ≡ quotient
   unfolding fillPrice
-  price-implied e h = if-false (told lastqty lastpx rise) _ _ e ∙ if-true (ltb 0 quotient) _ _ (lt-ltb 0 quotient h)
+  price-implied e h = if-false (byLastPx lastqty lastpx rise) _ _ e ∙ if-true (ltb 0 quotient) _ _ (lt-ltb 0 quotient h)
 
-  pub price-average : told lastqty lastpx rise ≡ false → quotient ≡ 0 → the ≡ avgpx
+  pub price-average : byLastPx lastqty lastpx rise ≡ false → quotient ≡ 0 → the ≡ avgpx
   unfolding fillPrice
-  price-average e h = if-false (told lastqty lastpx rise) _ _ e ∙ if-false (ltb 0 quotient) _ _ (le-ltb 0 quotient (omega arith))
+  price-average e h = if-false (byLastPx lastqty lastpx rise) _ _ e ∙ if-false (ltb 0 quotient) _ _ (le-ltb 0 quotient (omega arith))
 
-  told-above : told lastqty lastpx rise ≡ true → 0 < lastpx
-  unfolding told
-  told-above e = ltb-true 0 lastpx (both-true (ltb 0 lastpx) _ e .0)
+  last-px-above : byLastPx lastqty lastpx rise ≡ true → 0 < lastpx
+  unfolding byLastPx
+  last-px-above e = ltb-true 0 lastpx (both-true (ltb 0 lastpx) _ e .0)
 
   -- the price is 0 only as an average of 0; by `price-average` it then is
   abbrev None : Type 0
-  None = (told lastqty lastpx rise ≡ false) × (quotient ≡ 0) × (avgpx ≡ 0)
+  None = (byLastPx lastqty lastpx rise ≡ false) × (quotient ≡ 0) × (avgpx ≡ 0)
 
   pub price-zero : the ≡ 0 → None
   unfolding fillPrice
   price-zero =
-      split-if (λ p. p ≡ 0 → None) (told lastqty lastpx rise) (λ e z. absurd (let l : ⊥ = omega (arith, told-above e) in l))
+      split-if (λ p. p ≡ 0 → None) (byLastPx lastqty lastpx rise) (λ e z. absurd (let l : ⊥ = omega (arith, last-px-above e) in l))
       (λ e. split-if (λ p. p ≡ 0 → None) (ltb 0 quotient) (λ h z. absurd (let l : ⊥ = omega (arith, ltb-true 0 quotient h) in l))
       (λ h z. (e, omega (arith, ltb-false 0 quotient h), z)))
 
@@ -68,10 +68,10 @@ module _ (lastqty lastpx cumqty avgpx oldcum oldavg rise : ℕ) where
   pub price-le : (most : ℕ) → lastpx ≤ most → avgpx ≤ most → cumqty * avgpx ≤ most → the ≤ most
   unfolding fillPrice
   price-le most l a p =
-      split-if (λ x. x ≤ most) (told lastqty lastpx rise) (λ e. l)
+      split-if (λ x. x ≤ most) (byLastPx lastqty lastpx rise) (λ e. l)
       (λ e. split-if (λ x. x ≤ most) (ltb 0 quotient) (λ h. le-trans (implied-le cumqty avgpx oldcum oldavg rise) p) (λ h. a))
 
-  -- in the ranges of document 01 it is at most 10 ^ 26, which a rise of 1 reaches, so it fits two words
+  -- in the ranges of docs/SCOPE.md, Records, it is at most 10 ^ 26, which a rise of 1 reaches, so it fits two words
   pub price-most : lastpx ≤ 10 ^ 14 → cumqty ≤ 10 ^ 12 → avgpx ≤ 10 ^ 14 → the ≤ 10 ^ 26
   price-most l c a =
       price-le (10 ^ 26) (le-trans l (lit≤ tt)) (le-trans a (lit≤ tt))
@@ -86,16 +86,16 @@ with-true : (a : Bool) → a && true ≡ a
 with-true true = refl
 with-true false = refl
 
-pub told-no-rise : (lastqty lastpx : ℕ) → told lastqty lastpx 0 ≡ ltb 0 lastpx
-unfolding told
-told-no-rise lastqty lastpx = with-true (ltb 0 lastpx)
+pub last-px-no-rise : (lastqty lastpx : ℕ) → byLastPx lastqty lastpx 0 ≡ ltb 0 lastpx
+unfolding byLastPx
+last-px-no-rise lastqty lastpx = with-true (ltb 0 lastpx)
 
-pub told-rise : (lastqty lastpx rise : ℕ) → 0 < rise → told lastqty lastpx rise ≡ ltb 0 lastpx && eqb rise lastqty
-unfolding told
-told-rise lastqty lastpx rise h = rw (ne-eqb rise 0 (λ e. omega arith))
+pub last-px-rise : (lastqty lastpx rise : ℕ) → 0 < rise → byLastPx lastqty lastpx rise ≡ ltb 0 lastpx && eqb rise lastqty
+unfolding byLastPx
+last-px-rise lastqty lastpx rise h = rw (ne-eqb rise 0 (λ e. omega arith))
 
 -- with no rise the price is LastPx if above 0, else AvgPx
 pub price-no-rise : (lastqty lastpx cumqty avgpx oldcum oldavg : ℕ) →
     fillPrice lastqty lastpx cumqty avgpx oldcum oldavg 0 ≡ (if ltb 0 lastpx then lastpx else avgpx)
 unfolding fillPrice if_then_else_
-price-no-rise lastqty lastpx cumqty avgpx oldcum oldavg = rw (implied-no-rise cumqty avgpx oldcum oldavg, told-no-rise lastqty lastpx)
+price-no-rise lastqty lastpx cumqty avgpx oldcum oldavg = rw (implied-no-rise cumqty avgpx oldcum oldavg, last-px-no-rise lastqty lastpx)

@@ -35,8 +35,8 @@ nearest n d = if eqb d 0 then 0 else n / d + up (n / d) (n % d) d
 -- ---- the price of a fill
 
 -- the report's LastPx tells the price: it is above 0, and there is no rise or the rise is LastQty
-unfoldable pub told : (lastqty lastpx rise : ℕ) → Bool
-told lastqty lastpx rise = ltb 0 lastpx && (eqb rise 0 || eqb rise lastqty)
+unfoldable pub byLastPx : (lastqty lastpx rise : ℕ) → Bool
+byLastPx lastqty lastpx rise = ltb 0 lastpx && (eqb rise 0 || eqb rise lastqty)
 
 -- the price that the change of the average implies for the rise: what was paid since, by the rise. It is 0 where less was paid, and with no rise.
 unfoldable pub implied : (cumqty avgpx oldcum oldavg rise : ℕ) → ℕ
@@ -45,6 +45,6 @@ implied cumqty avgpx oldcum oldavg rise = nearest (cumqty * avgpx - oldcum * old
 -- LastPx where it tells the price, else the implied price where it is above 0, else AvgPx
 unfoldable pub fillPrice : (lastqty lastpx cumqty avgpx oldcum oldavg rise : ℕ) → ℕ
 fillPrice lastqty lastpx cumqty avgpx oldcum oldavg rise =
-    if told lastqty lastpx rise then lastpx
+    if byLastPx lastqty lastpx rise then lastpx
     else if ltb 0 (implied cumqty avgpx oldcum oldavg rise) then implied cumqty avgpx oldcum oldavg rise
     else avgpx

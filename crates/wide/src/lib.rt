@@ -4,7 +4,7 @@
 ghost use mathlib.Core.Path.{_≡_};
 ghost use Prim.Native.Nat.{_-_, _*_, _<_};
 ghost use lib.Dec.{ltb};
-ghost use Rattle.wide.specs.Wide.{value, words, up, nearest, told, implied, fillPrice};
+ghost use Rattle.wide.specs.Wide.{value, words, up, nearest, byLastPx, implied, fillPrice};
 
 mod division;
 
@@ -83,8 +83,8 @@ pub fn quotient(n: [u64; 2], d: u64) -> [u64; 2]
 }
 
 // Does the report's LastPx tell the price? It is above 0, and there is no rise or it is LastQty.
-pub fn told(lastqty: u64, lastpx: u64, rise: u64) -> bool
-    ensures { λ r. ⌜ r ≡ told lastqty lastpx rise ⌝ }
+pub fn by_last_px(lastqty: u64, lastpx: u64, rise: u64) -> bool
+    ensures { λ r. ⌜ r ≡ byLastPx lastqty lastpx rise ⌝ }
 {
     if lastpx == 0 {
         return false;
@@ -117,7 +117,7 @@ pub fn fill_price(
 ) -> [u64; 2]
     ensures { λ r. ⌜ r ≡ words (fillPrice lastqty lastpx cumqty avgpx oldcum oldavg rise) ⌝ }
 {
-    if told(lastqty, lastpx, rise) {
+    if by_last_px(lastqty, lastpx, rise) {
         return [lastpx, 0];
     }
     let price = implied(cumqty, avgpx, oldcum, oldavg, rise);

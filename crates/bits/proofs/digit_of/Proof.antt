@@ -6,7 +6,7 @@ use native.Mathlib.Nat.{mod-lt, zero-lt-suc}
 use native.Mathlib.Omega.{arith}
 use lib.Bits.{and-mask}
 use lib.Dec.{lit<}
-use Rattle.bits.specs.Map.{digit-out}
+use Rattle.bits.specs.Laws.Map.{digit-out}
 use Rattle.bits.proofs.digit_of.Statement.{statement}
 use Rattle.bits.proofs.digit_of.Tie as tie
 

@@ -9,7 +9,8 @@ use lib.Bits.{bitOr}
 use lib.Pow.{shl-exact}
 use lib.Dec.{lit<}
 use Rattle.prelude.specs.Cases.{if_then_else_}
-use Rattle.bits.specs.Map.{withBit, or-one}
+use Rattle.bits.specs.Map.{withBit}
+use Rattle.bits.specs.Laws.Map.{or-one}
 use Rattle.bits.proofs.with_bit.Statement.{statement}
 use Rattle.bits.proofs.with_bit.Tie as tie
 

@@ -3,7 +3,8 @@ use borrow.Author.Needs.{needs}
 use borrow.Author.Tests.{not-true, not-false, eq-eqb, ne-eqb}
 use mathlib.Core.Path.{_≡_, refl, sym, _∙_}
 use mathlib.Core.Bool.{true}
-use Rattle.format.specs.Format.{isKind, bitsRight, kind-small}
+use Rattle.format.specs.Format.{isKind, bitsRight}
+use Rattle.format.specs.Laws.Format.{kind-small}
 use Rattle.format.proofs.bits_right.Statement.{statement}
 use Rattle.format.proofs.bits_right.Tie as tie
 
@@ -13,9 +14,6 @@ known c = sym (c .before .is-kind .ensures) ∙ not-false _ (c .if1 .left)
 returns : tie.Need-returns
 unfolding bitsRight
 returns c = rw (sym (c .before .is-kind .ensures) ∙ not-true _ (c .if1 .taken))
-
-required-of-requires : tie.Need-required-of-requires
-required-of-requires c κs = kind-small (c .before .before .args .kind) (known c)
 
 returns-2 : tie.Need-returns-2
 unfolding bitsRight
@@ -52,7 +50,7 @@ bits-right-spec =
     (tie.spec
     (λ c κs. search needs)
     returns
-    required-of-requires
+    (λ c κs. search needs)
     returns-2
     permitted-of-requires
     returns-3

@@ -2,7 +2,8 @@
 use borrow.Author.Needs.{needs}
 use mathlib.Core.Path.{refl, _∙_}
 use Rattle.prelude.specs.Below.{allBelow}
-use Rattle.format.specs.Codes.{agree, isExectype, exectypes}
+use Rattle.format.specs.Laws.Codes.{agree}
+use Rattle.format.specs.Codes.{isExectype, exectypes}
 use Rattle.format.proofs.is_exectype.Statement.{statement}
 use Rattle.format.proofs.is_exectype.Tie as tie
 

@@ -2,7 +2,8 @@
 use borrow.Author.Needs.{needs}
 use mathlib.Core.Path.{refl, _∙_}
 use Rattle.prelude.specs.Below.{allBelow}
-use Rattle.format.specs.Codes.{agree, isOrdtype, ordtypes}
+use Rattle.format.specs.Laws.Codes.{agree}
+use Rattle.format.specs.Codes.{isOrdtype, ordtypes}
 use Rattle.format.proofs.is_ordtype.Statement.{statement}
 use Rattle.format.proofs.is_ordtype.Tie as tie
 

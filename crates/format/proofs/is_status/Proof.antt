@@ -2,7 +2,8 @@
 use borrow.Author.Needs.{needs}
 use mathlib.Core.Path.{refl, _∙_}
 use Rattle.prelude.specs.Below.{allBelow}
-use Rattle.format.specs.Codes.{agree, isStatus, statuses}
+use Rattle.format.specs.Laws.Codes.{agree}
+use Rattle.format.specs.Codes.{isStatus, statuses}
 use Rattle.format.proofs.is_status.Statement.{statement}
 use Rattle.format.proofs.is_status.Tie as tie
 

@@ -2,7 +2,8 @@
 use borrow.Author.Needs.{needs}
 use mathlib.Core.Path.{refl, _∙_}
 use Rattle.prelude.specs.Below.{allBelow}
-use Rattle.format.specs.Codes.{agree, isTimeinforce, timesinforce}
+use Rattle.format.specs.Laws.Codes.{agree}
+use Rattle.format.specs.Codes.{isTimeinforce, timesinforce}
 use Rattle.format.proofs.is_timeinforce.Statement.{statement}
 use Rattle.format.proofs.is_timeinforce.Tie as tie
 

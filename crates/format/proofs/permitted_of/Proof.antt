@@ -4,7 +4,8 @@ use mathlib.Core.Path.{refl}
 use mathlib.Core.List.{List, [], _∷_}
 use Prim.Native.Nat.{ℕ, _+_}
 use Rattle.prelude.specs.Below.{allBelow}
-use Rattle.format.specs.Format.{required, allowed, requiredBits, allowedBits, at-each}
+use Rattle.format.specs.Format.{required, allowed, requiredBits, allowedBits}
+use Rattle.format.specs.Laws.Format.{at-each}
 use Rattle.format.proofs.permitted_of.Statement.{statement}
 use Rattle.format.proofs.permitted_of.Tie as tie
 

@@ -1,6 +1,6 @@
 -- `gateway::check` is `checkOf`. Assumes nothing.
 use borrow.Author.Needs.{needs}
-use Rattle.gateway.specs.Entries.{checkOf}
+use Rattle.step.specs.Entries.{checkOf}
 use Rattle.prelude.specs.Cases.{if_then_else_}
 use Rattle.gateway.proofs.check.Statement.{statement}
 use Rattle.gateway.proofs.check.Tie as tie

@@ -1,6 +1,6 @@
 -- `start` is `startRefusal` and `startOf`. Assumes nothing.
 use borrow.Author.Needs.{needs}
-use Rattle.gateway.specs.Entered.{cleared, uncleared}
+use Rattle.gateway.specs.Laws.Entered.{cleared, uncleared}
 use Rattle.gateway.proofs.start.Statement.{statement}
 use Rattle.gateway.proofs.start.Tie as tie
 

@@ -5,10 +5,10 @@ use mathlib.Core.Bool.{true}
 use mathlib.Core.List.{List, [], _∷_, _++_}
 use Rattle.store.specs.Book.{Book}
 use Rattle.machine.specs.Rules.{rules}
-use Rattle.machine.specs.History.{Decoded, Entry, State, start, next, run, Kinds}
-use Rattle.machine.specs.Calls.{Form, lineAt, calls, Faithful, Step, call, back, Since, stateOf, returned, follow}
+use Rattle.machine.specs.History.{Decoded, Entry, State, start, next, run, Kinds, startFrom}
+use Rattle.machine.specs.Calls.{Form, lineAt, calls, Faithful, Step, call, back, SinceReturn, stateOf, justReturned, follow}
 use Rattle.machine.specs.Claim.{Demand3}
-use Rattle.machine.specs.Since.{Demand3From, fresh, Net}
+use Rattle.machine.specs.Since.{Demand3From, Net}
 use Rattle.machine.proofs.Claim.Net.{net-from}
 use Rattle.machine.proofs.Claim.Whole.{demand-from}
 use Rattle.machine.proofs.Claim.Start.{demand}
@@ -31,13 +31,13 @@ run-more read s (j ∷ is) i = run-more read (next s (read j)) is i
 
 -- with returns: what holds of the calls since the last
 module _ {In Held : Type 0} (f : Form In Held) (good : Held → Type 0) (t : Faithful f good) (kept : (h : Held) → good h → rules (f .bookOf h) ≡ true) where
-  record Reached (s : Since f) : Type 0 where
+  record Reached (s : SinceReturn f) : Type 0 where
     from : good (s .image)
     now : good (s .held)
     by : List In
-    is : stateOf f s ≡ run (f .read) (fresh (f .bookOf (s .image))) by
+    is : stateOf f s ≡ run (f .read) (startFrom (f .bookOf (s .image))) by
 
-  reached : (s : Since f) (is : List (Step f good)) → Reached s → Reached (follow f s is)
+  reached : (s : SinceReturn f) (is : List (Step f good)) → Reached s → Reached (follow f s is)
   reached s [] r = r
   reached s (call i ∷ is) r =
       reached _ is (record {
@@ -47,14 +47,14 @@ module _ {In Held : Type 0} (f : Form In Held) (good : Held → Type 0) (t : Fai
         is =
             ap (λ (e : Entry). record { book = e .left; past = e ∷ s .past }) (t .same (s .held) i (r .now))
             ∙ ap (λ (x : State). next x (f .read i)) (r .is)
-            ∙ run-more (f .read) (fresh (f .bookOf (s .image))) (r .by) i;
+            ∙ run-more (f .read) (startFrom (f .bookOf (s .image))) (r .by) i;
       })
   reached s (back h g ∷ is) r = reached _ is (record { from = g; now = g; by = []; is = refl })
 
   pub since-return : Kinds (f .read) → (h : Held) → good h → (is : List (Step f good))
-      → let s = follow f (returned f h) is in Demand3From (f .bookOf (s .image)) (stateOf f s) × Net (f .bookOf (s .image)) (stateOf f s)
+      → let s = follow f (justReturned f h) is in Demand3From (f .bookOf (s .image)) (stateOf f s) × Net (f .bookOf (s .image)) (stateOf f s)
   since-return kinds h g is =
-      let s = follow f (returned f h) is in
-      let r : Reached s = reached (returned f h) is (record { from = g; now = g; by = []; is = refl }) in
+      let s = follow f (justReturned f h) is in
+      let r : Reached s = reached (justReturned f h) is (record { from = g; now = g; by = []; is = refl }) in
       let image : Book = f .bookOf (s .image) in
       (subst (Demand3From image) (sym (r .is)) (demand-from In (f .read) kinds image (kept (s .image) (r .from)) (r .by)), subst (Net image) (sym (r .is)) (net-from In (f .read) image (r .by)))

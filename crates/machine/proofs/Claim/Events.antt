@@ -17,9 +17,10 @@ use Rattle.machine.specs.Changes.{Event, refusing, isGateway, isCancel, 
 use Rattle.machine.specs.GatewayCancel.{gatewayCancelInFlight}
 use Rattle.machine.specs.Amend.{cancel, replace, replaceGoes, sendFailed, resendable}
 use Rattle.store.specs.Finds.{findName, findDownstream}
-use Rattle.machine.specs.Machine.{factsOf, orderLink, onReport}
+use Rattle.machine.specs.Machine.{findingsOf, orderLink, onReport}
 use Rattle.machine.specs.Rules.{triesRule}
-use Rattle.machine.specs.History.{readAs, spoken}
+use Rattle.machine.specs.History.{readAs}
+use Rattle.records.specs.Answer.{chosen}
 use Rattle.machine.specs.Claim.{starts, cancelsIn}
 use Rattle.machine.specs.declared.Change.{Change}
 use Rattle.machine.proofs.Claim.Ruled.{Ruled, order-ruled, request-ruled, done-none}
@@ -27,7 +28,7 @@ use Rattle.machine.proofs.Claim.Walk.{found-request, found-text, found-
 use Rattle.machine.proofs.Claim.Filled.{Moved, handles-moved}
 use Rattle.machine.proofs.Claim.Turn.{asksAt, find-cong, gateway-cancels}
 use Rattle.machine.proofs.Claim.Shapes.{Idle, Rests, rests, sends, reject-rests, report-rests, unknown-idle, Falls, stays, falls, Failed, send-failed, Resent, idly, again, failing, unsent-resent, refuse-idle, status-idle, cancel-out, cancel-fields, replace-fields, waits, goes, Asked, declined, begins, cancelOrder-asked}
-use Rattle.machine.proofs.Claim.Steps.{Shape, idle, repeats, client, gateway, begins!, fails!, Shaped, facts-index}
+use Rattle.machine.proofs.Claim.Steps.{Shape, idle, repeats, client, gateway, begins!, fails!, Shaped, findings-index}
 
 pub asks-none : (b : Book) (e : Event) → eqb (e .kind) 9 ≡ false → (j : ℕ) → asksAt j b (readAs e) ≡ false
 asks-none b e z j = ap (λ (x : Bool). x && maybe false (λ i. eqb i j && starts b i) (findName b (e .ids .name))) z
@@ -40,22 +41,22 @@ module _ (b : Book) (e : Event) (i : ℕ) (c : Change) (n₉ : eqb (e .kind) 9 �
   idle-shaped : Idle (orderIn b i) c → Shaped b e i c
   idle-shaped d = plainly (idle (asks-none b e n₉ i) (d .silent) (inl (d .adds)) (λ hg. let (x, t, u) = d .near .gate hg in (x, t, λ z. clash _ z n₇)))
 
-  rests-shaped : eqb (e .kind) 2 ≡ false → Rests (factsOf b (i + 1)) (orderIn b i) c → Shaped b e i c
+  rests-shaped : eqb (e .kind) 2 ≡ false → Rests (findingsOf b (i + 1)) (orderIn b i) c → Shaped b e i c
   rests-shaped n₂ (rests d) = idle-shaped d
   rests-shaped n₂ (sends d) = plainly (gateway n₇ n₂ (d .out) (d .by-gateway) (inr (asks-none b e n₉ i, d .from, d .room, d .more)))
 
 refusing-shaped : (b : Book) (e : Event) (i n : ℕ) → eqb (e .kind) 9 ≡ false → eqb (e .kind) 7 ≡ false → Shaped b e i (refusing n)
-unfolding refusing spoken if_then_else_ cancelsIn hasGateway
+unfolding refusing if_then_else_ cancelsIn hasGateway
 refusing-shaped b e i n n₉ n₇ = plainly b e i _ n₉ n₇ (idle (asks-none b e n₉ i) refl (inl refl) (λ h. clash false h refl))
 
 has-same : (o p : Order) → p .gateway ≡ o .gateway → hasGateway p ≡ true → hasGateway o ≡ true
 unfolding hasGateway
 has-same o p y h = sym (ap (λ (g : GatewayCancel). not (eqb (g .origdownstream) 0)) y) ∙ h
 
-replaced-shaped : (b : Book) (e : Event) (i : ℕ) → triesRule (orderIn b i .gateway) ≡ true → eqb (e .kind) 9 ≡ false → eqb (e .kind) 7 ≡ false → Shaped b e i (replaceGoes (factsOf b (i + 1)) (orderIn b i) e)
+replaced-shaped : (b : Book) (e : Event) (i : ℕ) → triesRule (orderIn b i .gateway) ≡ true → eqb (e .kind) 9 ≡ false → eqb (e .kind) 7 ≡ false → Shaped b e i (replaceGoes (findingsOf b (i + 1)) (orderIn b i) e)
 replaced-shaped b e i rule n₉ n₇ =
-    let (x, y, z, w) = replace-fields (factsOf b (i + 1)) (orderIn b i) rule e in
-    plainly b e i _ n₉ n₇ (idle (asks-none b e n₉ i) z (inr (x, w ∙ facts-index b i))
+    let (x, y, z, w) = replace-fields (findingsOf b (i + 1)) (orderIn b i) rule e in
+    plainly b e i _ n₉ n₇ (idle (asks-none b e n₉ i) z (inr (x, w ∙ findings-index b i))
     (λ hg. (has-same (orderIn b i) _ y hg, ap (λ (g : GatewayCancel). g .tries) y, λ w. clash _ w n₇)))
 
 module _ (b : Book) (r : Ruled b) (e : Event) (above : 0 < e .kind) (below : e .kind ≤ 9) where
@@ -65,17 +66,17 @@ module _ (b : Book) (r : Ruled b) (e : Event) (above : 0 < e .kind) (below : e .
   rule-of : (k : ℕ) → findDownstream b (e .ids .downstream) ≡ some k → triesRule (requestsOrder b k .gateway) ≡ true
   rule-of k w = rule (requestIn b k .order) (request-ruled b r k (found-request b (e .ids .downstream) k w) .placed)
 
-  cancel-shaped : eqb (e .kind) 2 ≡ true → (i : ℕ) → i < length (b .orders) → (order : ℕ) (full : Bool) → Shaped b e i (cancel (factsOf b (i + 1)) order full (orderIn b i) e)
+  cancel-shaped : eqb (e .kind) 2 ≡ true → (i : ℕ) → i < length (b .orders) → (order : ℕ) (full : Bool) → Shaped b e i (cancel (findingsOf b (i + 1)) order full (orderIn b i) e)
   unfolding cancel
   cancel-shaped k i h order full =
       let n₉ = not-kind e 2 9 k refl in
       let n₇ = not-kind e 2 7 k refl in
       split-if (Shaped b e i) _ (λ t. idle-shaped b e i _ n₉ n₇ (status-idle _ _ (rule i h) e))
       (λ t. split-if (Shaped b e i) _ (λ u. idle-shaped b e i _ n₉ n₇ (refuse-idle _ _ (rule i h) _ e _))
-      (λ u. let (x, y) = cancel-fields (factsOf b (i + 1)) (orderIn b i) (rule i h) e in
+      (λ u. let (x, y) = cancel-fields (findingsOf b (i + 1)) (orderIn b i) (rule i h) e in
       plainly b e i _ n₉ n₇ (client (asks-none b e n₉ i) n₇ k (cancel-out _ _ (rule i h) e) x y)))
 
-  replace-shaped : eqb (e .kind) 3 ≡ true → (i : ℕ) → i < length (b .orders) → (order : ℕ) (full : Bool) → Shaped b e i (replace (factsOf b (i + 1)) order full (orderIn b i) e)
+  replace-shaped : eqb (e .kind) 3 ≡ true → (i : ℕ) → i < length (b .orders) → (order : ℕ) (full : Bool) → Shaped b e i (replace (findingsOf b (i + 1)) order full (orderIn b i) e)
   unfolding replace
   replace-shaped k i h order full =
       let n₉ = not-kind e 3 9 k refl in
@@ -85,7 +86,7 @@ module _ (b : Book) (r : Ruled b) (e : Event) (above : 0 < e .kind) (below : e .
       (λ u. split-if (Shaped b e i) _ (λ v. refusing-shaped b e i 6 n₉ n₇) (λ v. replaced-shaped b e i (rule i h) n₉ n₇)))
 
   report-shaped : eqb (e .kind) 4 ≡ true → (k : ℕ) → findDownstream b (e .ids .downstream) ≡ some k
-      → Shaped b e (requestIn b k .order) (onReport e (factsOf b (orderLink b k)) (k + 1) (requestIn b k) (requestsOrder b k))
+      → Shaped b e (requestIn b k .order) (onReport e (findingsOf b (orderLink b k)) (k + 1) (requestIn b k) (requestsOrder b k))
   unfolding onReport
   report-shaped z k w =
       let n₉ = not-kind e 4 9 z refl in
@@ -95,7 +96,7 @@ module _ (b : Book) (r : Ruled b) (e : Event) (above : 0 < e .kind) (below : e .
 
   -- a failed send, told by event 7
   failed-shaped : eqb (e .kind) 7 ≡ true → (k : ℕ) (w : findDownstream b (e .ids .downstream) ≡ some k)
-      → (c : Change) → Failed (factsOf b (orderLink b k)) (requestsOrder b k) (rule-of k w) (k + 1) (requestIn b k) (e .venue) c → Shaped b e (requestIn b k .order) c
+      → (c : Change) → Failed (findingsOf b (orderLink b k)) (requestsOrder b k) (rule-of k w) (k + 1) (requestIn b k) (e .venue) c → Shaped b e (requestIn b k .order) c
   failed-shaped z k w c f = record {
     alone = λ j n. asks-none b e n₉ j;
     spares = λ y. (f .supersedes, λ j p. own j p (f .answers));
@@ -112,7 +113,7 @@ module _ (b : Book) (r : Ruled b) (e : Event) (above : 0 < e .kind) (below : e .
       own : (j : ℕ) → c .requests .answered ≡ j + 1 → (c .requests .answered ≡ 0) ⊎ (c .requests .answered ≡ k + 1) → requestIn b j .order ≡ requestIn b k .order
       own j p x = ap (λ (n : ℕ). requestIn b n .order) (sym (only j p x))
 
-      by : Falls (factsOf b (orderLink b k)) (requestsOrder b k) (rule-of k w) (k + 1) (requestIn b k) (e .venue) c → Shape b e (requestIn b k .order) c
+      by : Falls (findingsOf b (orderLink b k)) (requestsOrder b k) (rule-of k w) (k + 1) (requestIn b k) (e .venue) c → Shape b e (requestIn b k .order) c
       by (stays d g) =
           idle (asks-none b e n₉ _) (d .silent) (inl (d .adds))
           (λ hg. let (x, t, u) = d .near .gate hg in (x, t, λ y j p. calm j p hg (true-or-false (isGateway (requestIn b k))) g))
@@ -130,7 +131,7 @@ module _ (b : Book) (r : Ruled b) (e : Event) (above : 0 < e .kind) (below : e .
 
   -- sent again, by event 8; what cannot be sent again is of a done order
   resent-shaped : eqb (e .kind) 8 ≡ true → (k : ℕ) (w : findDownstream b (e .ids .downstream) ≡ some k)
-      → (c : Change) → Resent (factsOf b (orderLink b k)) (requestsOrder b k) (rule-of k w) (k + 1) (requestIn b k) (e .venue) c → Shaped b e (requestIn b k .order) c
+      → (c : Change) → Resent (findingsOf b (orderLink b k)) (requestsOrder b k) (rule-of k w) (k + 1) (requestIn b k) (e .venue) c → Shaped b e (requestIn b k .order) c
   resent-shaped z k w c s = by c s
     where
       n₉ : eqb (e .kind) 9 ≡ false
@@ -146,7 +147,7 @@ module _ (b : Book) (r : Ruled b) (e : Event) (above : 0 < e .kind) (below : e .
       done! true y v p q h = clash true refl p
 
       rest : (c : Change) → (resendable (requestIn b k) (e .venue) (requestsOrder b k) && isCancel (requestIn b k) ≡ false)
-          → Falls (factsOf b (orderLink b k)) (requestsOrder b k) (rule-of k w) (k + 1) (requestIn b k) (e .venue) c → Shaped b e (requestIn b k .order) c
+          → Falls (findingsOf b (orderLink b k)) (requestsOrder b k) (rule-of k w) (k + 1) (requestIn b k) (e .venue) c → Shaped b e (requestIn b k .order) c
       rest c h (stays d g) = idle-shaped b e _ c n₉ n₇ d
       rest c h (falls x) =
           let y : isDone (requestsOrder b k .state .status) ≡ true =
@@ -154,14 +155,14 @@ module _ (b : Book) (r : Ruled b) (e : Event) (above : 0 < e .kind) (below : e .
           (ap (λ (t : Bool). resendable (requestIn b k) (e .venue) (requestsOrder b k) && t) (sym (gateway-cancels _ (x .by-gateway))) ∙ h)) in
           clash _ (x .from) (done-none (requestsOrder b k) (order-ruled b r (requestIn b k .order) (request-ruled b r k (found-request b (e .ids .downstream) k w) .placed) .done) y)
 
-      by : (c : Change) → Resent (factsOf b (orderLink b k)) (requestsOrder b k) (rule-of k w) (k + 1) (requestIn b k) (e .venue) c → Shaped b e (requestIn b k .order) c
+      by : (c : Change) → Resent (findingsOf b (orderLink b k)) (requestsOrder b k) (rule-of k w) (k + 1) (requestIn b k) (e .venue) c → Shaped b e (requestIn b k .order) c
       by c (idly d) = idle-shaped b e _ c n₉ n₇ d
       by c (again d) =
           plainly b e _ c n₉ n₇
           (repeats (asks-none b e n₉ _) n₇ (requestIn b k .downstream) k (find-cong b _ (e .ids .downstream) (found-text b (e .ids .downstream) k w) ∙ w) (d .is-cancel) (d .says) (d .adds) (d .same-order))
       by c (failing h n q) =
           subst (Shaped b e (requestIn b k .order)) (sym q)
-          (rest (sendFailed (factsOf b (orderLink b k)) (k + 1) (requestIn b k) (e .venue) n (requestsOrder b k)) h (send-failed _ _ (rule-of k w) (k + 1) (requestIn b k) (e .venue) n .shape))
+          (rest (sendFailed (findingsOf b (orderLink b k)) (k + 1) (requestIn b k) (e .venue) n (requestsOrder b k)) h (send-failed _ _ (rule-of k w) (k + 1) (requestIn b k) (e .venue) n .shape))
 
   -- event 9
   asks-at : (i j : ℕ) → findName b (e .ids .name) ≡ some i → e .kind ≡ 9 → asksAt j b (readAs e) ≡ eqb i j && starts b i
@@ -169,7 +170,7 @@ module _ (b : Book) (r : Ruled b) (e : Event) (above : 0 < e .kind) (below : e .
       ap (λ (x : ℕ). eqb x 9 && maybe false (λ i. eqb i j && starts b i) (findName b (e .ids .name))) k ∙ maybe-some _ i _ _ w
 
   asked-shaped : e .kind ≡ 9 → (i : ℕ) (w : findName b (e .ids .name) ≡ some i) (c : Change)
-      → Asked (factsOf b (i + 1)) (orderIn b i) (rule i (found-order b (e .ids .name) i w)) c → Shaped b e i c
+      → Asked (findingsOf b (i + 1)) (orderIn b i) (rule i (found-order b (e .ids .name) i w)) c → Shaped b e i c
   asked-shaped z i w c s = record {
     alone = λ j n. asks-at i j w z ∙ ap (λ (x : Bool). x && starts b i) (ne-eqb i j (λ y. n (sym y)));
     spares = λ y. clash _ y n₇;
@@ -185,14 +186,14 @@ module _ (b : Book) (r : Ruled b) (e : Event) (above : 0 < e .kind) (below : e .
       here : asksAt i b (readAs e) ≡ starts b i
       here = asks-at i i w z ∙ ap (λ (x : Bool). x && starts b i) (eq-eqb i i refl)
 
-      not-started : (isDone (orderIn b i .state .status) ≡ true) ⊎ (gatewayCancelInFlight (factsOf b (i + 1)) (orderIn b i) ≡ true) → starts b i ≡ false
-      not-started (inl d) = unfold starts in ap (λ (x : Bool). not x && not (gatewayCancelInFlight (factsOf b (i + 1)) (orderIn b i))) d
+      not-started : (isDone (orderIn b i .state .status) ≡ true) ⊎ (gatewayCancelInFlight (findingsOf b (i + 1)) (orderIn b i) ≡ true) → starts b i ≡ false
+      not-started (inl d) = unfold starts in ap (λ (x : Bool). not x && not (gatewayCancelInFlight (findingsOf b (i + 1)) (orderIn b i))) d
       not-started (inr g) = unfold starts in ap (λ (x : Bool). not (isDone (orderIn b i .state .status)) && not x) g ∙ both-false (not (isDone (orderIn b i .state .status)))
 
-      started : isDone (orderIn b i .state .status) ≡ false → gatewayCancelInFlight (factsOf b (i + 1)) (orderIn b i) ≡ false → starts b i ≡ true
+      started : isDone (orderIn b i .state .status) ≡ false → gatewayCancelInFlight (findingsOf b (i + 1)) (orderIn b i) ≡ false → starts b i ≡ true
       started d g = unfold starts in both-hold _ _ (ap not d) (ap not g)
 
-      by : Asked (factsOf b (i + 1)) (orderIn b i) (rule i (found-order b (e .ids .name) i w)) c → Shape b e i c
+      by : Asked (findingsOf b (i + 1)) (orderIn b i) (rule i (found-order b (e .ids .name) i w)) c → Shape b e i c
       by (declined p d) = idle (here ∙ not-started p) (d .silent) (inl (d .adds)) (λ hg. let (x, t, u) = d .near .gate hg in (x, t, λ y. clash _ y n₇))
       by (begins d g (waits q a t)) = begins! (here ∙ started d g) q a t
       by (begins d g (goes u x t)) = gateway n₇ n₂ u x (inl (here ∙ started d g, t))

@@ -14,7 +14,7 @@ use borrow.Author.Tests.{leb-true, eqb-true, eq-eqb, ne-eqb, le-leb, lt-leb}
 use Rattle.prelude.specs.Below.{first-some, first-hit, first-ext, First}
 use Rattle.prelude.specs.Cases.{if_then_else_, maybe, split-if, if-true, if-false, true-or-false, none-some}
 use Rattle.prelude.specs.Texts.{sameText}
-use Rattle.prelude.specs.Totals.{totalOf, Every, every[], every∷, total-append, every-map}
+use Rattle.prelude.specs.Totals.{totalOf, Every, every[], every∷, total-append, total-set, every-map}
 use Rattle.prelude.specs.declared.Text.{Text}
 use Rattle.store.specs.declared.Order.{Order}
 use Rattle.store.specs.Book.{Book, orderIn, requestIn}
@@ -23,14 +23,14 @@ use Rattle.machine.specs.Orders.{isDone}
 use Rattle.machine.specs.Changes.{Event, Message, unchanged, refusing, adding}
 use Rattle.machine.specs.Amend.{cancel, replace}
 use Rattle.store.specs.Finds.{findName}
-use Rattle.machine.specs.Machine.{factsOf, bookedOrder, ordersAfter, after, onReport, stepOf}
+use Rattle.machine.specs.Machine.{findingsOf, bookedOrder, ordersAfter, after, onReport, stepOf}
 use Rattle.machine.specs.Rules.{rules, filledRule}
-use Rattle.machine.specs.History.{Decoded, unread, readAs, comesTo, spoken, messagesOf, leftBy, lineOf, State, next, run}
+use Rattle.machine.specs.History.{Decoded, unread, readAs, comesTo, messagesOf, leftBy, lineOf, State, next, run, startFrom}
+use Rattle.records.specs.Answer.{chosen}
 use Rattle.machine.specs.Claim.{statusOf, Each}
-use Rattle.machine.specs.Since.{fresh}
 use Rattle.machine.specs.declared.Change.{Change}
 use Rattle.machine.proofs.Kept.Lift.{BookKept}
-use Rattle.machine.proofs.Claim.Laws.{tells, Whose, whose, toldBy, filledBy, total-set}
+use Rattle.machine.proofs.Claim.Laws.{tells, Whose, whose, lastQtyBy, filledBy}
 use Rattle.machine.proofs.Claim.Moves.{Moves, more-moves, cancelOrder-moves, failed-moves, unsent-moves, told-refusal, status-moves, cancel-goes-moves, replace-goes-moves, unknown-moves, reject-moves, report-moves}
 use Rattle.machine.proofs.Claim.Ruled.{ruled}
 use Rattle.machine.proofs.Claim.Walk.{booking, Did, Roomy, turned-away, no-order, on-order, new-order, found-order, Either, Handles, step-walk, refusing-bystands, refusing-away}
@@ -41,12 +41,12 @@ module _ (b : Book) (e : Event) where
   unfoldable pub Moved : ℕ → Change → Type 0
   Moved i c = Moves 2 (i + 1) (orderIn b i) c
 
-  facts-place : (p : ℕ) → factsOf b p .place ≡ p
-  unfolding factsOf
-  facts-place p = refl
+  findings-place : (p : ℕ) → findingsOf b p .place ≡ p
+  unfolding findingsOf
+  findings-place p = refl
 
-  moved : (i n : ℕ) (c : Change) → n ≤ 2 → Moves n (factsOf b (i + 1) .place) (orderIn b i) c → Either (Moved i c) c
-  unfolding Either Moved factsOf
+  moved : (i n : ℕ) (c : Change) → n ≤ 2 → Moves n (findingsOf b (i + 1) .place) (orderIn b i) c → Either (Moved i c) c
+  unfolding Either Moved findingsOf
   moved i n c l m = inr (m .taken, more-moves n 2 _ _ _ l m)
 
   pub handles-moved : Handles Moved b e
@@ -130,12 +130,12 @@ persists-trans a b c p q = record {
 pub record Advances (b : Book) (ms : List Message) (b′ : Book) : Type 0 where
   pub persists : Persists b b′
   -- whichever orders are looked at: what is told is what is filled
-  pub net : (t : Whose → Bool) → totalOf (filledBy t) (b .orders) + totalOf (toldBy t) ms ≡ totalOf (filledBy t) (b′ .orders)
+  pub net : (t : Whose → Bool) → totalOf (filledBy t) (b .orders) + totalOf (lastQtyBy t) ms ≡ totalOf (filledBy t) (b′ .orders)
   pub ordered : ((i : ℕ) → i < length (b .orders) → orderIn b i .state .cumqty ≤ orderIn b i .terms .qty)
       → (i : ℕ) → i < length (b′ .orders) → orderIn b′ i .state .cumqty ≤ orderIn b′ i .terms .qty
 
 -- the orders stay, and no report goes out
-still : (b : Book) (ms : List Message) (b′ : Book) → b′ .orders ≡ b .orders → ((t : Whose → Bool) → totalOf (toldBy t) ms ≡ 0) → Advances b ms b′
+still : (b : Book) (ms : List Message) (b′ : Book) → b′ .orders ≡ b .orders → ((t : Whose → Bool) → totalOf (lastQtyBy t) ms ≡ 0) → Advances b ms b′
 still b ms b′ e q =
     subst (λ (os : List Order). Advances b ms (record { setting = b′ .setting; orders = os; requests = b′ .requests })) (sym e)
     (record {
@@ -235,15 +235,15 @@ refused-of Q b i c h q =
     let s = refused-line b i c h in
     subst (λ (ms : List Message). Q ms (lineOf b i c .left)) (sym (s .0)) (subst (λ (x : Book). Q [] x) (sym (s .1)) q)
 
-pub booking-place : (b : Book) (e : Event) → (booking b e .refusal ≡ 0) × (booking b e .place ≡ length (b .orders) + 1) × (booking b e .order ≡ bookedOrder b e)
+pub booking-place : (b : Book) (e : Event) → (booking b e .refusal ≡ 0) × (booking b e .place ≡ length (b .orders) + 1) × (booking b e .order ≡ bookedOrder (length (b .requests) + 1) e)
 unfolding adding unchanged
 booking-place b e = (refl, refl, refl)
 
 pub booking-silent : (b : Book) (e : Event) → tells (booking b e) ≡ []
-unfolding adding unchanged spoken if_then_else_
+unfolding adding unchanged if_then_else_
 booking-silent b e = refl
 
-booked-none : (b : Book) (e : Event) → bookedOrder b e .state .cumqty ≡ 0
+booked-none : (b : Book) (e : Event) → bookedOrder (length (b .requests) + 1) e .state .cumqty ≡ 0
 unfolding bookedOrder
 booked-none b e = refl
 
@@ -258,7 +258,7 @@ module _ (b : Book) (e : Event) where
       line-of (Advances b) b i c t (changed-advances b c j h m (after b c) (after-orders b c ∙ orders-set (b .orders) c j h (m .there)))
   did-advances i c (new-order k u) =
       let p = booking-place b e in
-      let o = bookedOrder b e in
+      let o = bookedOrder (length (b .requests) + 1) e in
       line-of (Advances b) b i (booking b e) (p .0)
       (subst (λ (ms : List Message). Advances b ms (after b (booking b e))) (sym (booking-silent b e))
       (booked-advances b o (after b (booking b e))
@@ -295,7 +295,7 @@ filled-within : (o : Order) → filledRule o ≡ true → o .state .cumqty ≤ o
 unfolding filledRule
 filled-within o e = leb-true _ _ e
 
-start-steady : (image : Book) → BookKept image → Steady image (fresh image)
+start-steady : (image : Book) → BookKept image → Steady image (startFrom image)
 start-steady image good = record {
   since = persists-same image;
   ordered = λ i h. filled-within (orderIn image i) (good .order i h .filled);
@@ -316,5 +316,5 @@ module _ {In : Type 0} (read : In → Decoded) (image : Book) where
   run-steady s [] f = f
   run-steady s (i ∷ is) f = run-steady (next s (read i)) is (next-steady image s (read i) f)
 
-  pub steady : BookKept image → (is : List In) → Steady image (run read (fresh image) is)
-  steady good is = run-steady (fresh image) is (start-steady image good)
+  pub steady : BookKept image → (is : List In) → Steady image (run read (startFrom image) is)
+  steady good is = run-steady (startFrom image) is (start-steady image good)

@@ -13,13 +13,13 @@ use Rattle.prelude.specs.Texts.{sameText}
 use Rattle.prelude.specs.Totals.{totalOf}
 use Rattle.prelude.specs.declared.Text.{Text}
 use Rattle.store.specs.declared.Order.{Order}
-use Rattle.machine.specs.Codes.{reportKind}
+use Rattle.machine.specs.Constants.{reportKind}
 use Rattle.machine.specs.Changes.{Message, telling}
-use Rattle.machine.specs.History.{spoken}
+use Rattle.records.specs.Answer.{chosen}
 use Rattle.machine.specs.declared.Change.{Change}
 
 abbrev pub tells : Change → List Message
-tells c = spoken (c .output .count) (c .output .first) (c .output .second)
+tells c = chosen (c .output .count) (c .output .first) (c .output .second)
 
 -- what never changes of an order, and what a report of it says
 pub record Whose : Type 0 where
@@ -35,8 +35,8 @@ abbrev pub said : Message → Whose
 said m = record { client = m .client; name = m .ids .name; symbol = m .ids .symbol; side = m .terms .side }
 
 -- of the orders that pass a test: the LastQty of a report, and what is filled
-abbrev pub toldBy : (Whose → Bool) → Message → ℕ
-toldBy p m = if eqb (m .kind) reportKind && p (said m) then m .exec .lastqty else 0
+abbrev pub lastQtyBy : (Whose → Bool) → Message → ℕ
+lastQtyBy p m = if eqb (m .kind) reportKind && p (said m) then m .exec .lastqty else 0
 
 abbrev pub filledBy : (Whose → Bool) → Order → ℕ
 filledBy p o = if p (whose o) then o .state .cumqty else 0
@@ -50,12 +50,12 @@ filled-same p o q n w c = ap (λ (x : Whose). if p x then q .state .cumqty else 
 
 -- a message goes behind the one that is there
 pub tells-more : (m : Message) (c : Change) → c .output .count ≤ 1 → tells (telling m c) ≡ tells c ++ (m ∷ [])
-unfolding telling spoken if_then_else_
+unfolding telling if_then_else_
 tells-more m c h = go (eqb (c .output .count) 0) refl
   where
     go : (t : Bool) → eqb (c .output .count) 0 ≡ t
-        → spoken (if t then 1 else 2) (if t then m else c .output .first) (if t then c .output .second else m)
-        ≡ spoken (c .output .count) (c .output .first) (c .output .second) ++ (m ∷ [])
+        → chosen (if t then 1 else 2) (if t then m else c .output .first) (if t then c .output .second else m)
+        ≡ chosen (c .output .count) (c .output .first) (c .output .second) ++ (m ∷ [])
     go true e = rw e
     go false e =
         let n : (c .output .count ≡ 0 → ⊥) = eqb-false (c .output .count) 0 e in
@@ -67,24 +67,3 @@ unfolding telling
 count-more m c n h =
     split-if (λ (x : ℕ). x ≤ suc n) (eqb (c .output .count) 0) (λ e. omega arith)
     (λ e. let z : (c .output .count ≡ 0 → ⊥) = eqb-false (c .output .count) 0 e in omega arith)
-
--- ---- what a list comes to
-
-module _ {A : Type 0} (f : A → ℕ) where
-  -- one is changed: what they come to changes by its part
-  pub total-set : (l : List A) (i : ℕ) (x d : A) → i < length l → totalOf f (set l i x) + f (getD l i d) ≡ totalOf f l + f x
-  total-set [] i x d h = absurd (not-suc-le-zero h)
-  total-set (y ∷ l) zero x d h = omega arith
-  total-set (y ∷ l) (suc i) x d h = let r : totalOf f (set l i x) + f (getD l i d) ≡ totalOf f l + f x = total-set l i x d (le-of-suc-le-suc h) in omega arith
-
-  total-none : (l : List A) (d : A) → ((i : ℕ) → i < length l → f (getD l i d) ≡ 0) → totalOf f l ≡ 0
-  total-none [] d n = refl
-  total-none (x ∷ l) d n = omega (arith, n 0 (omega arith), total-none l d (λ i h. n (suc i) (omega arith)))
-
-  -- one alone counts
-  pub total-one : (l : List A) (j : ℕ) (d : A) → f d ≡ 0 → ((i : ℕ) → i < length l → (i ≡ j → ⊥) → f (getD l i d) ≡ 0) → totalOf f l ≡ f (getD l j d)
-  total-one [] j d z n = sym z
-  total-one (x ∷ l) zero d z n = omega (arith, total-none l d (λ i h. n (suc i) (omega arith) (λ w. omega arith)))
-  total-one (x ∷ l) (suc j) d z n =
-      let r : totalOf f l ≡ f (getD l j d) = total-one l j d z (λ i h w. n (suc i) (omega arith) (λ v. w (omega arith))) in
-      omega (arith, n 0 (omega arith) (λ w. omega arith))

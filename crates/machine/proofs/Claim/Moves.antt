@@ -15,21 +15,22 @@ use Rattle.store.specs.declared.Order.{Order}
 use Rattle.store.specs.declared.Request.{Request}
 use Rattle.store.specs.declared.Pending.{Pending}
 use Rattle.store.specs.declared.GatewayCancel.{GatewayCancel}
-use Rattle.machine.specs.Codes.{pendingNew, rejected}
-use Rattle.machine.specs.Orders.{isDone, setStatus, recordVenueOrderId, applyReplace, pendingTerms, nextExec, withPending, withGateway, noPending}
+use Rattle.format.specs.Codes.{pendingNew, rejected}
+use Rattle.machine.specs.Orders.{isDone, setStatus, recordVenueOrderId, applyReplace, pendingTerms, nextExec, withPending, withGateway}
+use Rattle.store.specs.Orders.{noPending}
 use Rattle.machine.specs.Messages.{report, cancelReject, toVenue, newOrder, cancelRequest, replaceRequest}
 use Rattle.machine.specs.Changes.{Event, Message, unchanged, withOrder, answering, superseding, adding, telling, alarming, isGateway, isAnswered, numberedOrder}
 use Rattle.machine.specs.GatewayCancel.{begun, trySent, givenUp, sendGatewayCancel, cancelOrder, resumeGatewayCancel, stuck, retryGatewayCancel, gatewayCancelRefused}
 use Rattle.machine.specs.Amend.{refuse, statusReport, cancelGoes, newTerms, newPending, replaceGoes, notPending, refusedOrder, refuseRequest, venueCancelReject, sendRefused, firstFailed, sendFailed, unsent}
 use Rattle.machine.specs.Report.{unknownAtVenue, stale, droppedStale, droppedRepeat, accepts, orderedQty, reportedOrder, clientReport, settles, applyReport, venueReport}
-use Rattle.machine.specs.History.{spoken}
+use Rattle.records.specs.Answer.{chosen}
 use Rattle.machine.specs.Claim.{lastQty}
-use Rattle.machine.specs.declared.Facts.{Facts}
+use Rattle.machine.specs.declared.Findings.{Findings}
 use Rattle.machine.specs.declared.Note.{Note}
 use Rattle.machine.specs.declared.Refusal.{Refusal}
 use Rattle.machine.specs.declared.Refused.{Refused}
 use Rattle.machine.specs.declared.Change.{Change}
-use Rattle.machine.proofs.Claim.Laws.{tells, Whose, whose, toldBy, filledBy, bears, filled-same, tells-more, count-more}
+use Rattle.machine.proofs.Claim.Laws.{tells, Whose, whose, lastQtyBy, filledBy, bears, filled-same, tells-more, count-more}
 
 -- ---- the order alone
 
@@ -51,7 +52,7 @@ keeps-trans o p q k l = record {
   done = λ h. l .done (ap isDone (k .done h) ∙ h) ∙ k .done h;
 }
 
-numbered-keeps : (f : Facts) (cancels : Bool) (o : Order) → Keeps o (numberedOrder f cancels o)
+numbered-keeps : (f : Findings) (cancels : Bool) (o : Order) → Keeps o (numberedOrder f cancels o)
 unfolding numberedOrder
 numbered-keeps f cancels o = record { same = refl; same-cum = refl; same-qty = refl; done = λ h. refl }
 
@@ -95,7 +96,7 @@ pub record Moves (n p : ℕ) (o : Order) (c : Change) : Type 0 where
   pub there : c .place ≡ p
   pub within : c .output .count ≤ n
   pub same : whose (c .order) ≡ whose o
-  pub told : (t : Whose → Bool) → totalOf (toldBy t) (tells c) + filledBy t o ≡ filledBy t (c .order)
+  pub told : (t : Whose → Bool) → totalOf (lastQtyBy t) (tells c) + filledBy t o ≡ filledBy t (c .order)
   pub ordered : o .state .cumqty ≤ o .terms .qty → c .order .state .cumqty ≤ c .order .terms .qty
   pub done : isDone (o .state .status) ≡ true → c .order .state .status ≡ o .state .status
 
@@ -111,7 +112,7 @@ more-moves n m p o c l k = record {
 }
 
 pub unchanged-moves : (p : ℕ) (o q : Order) → Keeps o q → Moves 0 p o (unchanged p q)
-unfolding unchanged spoken if_then_else_
+unfolding unchanged if_then_else_
 unchanged-moves p o q k = record {
   taken = refl;
   there = refl;
@@ -171,7 +172,7 @@ module _ (n p : ℕ) (o : Order) (c : Change) (m : Moves n p o c) where
   }
 
   -- a message that reports no rise
-  telling-moves : (x : Message) → n ≤ 1 → ((t : Whose → Bool) → toldBy t x ≡ 0) → Moves (suc n) p o (telling x c)
+  telling-moves : (x : Message) → n ≤ 1 → ((t : Whose → Bool) → lastQtyBy t x ≡ 0) → Moves (suc n) p o (telling x c)
   unfolding telling
   telling-moves x l q = record {
     taken = m .taken;
@@ -180,12 +181,12 @@ module _ (n p : ℕ) (o : Order) (c : Change) (m : Moves n p o c) where
     same = m .same;
     told = λ t.
         let w : c .output .count ≤ 1 = omega (arith, m .within) in
-        ap (λ (ms : List Message). totalOf (toldBy t) ms + filledBy t o) (tells-more x c w) ∙ ap (λ (k : ℕ). k + filledBy t o) (still t) ∙ m .told t;
+        ap (λ (ms : List Message). totalOf (lastQtyBy t) ms + filledBy t o) (tells-more x c w) ∙ ap (λ (k : ℕ). k + filledBy t o) (still t) ∙ m .told t;
     ordered = m .ordered;
     done = m .done;
   }
     where
-      still : (t : Whose → Bool) → totalOf (toldBy t) (tells c ++ (x ∷ [])) ≡ totalOf (toldBy t) (tells c)
+      still : (t : Whose → Bool) → totalOf (lastQtyBy t) (tells c ++ (x ∷ [])) ≡ totalOf (lastQtyBy t) (tells c)
       still t = rw total-append (omega (arith, q t))
 
 -- of an order of another name nothing is told
@@ -203,31 +204,31 @@ module _ {n p : ℕ} {o : Order} {c : Change} (m : Moves n p o c) where
 
 -- ---- messages that report no rise
 
-quiet-cancel : (o : Order) (d : Text) (t : Whose → Bool) → toldBy t (cancelRequest o d) ≡ 0
+quiet-cancel : (o : Order) (d : Text) (t : Whose → Bool) → lastQtyBy t (cancelRequest o d) ≡ 0
 unfolding cancelRequest toVenue if_then_else_
 quiet-cancel o d t = refl
 
-quiet-replace : (o : Order) (d : Text) (terms : Terms) (t : Whose → Bool) → toldBy t (replaceRequest o d terms) ≡ 0
+quiet-replace : (o : Order) (d : Text) (terms : Terms) (t : Whose → Bool) → lastQtyBy t (replaceRequest o d terms) ≡ 0
 unfolding replaceRequest toVenue if_then_else_
 quiet-replace o d terms t = refl
 
-quiet-new : (o : Order) (d : Text) (t : Whose → Bool) → toldBy t (newOrder o d) ≡ 0
+quiet-new : (o : Order) (d : Text) (t : Whose → Bool) → lastQtyBy t (newOrder o d) ≡ 0
 unfolding newOrder toVenue if_then_else_
 quiet-new o d t = refl
 
 quiet-reject : (client : ℕ) (name : Text) (status : ℕ) (clordid origclordid : Text) (responseto : ℕ) (n : Note) (t : Whose → Bool)
-    → toldBy t (cancelReject client name status clordid origclordid responseto n) ≡ 0
+    → lastQtyBy t (cancelReject client name status clordid origclordid responseto n) ≡ 0
 unfolding cancelReject if_then_else_
 quiet-reject client name status clordid origclordid responseto n t = refl
 
 quiet-report : (o : Order) (clordid origclordid : Text) (exectype : ℕ) (price : List ℕ) (n : Note) (t : Whose → Bool)
-    → toldBy t (report o clordid origclordid exectype 0 price n) ≡ 0
+    → lastQtyBy t (report o clordid origclordid exectype 0 price n) ≡ 0
 unfolding report
 quiet-report o clordid origclordid exectype price n t = split-if (λ (x : ℕ). x ≡ 0) _ (λ e. refl) (λ e. refl)
 
 -- ---- the gateway's cancel
 
-send-moves : (n p : ℕ) (o : Order) (f : Facts) (c : Change) → n ≤ 1 → Moves n p o c → Moves (suc n) p o (sendGatewayCancel f c)
+send-moves : (n p : ℕ) (o : Order) (f : Findings) (c : Change) → n ≤ 1 → Moves n p o c → Moves (suc n) p o (sendGatewayCancel f c)
 unfolding sendGatewayCancel
 send-moves n p o f c l m =
     telling-moves n p o _
@@ -235,7 +236,7 @@ send-moves n p o f c l m =
     (order-moves n p o c m _ (keeps-trans _ _ _ (numbered-keeps f true (c .order)) (gateway-keeps (trySent (c .order)) _))) _)
     _ l (quiet-cancel _ _)
 
-pub cancelOrder-moves : (f : Facts) (o : Order) → Moves 1 (f .place) o (cancelOrder f o)
+pub cancelOrder-moves : (f : Findings) (o : Order) → Moves 1 (f .place) o (cancelOrder f o)
 unfolding cancelOrder
 cancelOrder-moves f o =
     split-if (Moves 1 (f .place) o) _ (λ e. still)
@@ -253,7 +254,7 @@ stuck-moves : (n p : ℕ) (o : Order) (c : Change) → Moves n p o c → Moves n
 unfolding stuck
 stuck-moves n p o c m = alarming-moves n p o _ (order-moves n p o c m _ (gateway-keeps (givenUp (c .order)) (c .order))) _
 
-gateway-refused-moves : (p : ℕ) (o : Order) (f : Facts) (n : Note) (c : Change) → Moves 0 p o c → Moves 1 p o (gatewayCancelRefused f n c)
+gateway-refused-moves : (p : ℕ) (o : Order) (f : Findings) (n : Note) (c : Change) → Moves 0 p o c → Moves 1 p o (gatewayCancelRefused f n c)
 unfolding gatewayCancelRefused retryGatewayCancel
 gateway-refused-moves p o f n c m =
     split-if (Moves 1 p o) _ (λ e. more-moves 0 1 _ _ _ (omega arith) m)
@@ -261,14 +262,14 @@ gateway-refused-moves p o f n c m =
     (λ h. split-if (Moves 1 p o) _ (λ k. more-moves 0 1 _ _ _ (omega arith) (stuck-moves 0 p o c m))
     (λ k. send-moves 0 p o f c (omega arith) m)))
 
-pub resume-moves : (p : ℕ) (o : Order) (f : Facts) (c : Change) → Moves 1 p o c → Moves 2 p o (resumeGatewayCancel f c)
+pub resume-moves : (p : ℕ) (o : Order) (f : Findings) (c : Change) → Moves 1 p o c → Moves 2 p o (resumeGatewayCancel f c)
 unfolding resumeGatewayCancel
 resume-moves p o f c m =
     split-if (Moves 2 p o) _ (λ e. send-moves 1 p o f c (omega arith) m) (λ e. more-moves 1 2 _ _ _ (omega arith) m)
 
 -- ---- refusals and failed sends
 
-pub refuse-moves : (f : Facts) (k : ℕ) (q : Request) (venue : ℕ) (r : Refused) (o : Order) → Moves 1 (f .place) o (refuseRequest f k q venue r o)
+pub refuse-moves : (f : Findings) (k : ℕ) (q : Request) (venue : ℕ) (r : Refused) (o : Order) → Moves 1 (f .place) o (refuseRequest f k q venue r o)
 unfolding refuseRequest
 refuse-moves f k q venue r o =
     split-if M _ (λ e. still)
@@ -291,7 +292,7 @@ pending-live : (s : ℕ) → s ≡ pendingNew → isDone s ≡ false
 unfolding isDone
 pending-live s e = rw e
 
-pub failed-moves : (f : Facts) (k : ℕ) (q : Request) (venue : ℕ) (n : Note) (o : Order) → Moves 1 (f .place) o (sendFailed f k q venue n o)
+pub failed-moves : (f : Findings) (k : ℕ) (q : Request) (venue : ℕ) (n : Note) (o : Order) → Moves 1 (f .place) o (sendFailed f k q venue n o)
 unfolding sendFailed firstFailed
 failed-moves f k q venue n o =
     split-if M _ (λ e. still)
@@ -314,7 +315,7 @@ failed-moves f k q venue n o =
     live : isAnswered q || not (eqb (o .state .status) pendingNew) ≡ false → isDone (o .state .status) ≡ false
     live e = pending-live (o .state .status) (eqb-true _ _ (not-false _ (either-false (isAnswered q) _ e .1)))
 
-pub unsent-moves : (f : Facts) (k : ℕ) (q : Request) (venue : ℕ) (o : Order) → Moves 1 (f .place) o (unsent f k q venue o)
+pub unsent-moves : (f : Findings) (k : ℕ) (q : Request) (venue : ℕ) (o : Order) → Moves 1 (f .place) o (unsent f k q venue o)
 unfolding unsent
 unsent-moves f k q venue o =
     split-if M _ (λ e. again _ (quiet-new _ _))
@@ -323,25 +324,25 @@ unsent-moves f k q venue o =
     M : Change → Type 0
     M = Moves 1 (f .place) o
 
-    again : (x : Message) → ((t : Whose → Bool) → toldBy t x ≡ 0) → M (telling x (unchanged (f .place) o))
+    again : (x : Message) → ((t : Whose → Bool) → lastQtyBy t x ≡ 0) → M (telling x (unchanged (f .place) o))
     again x q = telling-moves 0 (f .place) o _ (unchanged-moves (f .place) o o (same-keeps o)) x (omega arith) q
 
 -- ---- the client's requests
 
-pub told-refusal : (f : Facts) (responseto : ℕ) (o : Order) (e : Event) (r : Refusal) → Moves 1 (f .place) o (refuse f responseto o e r)
+pub told-refusal : (f : Findings) (responseto : ℕ) (o : Order) (e : Event) (r : Refusal) → Moves 1 (f .place) o (refuse f responseto o e r)
 unfolding refuse
 told-refusal f responseto o e r = telling-moves 0 (f .place) o _ (unchanged-moves (f .place) o o (same-keeps o)) _ (omega arith) (quiet-reject _ _ _ _ _ _ _)
 
-pub status-moves : (f : Facts) (o : Order) (e : Event) → Moves 1 (f .place) o (statusReport f o e)
+pub status-moves : (f : Findings) (o : Order) (e : Event) → Moves 1 (f .place) o (statusReport f o e)
 unfolding statusReport
 status-moves f o e = telling-moves 0 (f .place) o _ (unchanged-moves (f .place) o _ (told-keeps o)) _ (omega arith) (quiet-report _ _ _ _ _ _)
 
-pub cancel-goes-moves : (f : Facts) (o : Order) (e : Event) → Moves 1 (f .place) o (cancelGoes f o e)
+pub cancel-goes-moves : (f : Findings) (o : Order) (e : Event) → Moves 1 (f .place) o (cancelGoes f o e)
 unfolding cancelGoes
 cancel-goes-moves f o e =
     telling-moves 0 (f .place) o _ (adding-moves 0 (f .place) o _ (unchanged-moves (f .place) o _ (numbered-keeps f true o)) _) _ (omega arith) (quiet-cancel _ _)
 
-pub replace-goes-moves : (f : Facts) (o : Order) (e : Event) → Moves 1 (f .place) o (replaceGoes f o e)
+pub replace-goes-moves : (f : Findings) (o : Order) (e : Event) → Moves 1 (f .place) o (replaceGoes f o e)
 unfolding replaceGoes
 replace-goes-moves f o e =
     telling-moves 0 (f .place) o _
@@ -350,7 +351,7 @@ replace-goes-moves f o e =
 
 -- ---- reports
 
-pub unknown-moves : (f : Facts) (k : ℕ) (o : Order) (e : Event) → Moves 0 (f .place) o (unknownAtVenue f k o e)
+pub unknown-moves : (f : Findings) (k : ℕ) (o : Order) (e : Event) → Moves 0 (f .place) o (unknownAtVenue f k o e)
 unfolding unknownAtVenue
 unknown-moves f k o e =
     split-if M _ (λ h. still) (λ h. split-if M _ (λ h. still) (λ h. split-if M _ (λ h. still) (λ h. alarming-moves 0 (f .place) o _ still _)))
@@ -361,7 +362,7 @@ unknown-moves f k o e =
     still : M (unchanged (f .place) o)
     still = unchanged-moves (f .place) o o (same-keeps o)
 
-pub reject-moves : (f : Facts) (k : ℕ) (q : Request) (o : Order) (e : Event) → Moves 2 (f .place) o (venueCancelReject f k q o e)
+pub reject-moves : (f : Findings) (k : ℕ) (q : Request) (o : Order) (e : Event) → Moves 2 (f .place) o (venueCancelReject f k q o e)
 unfolding venueCancelReject
 reject-moves f k q o e = resume-moves (f .place) o f _ (refuse-moves f k q (e .venue) _ o)
 
@@ -400,7 +401,7 @@ settles-bare p x accepted s k q o c b =
     (λ e. split-if (Bare p x) _ (λ h. record { taken = b .taken; there = b .there; none-yet = b .none-yet; left = b .left }) (λ h. b))
 
 none-told : (c : Change) → c .output .count ≡ 0 → tells c ≡ []
-unfolding spoken if_then_else_
+unfolding if_then_else_
 none-told c e = rw e
 
 module _ (p : ℕ) (o x : Order) (cum qty : ℕ) (g : Grown o x cum qty) (fits : cum ≤ qty) (live : isDone (o .state .status) ≡ false) (c : Change) (b : Bare p x c) where
@@ -415,7 +416,7 @@ module _ (p : ℕ) (o x : Order) (cum qty : ℕ) (g : Grown o x cum qty) (fits :
     within = omega (arith, b .none-yet);
     same = ap whose (b .left) ∙ g .same;
     told = λ t.
-        ap (λ (ms : List Message). totalOf (toldBy t) ms + filledBy t o) (none-told c (b .none-yet))
+        ap (λ (ms : List Message). totalOf (lastQtyBy t) ms + filledBy t o) (none-told c (b .none-yet))
         ∙ (omega (arith, filled-same t o (c .order) (o .state .cumqty) (ap whose (b .left) ∙ g .same) (now-filled ∙ same)));
     ordered = λ h. omega (arith, ap (λ (y : Order). y .state .cumqty) (b .left), ap (λ (y : Order). y .terms .qty) (b .left), g .now, g .most);
     done = λ h. clash _ h live;
@@ -423,7 +424,7 @@ module _ (p : ℕ) (o x : Order) (cum qty : ℕ) (g : Grown o x cum qty) (fits :
 
   -- the client is told of the rise
   rise-moves : (m : Message) (rise : ℕ) → rise + o .state .cumqty ≡ cum
-      → ((t : Whose → Bool) → toldBy t m ≡ (if t (whose x) then rise else 0))
+      → ((t : Whose → Bool) → lastQtyBy t m ≡ (if t (whose x) then rise else 0))
       → Moves 1 p o (telling m c)
   unfolding telling
   rise-moves m rise up says = record {
@@ -432,7 +433,7 @@ module _ (p : ℕ) (o x : Order) (cum qty : ℕ) (g : Grown o x cum qty) (fits :
     within = count-more m c 0 (omega (arith, b .none-yet));
     same = ap whose (b .left) ∙ g .same;
     told = λ t.
-        ap (λ (ms : List Message). totalOf (toldBy t) ms + filledBy t o) only
+        ap (λ (ms : List Message). totalOf (lastQtyBy t) ms + filledBy t o) only
         ∙ rise-of (t (whose o)) (says t ∙ ap (λ (w : Whose). if t w then rise else 0) (g .same)) (filled-same t o (c .order) cum (ap whose (b .left) ∙ g .same) now-filled);
     ordered = λ h. omega (arith, ap (λ (y : Order). y .state .cumqty) (b .left), ap (λ (y : Order). y .terms .qty) (b .left), g .now, g .most);
     done = λ h. clash _ h live;
@@ -446,11 +447,11 @@ module _ (p : ℕ) (o x : Order) (cum qty : ℕ) (g : Grown o x cum qty) (fits :
       rise-of false e f = unfold if_then_else_ in omega (arith, e, f)
 
 says-report : (answers : Bool) (rise : ℕ) (q : Request) (price : List ℕ) (x : Order) (e : Event) (t : Whose → Bool)
-    → toldBy t (clientReport answers rise q price x e) ≡ (if t (whose x) then rise else 0)
+    → lastQtyBy t (clientReport answers rise q price x e) ≡ (if t (whose x) then rise else 0)
 unfolding clientReport report
 says-report answers rise q price x e t = refl
 
-apply-moves : (f : Facts) (k : ℕ) (q : Request) (o : Order) (e : Event) → isDone (o .state .status) ≡ false → o .state .cumqty ≤ e .exec .cumqty
+apply-moves : (f : Findings) (k : ℕ) (q : Request) (o : Order) (e : Event) → isDone (o .state .status) ≡ false → o .state .cumqty ≤ e .exec .cumqty
     → e .exec .cumqty ≤ orderedQty (accepts k q o e) o → Moves 1 (f .place) o (applyReport f k q o e)
 unfolding applyReport
 apply-moves f k q o e live up fits =
@@ -473,7 +474,7 @@ not-stale k q o e h =
     (either-false (isDone (o .state .status) || ltb (e .exec .cumqty) (o .state .cumqty)) _ h .0) in
     (d, ltb-false _ _ l)
 
-pub report-moves : (f : Facts) (k : ℕ) (q : Request) (o : Order) (e : Event) → Moves 2 (f .place) o (venueReport f k q o e)
+pub report-moves : (f : Findings) (k : ℕ) (q : Request) (o : Order) (e : Event) → Moves 2 (f .place) o (venueReport f k q o e)
 unfolding venueReport droppedStale droppedRepeat
 report-moves f k q o e =
     split-if M _ (λ h. resume-moves (f .place) o f _ (refuse-moves f k q (e .venue) _ o))

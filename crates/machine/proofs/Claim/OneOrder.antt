@@ -22,7 +22,7 @@ use Rattle.store.specs.declared.Request.{Request}
 use Rattle.store.specs.Book.{Book, orderIn, requestIn}
 use Rattle.machine.specs.Changes.{Event, Message, refusing}
 use Rattle.store.specs.Finds.{findDownstream}
-use Rattle.machine.specs.Machine.{factsOf, orderLink, after, stepOf}
+use Rattle.machine.specs.Machine.{findingsOf, orderLink, after, stepOf}
 use Rattle.machine.specs.Ranges.{nameRange}
 use Rattle.machine.specs.Rules.{rules, nameNumber, numberIn}
 use Rattle.machine.specs.History.{readAs, comesTo, lineOf}
@@ -35,7 +35,7 @@ use Rattle.machine.proofs.Claim.Walk.{Did, Roomy, turned-away, no-order
 use Rattle.machine.proofs.Claim.Filled.{Moved, handles-moved, orders-set, after-orders, at, beside, long, line-of, refused-of}
 use Rattle.machine.proofs.Claim.Records.{there-other, added-long, added-at, none-kept}
 use Rattle.machine.proofs.Claim.Touches.{Touches, on-report-touches, unknown-touches, reject-touches, failed-touches, unsent-touches}
-use Rattle.machine.proofs.Claim.Steps.{facts-index}
+use Rattle.machine.proofs.Claim.Steps.{findings-index}
 use Rattle.machine.proofs.Claim.Whole.{after-same}
 use Rattle.machine.proofs.Claim.Fresh.{named-zero, named-more, number-small, above-zero}
 use Rattle.machine.proofs.Numbered.{NumberedLaws, numbered-laws}
@@ -97,14 +97,14 @@ still-alone b i ms q = record {
 
 module _ (b : Book) (r : Ruled b) (e : Event) (low : 4 ≤ e .kind) (high : e .kind ≤ 8) (k : ℕ) (w : findDownstream b (e .ids .downstream) ≡ some k) where
   Alike : ℕ → Change → Type 0
-  Alike i c = Moved b e i c × (i ≡ requestIn b k .order) × Touches (factsOf b (i + 1)) (k + 1) (orderIn b i) c
+  Alike i c = Moved b e i c × (i ≡ requestIn b k .order) × Touches (findingsOf b (i + 1)) (k + 1) (orderIn b i) c
 
   alike : (j : ℕ) (c : Change) → findDownstream b (e .ids .downstream) ≡ some j → Either (Moved b e (requestIn b j .order) c) c
-      → Touches (factsOf b (orderLink b j)) (j + 1) (orderIn b (requestIn b j .order)) c → Either (Alike (requestIn b j .order) c) c
+      → Touches (findingsOf b (orderLink b j)) (j + 1) (orderIn b (requestIn b j .order)) c → Either (Alike (requestIn b j .order) c) c
   unfolding Either Alike
   alike j c v (inl z) t = inl z
   alike j c v (inr z) t =
-      inr (z .0, (z .1, ap (λ (n : ℕ). requestIn b n .order) (same-some v w), subst (λ (n : ℕ). Touches (factsOf b (orderLink b j)) (n + 1) (orderIn b (requestIn b j .order)) c) (same-some v w) t))
+      inr (z .0, (z .1, ap (λ (n : ℕ). requestIn b n .order) (same-some v w), subst (λ (n : ℕ). Touches (findingsOf b (orderLink b j)) (n + 1) (orderIn b (requestIn b j .order)) c) (same-some v w) t))
 
   not-here : {X : Type 0} (n : ℕ) → n < 4 → eqb (e .kind) n ≡ true → X
   not-here n l z = let q : e .kind ≡ n = eqb-true (e .kind) n z in absurd (omega arith)
@@ -124,7 +124,7 @@ module _ (b : Book) (r : Ruled b) (e : Event) (low : 4 ≤ e .kind) (high : e .k
       }
 
   -- the requests that the change touches are the order's
-  module _ (c : Change) (i : ℕ) (h : i < length (b .orders)) (z : i ≡ requestIn b k .order) (t : Touches (factsOf b (i + 1)) (k + 1) (orderIn b i) c) where
+  module _ (c : Change) (i : ℕ) (h : i < length (b .orders)) (z : i ≡ requestIn b k .order) (t : Touches (findingsOf b (i + 1)) (k + 1) (orderIn b i) c) where
     not-answered : (j : ℕ) → (requestIn b j .order ≡ i → ⊥) → c .requests .answered ≡ j + 1 → ⊥
     not-answered j n p = go (t .answers)
       where
@@ -144,12 +144,12 @@ module _ (b : Book) (r : Ruled b) (e : Event) (low : 4 ≤ e .kind) (high : e .k
     own-added : (j : ℕ) → length (b .requests) ≤ j → j < length (after b c .requests) → requestIn (after b c) j .order ≡ i
     own-added j l u = go (ℕ-discrete (c .requests .added) 0) (t .adds)
       where
-        go : Dec (c .requests .added ≡ 0) → (c .requests .added ≡ 0) ⊎ (c .requests .request .order ≡ factsOf b (i + 1) .place - 1) → requestIn (after b c) j .order ≡ i
+        go : Dec (c .requests .added ≡ 0) → (c .requests .added ≡ 0) ⊎ (c .requests .request .order ≡ findingsOf b (i + 1) .place - 1) → requestIn (after b c) j .order ≡ i
         go (yes x) d = absurd (omega (arith, none-kept b c x))
         go (no x) (inl y) = absurd (x y)
         go (no x) (inr y) =
             let at-end : j ≡ length (b .requests) = omega (arith, added-long b c x) in
-            ap (λ (m : ℕ). requestIn (after b c) m .order) at-end ∙ ap (λ (q : Request). q .order) (added-at b c x) ∙ y ∙ facts-index b i
+            ap (λ (m : ℕ). requestIn (after b c) m .order) at-end ∙ ap (λ (q : Request). q .order) (added-at b c x) ∙ y ∙ findings-index b i
 
   did-alone : (c : Change) → Did (Roomy Alike b) b e c → Alone b (requestIn b k .order) (lineOf b (readAs e) c .messages) (lineOf b (readAs e) c .left)
   unfolding Alike Moved Roomy

@@ -15,11 +15,11 @@ use Rattle.prelude.specs.Cases.{split-if, clash, if-true, if-false}
 use Rattle.prelude.specs.Texts.{sameText}
 use Rattle.prelude.specs.declared.Text.{Text}
 use Rattle.store.specs.declared.Request.{Request}
-use Rattle.store.specs.Book.{Book, requestIn}
+use Rattle.store.specs.Book.{Book, requestIn, answered}
 use Rattle.store.specs.Requests.{noRequest}
 use Rattle.machine.specs.Changes.{isAnswered}
 use Rattle.store.specs.Finds.{findDownstream}
-use Rattle.machine.specs.Machine.{answeredRequest, answerLink, requestsAfter, after}
+use Rattle.machine.specs.Machine.{answerLink, requestsAfter, after}
 use Rattle.machine.specs.declared.Change.{Change}
 use Rattle.machine.proofs.Claim.Walk.{found-request, found-text}
 
@@ -36,11 +36,11 @@ like-self q = record { kind = refl; order = refl; text = refl; answered = λ a. 
 like-trans : (p q r : Request) → Like p q → Like q r → Like p r
 like-trans p q r k l = record { kind = l .kind ∙ k .kind; order = l .order ∙ k .order; text = l .text ∙ k .text; answered = λ a. l .answered (k .answered a) }
 
-like-answered : (q : Request) → Like q (answeredRequest q)
+like-answered : (q : Request) → Like q (answered q)
 unfolding isAnswered
 like-answered q = record { kind = refl; order = refl; text = refl; answered = λ a. refl }
 
-now-answered : (q : Request) → isAnswered (answeredRequest q) ≡ true
+now-answered : (q : Request) → isAnswered (answered q) ≡ true
 unfolding isAnswered
 now-answered q = refl
 
@@ -57,12 +57,12 @@ module _ (k : ℕ) (qs : List Request) where
       split-if (λ (l : List Request). getD l j noRequest ≡ getD qs j noRequest) (eqb k 0) (λ e. refl)
       (λ e. getD-set-other qs (k - 1) j _ noRequest (λ z. let w : (k ≡ 0 → ⊥) = eqb-false k 0 e in n (omega arith)))
 
-  link-at : (j : ℕ) → j < length qs → k ≡ j + 1 → getD (answerLink k qs) j noRequest ≡ answeredRequest (getD qs j noRequest)
+  link-at : (j : ℕ) → j < length qs → k ≡ j + 1 → getD (answerLink k qs) j noRequest ≡ answered (getD qs j noRequest)
   unfolding answerLink
   link-at j l e =
       let z : k - 1 ≡ j = omega arith in
       ap (λ (x : List Request). getD x j noRequest) (if-false (eqb k 0) qs _ (ne-eqb k 0 (λ w. omega arith)))
-      ∙ ap (λ (i : ℕ). getD (set qs i (answeredRequest (getD qs i noRequest))) j noRequest) z
+      ∙ ap (λ (i : ℕ). getD (set qs i (answered (getD qs i noRequest))) j noRequest) z
       ∙ getD-set-same qs j _ noRequest l
 
   link-like : (j : ℕ) → j < length qs → Like (getD qs j noRequest) (getD (answerLink k qs) j noRequest)

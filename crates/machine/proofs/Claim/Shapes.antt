@@ -13,17 +13,19 @@ use Rattle.prelude.specs.declared.Terms.{Terms}
 use Rattle.store.specs.declared.Order.{Order}
 use Rattle.store.specs.declared.Request.{Request}
 use Rattle.store.specs.declared.Pending.{Pending}
-use Rattle.machine.specs.Codes.{rejected, mostTries}
-use Rattle.machine.specs.Orders.{oneMore, hasGateway, isDone, setStatus, recordVenueOrderId, applyReplace, nextExec, withState, withPending, withGateway, noPending, noGateway}
+use Rattle.machine.specs.Constants.{mostTries}
+use Rattle.format.specs.Codes.{rejected}
+use Rattle.machine.specs.Orders.{oneMore, hasGateway, isDone, setStatus, recordVenueOrderId, applyReplace, nextExec, withState, withPending, withGateway}
+use Rattle.store.specs.Orders.{noPending, noGateway}
 use Rattle.machine.specs.Messages.{report, cancelReject, toVenue, newOrder, cancelRequest, replaceRequest}
 use Rattle.machine.specs.Changes.{Event, Message, unchanged, withOrder, answering, superseding, adding, telling, alarming, isFirst, isReplace, isGateway, isCancel, isAnswered, nextNumber, nextDownstream, nextRequest, numberedOrder}
 use Rattle.machine.specs.GatewayCancel.{begun, trySent, givenUp, sendGatewayCancel, cancelOrder, gatewayCancelInFlight, gatewayCancelWaiting, resumeGatewayCancel, stuck, retryGatewayCancel, gatewayCancelRefused}
 use Rattle.machine.specs.Amend.{refuse, statusReport, cancelGoes, replaceGoes, notPending, refusedOrder, refuseRequest, venueCancelReject, sendRefused, firstFailed, sendFailed, resendable, unsent}
 use Rattle.machine.specs.Report.{unknownAtVenue, droppedStale, droppedRepeat, reportedOrder, clientReport, settles, applyReport, venueReport}
 use Rattle.machine.specs.Rules.{triesRule}
-use Rattle.machine.specs.History.{spoken}
+use Rattle.records.specs.Answer.{chosen}
 use Rattle.machine.specs.Claim.{cancelsIn}
-use Rattle.machine.specs.declared.Facts.{Facts}
+use Rattle.machine.specs.declared.Findings.{Findings}
 use Rattle.machine.specs.declared.Note.{Note}
 use Rattle.machine.specs.declared.Refusal.{Refusal}
 use Rattle.machine.specs.declared.Refused.{Refused}
@@ -86,7 +88,7 @@ says-added : (o : Order) (d : Text) (q : Request) (c : Change) → c .output .co
 unfolding adding
 says-added o d q c l s = says-cancel o d (adding q c) l s
 
-says-send : (f : Facts) (c : Change) → c .output .count ≤ 1 → cancelsIn (tells c) ≡ [] → cancelsIn (tells (sendGatewayCancel f c)) ≡ nextDownstream (c .order) ∷ []
+says-send : (f : Findings) (c : Change) → c .output .count ≤ 1 → cancelsIn (tells c) ≡ [] → cancelsIn (tells (sendGatewayCancel f c)) ≡ nextDownstream (c .order) ∷ []
 unfolding sendGatewayCancel
 says-send f c l s = says-added _ (nextDownstream (c .order)) _ (withOrder _ c) l s
 
@@ -99,7 +101,7 @@ unfolding unchanged
 none-count p o = refl
 
 none-said : (p : ℕ) (o : Order) → cancelsIn (tells (unchanged p o)) ≡ []
-unfolding unchanged spoken if_then_else_ cancelsIn
+unfolding unchanged if_then_else_ cancelsIn
 none-said p o = refl
 
 -- ---- the order
@@ -180,7 +182,7 @@ pub record Idle (o : Order) (c : Change) : Type 0 where
   pub adds : c .requests .added ≡ 0
 
 unchanged-idle : (p : ℕ) (o q : Order) → Near o q → Idle o (unchanged p q)
-unfolding unchanged spoken if_then_else_ cancelsIn
+unfolding unchanged if_then_else_ cancelsIn
 unchanged-idle p o q n = record { near = n; within = omega arith; silent = refl; adds = refl }
 
 module _ (o : Order) (c : Change) (d : Idle o c) where
@@ -207,14 +209,14 @@ module _ (o : Order) (c : Change) (d : Idle o c) where
 -- ---- the gateway's cancel goes out
 
 -- the request that is sent and added
-pub record Out (f : Facts) (o : Order) (c : Change) : Type 0 where
+pub record Out (f : Findings) (o : Order) (c : Change) : Type 0 where
   pub says : cancelsIn (tells c) ≡ nextDownstream o ∷ []
   pub adds : c .requests .added ≡ 1
   pub of-order : c .requests .request .order ≡ f .place - 1
   pub unanswered : isAnswered (c .requests .request) ≡ false
   pub text : c .requests .request .downstream ≡ nextDownstream o
 
-pub record Sent (f : Facts) (o : Order) (c : Change) : Type 0 where
+pub record Sent (f : Findings) (o : Order) (c : Change) : Type 0 where
   pub out : Out f o c
   pub by-gateway : isGateway (c .requests .request) ≡ true
   pub from : hasGateway o ≡ true
@@ -222,7 +224,7 @@ pub record Sent (f : Facts) (o : Order) (c : Change) : Type 0 where
   pub more : c .order .gateway .tries ≡ o .gateway .tries + 1
   pub out-now : c .order .gateway .unsent ≡ false
 
-send-out : (f : Facts) (o : Order) (c : Change) → Near o (c .order) → c .output .count ≤ 1 → cancelsIn (tells c) ≡ [] → Out f o (sendGatewayCancel f c)
+send-out : (f : Findings) (o : Order) (c : Change) → Near o (c .order) → c .output .count ≤ 1 → cancelsIn (tells c) ≡ [] → Out f o (sendGatewayCancel f c)
 unfolding sendGatewayCancel adding telling nextRequest isAnswered
 send-out f o c n l s = record {
   says = says-send f c l s ∙ ap (λ (t : Text). t ∷ []) (next-near o (c .order) n);
@@ -232,23 +234,23 @@ send-out f o c n l s = record {
   text = next-near o (c .order) n;
 }
 
-send-fields : (f : Facts) (c : Change) → (isGateway (sendGatewayCancel f c .requests .request) ≡ true)
+send-fields : (f : Findings) (c : Change) → (isGateway (sendGatewayCancel f c .requests .request) ≡ true)
     × (sendGatewayCancel f c .order .gateway .tries ≡ oneMore 255 (c .order .gateway .tries)) × (sendGatewayCancel f c .order .gateway .unsent ≡ false)
 unfolding sendGatewayCancel adding telling nextRequest isGateway trySent
 send-fields f c = (refl, refl, refl)
 
-send-sent : (f : Facts) (o : Order) (c : Change) → Idle o c → hasGateway (c .order) ≡ true → o .gateway .tries ≤ 2 → Sent f o (sendGatewayCancel f c)
+send-sent : (f : Findings) (o : Order) (c : Change) → Idle o c → hasGateway (c .order) ≡ true → o .gateway .tries ≤ 2 → Sent f o (sendGatewayCancel f c)
 send-sent f o c d h r =
     let (a, t, u) = d .near .gate h in
     let (x, y, z) = send-fields f c in
     let l : c .order .gateway .tries ≤ 3 = omega arith in
     record { out = send-out f o c (d .near) (d .within) (d .silent); by-gateway = x; from = a; room = r; more = y ∙ one-more 255 _ (omega arith) ∙ ap (λ (n : ℕ). n + 1) t; out-now = z }
 
-pub data Rests (f : Facts) (o : Order) (c : Change) : Type 0 where
+pub data Rests (f : Findings) (o : Order) (c : Change) : Type 0 where
   rests : Idle o c → Rests f o c
   sends : Sent f o c → Rests f o c
 
-module _ (f : Facts) (o : Order) (rule : triesRule (o .gateway) ≡ true) where
+module _ (f : Findings) (o : Order) (rule : triesRule (o .gateway) ≡ true) where
   stuck-idle : (c : Change) → Idle o c → Idle o (stuck c)
   unfolding stuck
   stuck-idle c d = alarming-idle o _ (order-idle o c d _ (given-up-near (c .order))) _
@@ -384,7 +386,7 @@ module _ (f : Facts) (o : Order) (rule : triesRule (o .gateway) ≡ true) where
         answers = inr refl;
         supersedes = refl;
       })
-      (λ h. split-if (Failed k q venue) _ (λ g. unfold answering unchanged sendRefused spoken if_then_else_ cancelsIn in record {
+      (λ h. split-if (Failed k q venue) _ (λ g. unfold answering unchanged sendRefused if_then_else_ cancelsIn in record {
         shape = falls (record {
           here = not-false _ e;
           by-gateway = g;
@@ -475,7 +477,7 @@ module _ (f : Facts) (o : Order) (rule : triesRule (o .gateway) ≡ true) where
 
   pub replace-fields : (e : Event) → (isCancel (replaceGoes f o e .requests .request) ≡ false) × (replaceGoes f o e .order .gateway ≡ o .gateway)
       × (cancelsIn (tells (replaceGoes f o e)) ≡ []) × (replaceGoes f o e .requests .request .order ≡ f .place - 1)
-  unfolding replaceGoes adding telling nextRequest isCancel isFirst isReplace unchanged numberedOrder spoken if_then_else_ cancelsIn replaceRequest toVenue
+  unfolding replaceGoes adding telling nextRequest isCancel isFirst isReplace unchanged numberedOrder if_then_else_ cancelsIn replaceRequest toVenue
   replace-fields e = (refl, refl, refl, refl)
 
   -- ---- event 9
@@ -490,7 +492,7 @@ module _ (f : Facts) (o : Order) (rule : triesRule (o .gateway) ≡ true) where
     begins : isDone (o .state .status) ≡ false → gatewayCancelInFlight f o ≡ false → Begun c → Asked c
 
   waiting : Begun (unchanged (f .place) (withGateway (begun o) o))
-  unfolding unchanged begun spoken if_then_else_ cancelsIn
+  unfolding unchanged begun if_then_else_ cancelsIn
   waiting = waits refl refl refl
 
   begun-out : Out f o (sendGatewayCancel f (unchanged (f .place) (withGateway (begun o) o)))

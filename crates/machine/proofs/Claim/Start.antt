@@ -7,15 +7,15 @@ use mathlib.Core.List.{List, [], _∷_, _++_}
 use lib.ListN.{length}
 use Rattle.prelude.specs.Below.{firstBelow}
 use Rattle.prelude.specs.Cases.{if_then_else_, maybe, split-if}
-use Rattle.prelude.specs.Totals.{howMany}
+use Rattle.prelude.specs.Totals.{howMany, those-ext}
 use Rattle.prelude.specs.declared.Text.{Text}
 use Rattle.store.specs.Book.{Book, orderIn}
 use Rattle.store.specs.Finds.{findName, findDownstream}
 use Rattle.machine.specs.History.{Entry, State, start, run}
-use Rattle.machine.specs.Claim.{begins, isEvent, cancelsIn, once, sent, isFor, failed, putOutBy, putOut, Demand3, Demand}
-use Rattle.machine.specs.Since.{heldQty, heldTries, isHeld, downstreams, heldOut, newBy, newOut, begun, baseTries, baseOut, Demand3From}
+use Rattle.machine.specs.Claim.{begins, ofKind, cancelsIn, once, sent, isFor, failed, putOutBy, putOut, Demand3, Demand}
+use Rattle.machine.specs.Since.{heldQty, heldTries, isHeld, downstreams, heldOut, known, newOut, begunSince, baseTries, baseOut, Demand3From}
 use Rattle.machine.proofs.Kept.Steps.{start-keeps}
-use Rattle.machine.proofs.Claim.Whole.{those-same, demand-from}
+use Rattle.machine.proofs.Claim.Whole.{demand-from}
 
 -- the empty book holds nothing
 module _ (setting : ℕ) where
@@ -39,22 +39,22 @@ module _ (setting : ℕ) where
   no-out name = refl
 
   base-tries : (name : Text) (past : List Entry) → baseTries empty name past ≡ 0
-  base-tries name past = split-if (λ (n : ℕ). n ≡ 0) (begun name past) (λ e. refl) (λ e. no-tries name)
+  base-tries name past = split-if (λ (n : ℕ). n ≡ 0) (begunSince name past) (λ e. refl) (λ e. no-tries name)
 
   base-out : (name : Text) (past : List Entry) → baseOut empty name past ≡ []
-  base-out name past = split-if (λ (l : List Text). l ≡ []) (begun name past) (λ e. refl) (λ e. no-out name)
+  base-out name past = split-if (λ (l : List Text). l ≡ []) (begunSince name past) (λ e. refl) (λ e. no-out name)
 
-  by-same : (name : Text) (e : Entry) (past : List Entry) → newBy empty name e past ≡ putOutBy name e past
-  unfolding newBy putOutBy
+  by-same : (name : Text) (e : Entry) (past : List Entry) → putOutBy (known empty) name e past ≡ putOutBy sent name e past
+  unfolding putOutBy
   by-same name e past =
-      ap (λ (l : List Text). if isEvent 2 (e .input) then [] else l)
-      (those-same _ _ (once (cancelsIn (e .messages))) (λ d. ap (λ (x : Bool). isFor name (e .left) d && not (x || sent d past)) (not-held d)))
+      ap (λ (l : List Text). if ofKind 2 (e .input) then [] else l)
+      (those-ext _ _ (once (cancelsIn (e .messages))) (λ d. ap (λ (x : Bool). isFor name (e .left) d && not (x || sent d past)) (not-held d)))
 
   new-same : (name : Text) (past : List Entry) → newOut empty name past ≡ putOut name past
   new-same name [] = refl
   new-same name (e ∷ past) =
       ap (λ (l : List Text). l ++ (if begins name e then [] else newOut empty name past)) (by-same name e past)
-      ∙ ap (λ (l : List Text). putOutBy name e past ++ (if begins name e then [] else l)) (new-same name past)
+      ∙ ap (λ (l : List Text). putOutBy sent name e past ++ (if begins name e then [] else l)) (new-same name past)
 
   pub from-start : (s : State) → Demand3From empty s → Demand3 s
   from-start s h = record {

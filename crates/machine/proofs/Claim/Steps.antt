@@ -23,10 +23,10 @@ use Rattle.machine.specs.Changes.{Event, isGateway, isCancel, isAnswered
 use Rattle.machine.specs.GatewayCancel.{outstandingCancel, gatewayCancelInFlight}
 use Rattle.machine.specs.Amend.{cancel}
 use Rattle.store.specs.Finds.{findName, findDownstream}
-use Rattle.machine.specs.Machine.{latestCancel, factsOf, hasRoom, after}
+use Rattle.machine.specs.Machine.{latestCancel, findingsOf, hasRoom, after}
 use Rattle.machine.specs.History.{Decoded, readAs, Entry}
-use Rattle.machine.specs.Claim.{isEvent, starts, cancelsIn, answeredIn, fails}
-use Rattle.machine.specs.declared.Facts.{Facts}
+use Rattle.machine.specs.Claim.{ofKind, starts, cancelsIn, answeredIn, fails}
+use Rattle.machine.specs.declared.Findings.{Findings}
 use Rattle.machine.specs.declared.Change.{Change}
 use Rattle.machine.proofs.Claim.Laws.{tells}
 use Rattle.machine.proofs.Claim.Moves.{Moves}
@@ -61,7 +61,7 @@ module _ (b : Book) (i : Decoded) (c : Change) where
       let n = find-new b c d k h w in
       ap isCancel (ap (λ (j : ℕ). requestIn (after b c) j) (n .at) ∙ added-at b c (n .adds)) ∙ z
 
-  pub goes-fresh : (f : Facts) (o : Order) → Out f o c → findDownstream b (nextDownstream o) ≡ none → isGateway (c .requests .request) ≡ not (isEvent 2 i) → Goes (line b i c)
+  pub goes-fresh : (f : Findings) (o : Order) → Out f o c → findDownstream b (nextDownstream o) ≡ none → isGateway (c .requests .request) ≡ not (ofKind 2 i) → Goes (line b i c)
   goes-fresh f o u w g =
       let a : (c .requests .added ≡ 0 → ⊥) = (λ z. omega (arith, u .adds)) in
       fresh (nextDownstream o) (length (b .requests)) (u .says) w
@@ -70,20 +70,20 @@ module _ (b : Book) (i : Decoded) (c : Change) where
       (λ d k h v. subst (λ (t : Text). sameText t d ≡ true) (u .text) (find-new b c d k h v .same))
 
   -- the order of the request that goes out
-  module _ (f : Facts) (o : Order) (j : ℕ) (u : Out f o c) (w : findDownstream b (nextDownstream o) ≡ none) (g : isGateway (c .requests .request) ≡ not (isEvent 2 i)) where
+  module _ (f : Findings) (o : Order) (j : ℕ) (u : Out f o c) (w : findDownstream b (nextDownstream o) ≡ none) (g : isGateway (c .requests .request) ≡ not (ofKind 2 i)) where
     of-added : requestIn (after b c) (length (b .requests)) .order ≡ f .place - 1
     of-added = ap (λ (q : Request). q .order) (added-at b c (λ z. omega (arith, u .adds))) ∙ u .of-order
 
     pub new-other : (f .place - 1 ≡ j → ⊥) → newOf (goes-fresh f o u w g) j ≡ []
     unfolding newOf goes-fresh
     new-other n =
-        if-false _ _ _ (ap (λ (x : Bool). not (isEvent 2 i) && x) (ne-eqb _ j (λ z. n (sym of-added ∙ z))) ∙ both-false (not (isEvent 2 i)))
+        if-false _ _ _ (ap (λ (x : Bool). not (ofKind 2 i) && x) (ne-eqb _ j (λ z. n (sym of-added ∙ z))) ∙ both-false (not (ofKind 2 i)))
 
-    pub new-client : isEvent 2 i ≡ true → newOf (goes-fresh f o u w g) j ≡ []
+    pub new-client : ofKind 2 i ≡ true → newOf (goes-fresh f o u w g) j ≡ []
     unfolding newOf goes-fresh
     new-client e = if-false _ _ _ (ap (λ (x : Bool). not x && eqb (requestIn (after b c) (length (b .requests)) .order) j) e)
 
-    pub new-own : isEvent 2 i ≡ false → f .place - 1 ≡ j → newOf (goes-fresh f o u w g) j ≡ nextDownstream o ∷ []
+    pub new-own : ofKind 2 i ≡ false → f .place - 1 ≡ j → newOf (goes-fresh f o u w g) j ≡ nextDownstream o ∷ []
     unfolding newOf goes-fresh
     new-own e z = if-true _ _ _ (both-hold _ _ (ap not e) (eq-eqb _ j (of-added ∙ z)))
 
@@ -123,18 +123,18 @@ asks-starts i b e h = go (findName b (e .ids .name)) (both-true (eqb (e .kind) 9
     go none z = clash false z refl
     go (some j) z = let (p, q) = both-true (eqb j i) (starts b j) z in sym (ap (starts b) (eqb-true j i p)) ∙ q
 
-starts-parts : (b : Book) (i : ℕ) → starts b i ≡ true → (isDone (orderIn b i .state .status) ≡ false) × (gatewayCancelInFlight (factsOf b (i + 1)) (orderIn b i) ≡ false)
+starts-parts : (b : Book) (i : ℕ) → starts b i ≡ true → (isDone (orderIn b i .state .status) ≡ false) × (gatewayCancelInFlight (findingsOf b (i + 1)) (orderIn b i) ≡ false)
 unfolding starts
 starts-parts b i h = let (p, q) = both-true (not (isDone (orderIn b i .state .status))) _ h in (not-true _ p, not-true _ q)
 
-pub facts-cancel : (b : Book) (i k : ℕ) → orderIn b i .links .cancel ≡ k + 1 → factsOf b (i + 1) .cancel ≡ requestIn b k
-unfolding factsOf latestCancel
-facts-cancel b i k e =
+pub findings-cancel : (b : Book) (i k : ℕ) → orderIn b i .links .cancel ≡ k + 1 → findingsOf b (i + 1) .cancel ≡ requestIn b k
+unfolding findingsOf latestCancel
+findings-cancel b i k e =
     ap (λ (o : Order). if eqb (o .links .cancel) 0 then noRequest else requestIn b (o .links .cancel - 1)) (at-link b i)
     ∙ if-false _ _ _ (ne-eqb (orderIn b i .links .cancel) 0 (λ z. omega arith))
     ∙ (let z : orderIn b i .links .cancel - 1 ≡ k = omega arith in ap (λ (j : ℕ). requestIn b j) z)
 
-flies : (f : Facts) (o : Order) (q : Request) → f .cancel ≡ q → (o .links .cancel ≡ 0 → ⊥) → isGateway q ≡ true → isAnswered q ≡ false → gatewayCancelInFlight f o ≡ true
+flies : (f : Findings) (o : Order) (q : Request) → f .cancel ≡ q → (o .links .cancel ≡ 0 → ⊥) → isGateway q ≡ true → isAnswered q ≡ false → gatewayCancelInFlight f o ≡ true
 unfolding gatewayCancelInFlight outstandingCancel
 flies f o q e n g a =
     both-hold _ _ (both-hold _ _ (ap not (ne-eqb (o .links .cancel) 0 n)) (ap not (ap isAnswered e ∙ a))) (ap isGateway e ∙ g)
@@ -151,7 +151,7 @@ begins-answered b r e i h d w = go (true-or-false (isAnswered (requestIn b (w .a
         subst (λ (j : ℕ). orderIn b j .links .cancel ≡ w .at + 1) (w .of-order)
         (latest-cancel (w .at + 1) (requestIn b (w .at)) (orderIn b (requestIn b (w .at) .order)) (q .in-flight) (w .by-gateway) a
         (ap (λ (j : ℕ). isDone (orderIn b j .state .status)) (w .of-order) ∙ live) .0) in
-        clash _ (flies (factsOf b (i + 1)) (orderIn b i) (requestIn b (w .at)) (facts-cancel b i (w .at) z) (λ y. omega arith) (w .by-gateway) a) calm
+        clash _ (flies (findingsOf b (i + 1)) (orderIn b i) (requestIn b (w .at)) (findings-cancel b i (w .at) z) (λ y. omega arith) (w .by-gateway) a) calm
 
 -- ---- the six shapes of a change of the order at index i
 
@@ -165,10 +165,10 @@ pub data Shape (b : Book) (e : Event) (i : ℕ) (c : Change) : Type 0 where
   repeats : asksAt i b (readAs e) ≡ false → eqb (e .kind) 7 ≡ false → (d : Text) (k : ℕ) → findDownstream b d ≡ some k → isCancel (requestIn b k) ≡ true
       → cancelsIn (tells c) ≡ d ∷ [] → c .requests .added ≡ 0 → c .order ≡ orderIn b i → Shape b e i c
   -- the client's goes out
-  client : asksAt i b (readAs e) ≡ false → eqb (e .kind) 7 ≡ false → eqb (e .kind) 2 ≡ true → Out (factsOf b (i + 1)) (orderIn b i) c
+  client : asksAt i b (readAs e) ≡ false → eqb (e .kind) 7 ≡ false → eqb (e .kind) 2 ≡ true → Out (findingsOf b (i + 1)) (orderIn b i) c
       → isGateway (c .requests .request) ≡ false → c .order .gateway ≡ orderIn b i .gateway → Shape b e i c
   -- the gateway's goes out; its cancel begins with it, or goes on
-  gateway : eqb (e .kind) 7 ≡ false → eqb (e .kind) 2 ≡ false → Out (factsOf b (i + 1)) (orderIn b i) c → isGateway (c .requests .request) ≡ true
+  gateway : eqb (e .kind) 7 ≡ false → eqb (e .kind) 2 ≡ false → Out (findingsOf b (i + 1)) (orderIn b i) c → isGateway (c .requests .request) ≡ true
       → ((asksAt i b (readAs e) ≡ true) × (c .order .gateway .tries ≡ 1))
       ⊎ ((asksAt i b (readAs e) ≡ false) × (hasGateway (orderIn b i) ≡ true) × (orderIn b i .gateway .tries ≤ 2) × (c .order .gateway .tries ≡ orderIn b i .gateway .tries + 1))
       → Shape b e i c
@@ -185,9 +185,9 @@ pub record Shaped (b : Book) (e : Event) (i : ℕ) (c : Change) : Type 0 where
   pub spares : eqb (e .kind) 7 ≡ true → (c .requests .superseded ≡ 0) × ((k : ℕ) → c .requests .answered ≡ k + 1 → requestIn b k .order ≡ i)
   pub shape : Shape b e i c
 
-pub facts-index : (b : Book) (i : ℕ) → factsOf b (i + 1) .place - 1 ≡ i
-unfolding factsOf
-facts-index b i = omega arith
+pub findings-index : (b : Book) (i : ℕ) → findingsOf b (i + 1) .place - 1 ≡ i
+unfolding findingsOf
+findings-index b i = omega arith
 
 has-room : (b : Book) (c : Change) → hasRoom b c ≡ true → (c .requests .added ≡ 0 → ⊥) → length (b .requests) < 256
 unfolding hasRoom
@@ -228,7 +228,7 @@ module _ (laws : NumberedLaws) (b : Book) (r : Ruled b) (e : Event) (i : ℕ) (h
       (λ d w. kept-fails j d w (λ y x. n (sym (w .of-order) ∙ s .spares y .1 (w .at) x)))
       (let t : orderIn (after b c) j .gateway .tries ≡ orderIn b j .gateway .tries = ap (λ (o : Order). o .gateway .tries) same in omega arith))
 
-  free : Out (factsOf b (i + 1)) (orderIn b i) c → findDownstream b (nextDownstream (orderIn b i)) ≡ none
+  free : Out (findingsOf b (i + 1)) (orderIn b i) c → findDownstream b (nextDownstream (orderIn b i)) ≡ none
   free u = fresh-text laws b r i h (has-room b c room (λ z. omega (arith, u .adds)))
 
   turn-of : (g : Goes (line b (readAs e) c)) → ((j : ℕ) → (j ≡ i → ⊥) → newOf g j ≡ [])
@@ -259,7 +259,7 @@ module _ (laws : NumberedLaws) (b : Book) (r : Ruled b) (e : Event) (i : ℕ) (h
       turn-of (repeated d k q w k! (none-new b (readAs e) c (inl n))) (λ j z. refl)
       (λ hg. goes-on (begins-at i ∙ a) (sym (ap hasGateway o) ∙ hg) (λ d w. calm-fails b e c z d) (omega (arith, tries-now, ap (λ (x : Order). x .gateway .tries) o)))
   shape-turn (client a z z₂ u g o) =
-      let gt : isGateway (c .requests .request) ≡ not (isEvent 2 (readAs e)) = g ∙ sym (ap not z₂) in
+      let gt : isGateway (c .requests .request) ≡ not (ofKind 2 (readAs e)) = g ∙ sym (ap not z₂) in
       turn-of (goes-fresh b (readAs e) c _ _ u (free u) gt) (λ j n. new-client b (readAs e) c _ _ j u (free u) gt z₂)
       (λ hg. subst (Tried i (line b (readAs e) c)) (sym (new-client b (readAs e) c _ _ i u (free u) gt z₂))
       (goes-on (begins-at i ∙ a) (sym (gateway-same o) ∙ hg) (λ d w. calm-fails b e c z d)
@@ -268,9 +268,9 @@ module _ (laws : NumberedLaws) (b : Book) (r : Ruled b) (e : Event) (i : ℕ) (h
       gateway-same : c .order .gateway ≡ orderIn b i .gateway → hasGateway (c .order) ≡ hasGateway (orderIn b i)
       gateway-same o = unfold hasGateway in ap (λ (x : GatewayCancel). not (eqb (x .origdownstream) 0)) o
   shape-turn (gateway z z₂ u g p) =
-      let gt : isGateway (c .requests .request) ≡ not (isEvent 2 (readAs e)) = g ∙ sym (ap not z₂) in
-      turn-of (goes-fresh b (readAs e) c _ _ u (free u) gt) (λ j n. new-other b (readAs e) c _ _ j u (free u) gt (λ y. n (sym y ∙ facts-index b i)))
-      (λ hg. subst (Tried i (line b (readAs e) c)) (sym (new-own b (readAs e) c _ _ i u (free u) gt z₂ (facts-index b i))) (by p))
+      let gt : isGateway (c .requests .request) ≡ not (ofKind 2 (readAs e)) = g ∙ sym (ap not z₂) in
+      turn-of (goes-fresh b (readAs e) c _ _ u (free u) gt) (λ j n. new-other b (readAs e) c _ _ j u (free u) gt (λ y. n (sym y ∙ findings-index b i)))
+      (λ hg. subst (Tried i (line b (readAs e) c)) (sym (new-own b (readAs e) c _ _ i u (free u) gt z₂ (findings-index b i))) (by p))
     where
       by : ((asksAt i b (readAs e) ≡ true) × (c .order .gateway .tries ≡ 1))
           ⊎ ((asksAt i b (readAs e) ≡ false) × (hasGateway (orderIn b i) ≡ true) × (orderIn b i .gateway .tries ≤ 2) × (c .order .gateway .tries ≡ orderIn b i .gateway .tries + 1))
@@ -330,7 +330,7 @@ module _ (laws : NumberedLaws) (b : Book) (r : Ruled b) (e : Event) (i : ℕ) (h
   added-own (idle a q (inl n) g) = inl n
   added-own (idle a q (inr n) g) = inr (n .1)
   added-own (repeats a z d k w k! q n o) = inl n
-  added-own (client a z z₂ u g o) = inr (u .of-order ∙ facts-index b i)
-  added-own (gateway z z₂ u g p) = inr (u .of-order ∙ facts-index b i)
+  added-own (client a z z₂ u g o) = inr (u .of-order ∙ findings-index b i)
+  added-own (gateway z z₂ u g p) = inr (u .of-order ∙ findings-index b i)
   added-own (begins! a q n t) = inl n
   added-own (fails! a z d k w oi g u x y q n hg t) = inl n

@@ -11,18 +11,18 @@ use Rattle.machine.specs.GatewayCancel.{sendGatewayCancel, resumeGateway
 use Rattle.machine.specs.Amend.{refuseRequest, venueCancelReject, firstFailed, sendFailed, unsent}
 use Rattle.machine.specs.Report.{unknownAtVenue, droppedStale, droppedRepeat, settles, applyReport, venueReport}
 use Rattle.machine.specs.Machine.{onReport}
-use Rattle.machine.specs.declared.Facts.{Facts}
+use Rattle.machine.specs.declared.Findings.{Findings}
 use Rattle.machine.specs.declared.Note.{Note}
 use Rattle.machine.specs.declared.Refused.{Refused}
 use Rattle.machine.specs.declared.Change.{Change}
 
 -- k is the link of the request that the event names
-pub record Touches (f : Facts) (k : ℕ) (o : Order) (c : Change) : Type 0 where
+pub record Touches (f : Findings) (k : ℕ) (o : Order) (c : Change) : Type 0 where
   pub answers : (c .requests .answered ≡ 0) ⊎ (c .requests .answered ≡ k)
   pub supersedes : (c .requests .superseded ≡ 0) ⊎ (c .requests .superseded ≡ o .links .current)
   pub adds : (c .requests .added ≡ 0) ⊎ (c .requests .request .order ≡ f .place - 1)
 
-module _ (f : Facts) (k : ℕ) (o : Order) where
+module _ (f : Findings) (k : ℕ) (o : Order) where
   none-touched : (p : ℕ) (x : Order) → Touches f k o (unchanged p x)
   unfolding unchanged
   none-touched p x = record { answers = inl refl; supersedes = inl refl; adds = inl refl }

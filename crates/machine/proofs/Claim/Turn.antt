@@ -17,12 +17,12 @@ use Rattle.prelude.specs.Totals.{someOf, howMany, those, many-append}
 use Rattle.prelude.specs.declared.Text.{Text}
 use Rattle.store.specs.declared.Request.{Request}
 use Rattle.store.specs.Book.{Book, orderIn, requestIn}
-use Rattle.machine.specs.Codes.{gatewayKind}
+use Rattle.machine.specs.Constants.{gatewayKind}
 use Rattle.machine.specs.Orders.{hasGateway}
 use Rattle.machine.specs.Changes.{isFirst, isReplace, isGateway, isCancel, isAnswered}
 use Rattle.store.specs.Finds.{findName, findDownstream}
 use Rattle.machine.specs.History.{Decoded, unread, readAs, Entry}
-use Rattle.machine.specs.Claim.{holds, isEvent, starts, cancelsIn, once, sent, answeredIn, fails, failed}
+use Rattle.machine.specs.Claim.{holds, ofKind, starts, cancelsIn, once, sent, answeredIn, fails, failed}
 use Rattle.machine.specs.Since.{isHeld, known, downstreams}
 use Rattle.machine.proofs.Kept.Laws.{or-left, or-right, or-map}
 
@@ -39,7 +39,7 @@ unfoldable pub beginsAt : ℕ → Entry → Bool
 beginsAt j e = eqb (e .refusal) 0 && asksAt j (e .before) (e .input)
 
 unfoldable pub newByAt : Book → ℕ → Entry → List Entry → List Text
-newByAt image j e earlier = if isEvent 2 (e .input) then [] else those (λ d. isForAt j (e .left) d && not (known image d earlier)) (once (cancelsIn (e .messages)))
+newByAt image j e earlier = if ofKind 2 (e .input) then [] else those (λ d. isForAt j (e .left) d && not (known image d earlier)) (once (cancelsIn (e .messages)))
 
 -- the image's
 abbrev pub mine : ℕ → Request → Bool
@@ -124,8 +124,8 @@ answered-some b d e = go (findDownstream b d) refl e
 
 fails-cong : (e : Entry) (d d′ : Text) → sameText d d′ ≡ true → fails e d ≡ fails e d′
 fails-cong e d d′ s =
-    ap (λ (x : Option ℕ). isEvent 7 (e .input) && (not (maybe false (λ k. isAnswered (requestIn (e .before) k)) x) && answeredIn (e .left) d)) (find-cong (e .before) d d′ s)
-    ∙ ap (λ (x : Option ℕ). isEvent 7 (e .input) && (not (answeredIn (e .before) d′) && maybe false (λ k. isAnswered (requestIn (e .left) k)) x)) (find-cong (e .left) d d′ s)
+    ap (λ (x : Option ℕ). ofKind 7 (e .input) && (not (maybe false (λ k. isAnswered (requestIn (e .before) k)) x) && answeredIn (e .left) d)) (find-cong (e .before) d d′ s)
+    ∙ ap (λ (x : Option ℕ). ofKind 7 (e .input) && (not (answeredIn (e .before) d′) && maybe false (λ k. isAnswered (requestIn (e .left) k)) x)) (find-cong (e .left) d d′ s)
 
 pub gateway-cancels : (q : Request) → isGateway q ≡ true → isCancel q ≡ true
 unfolding isGateway isCancel isFirst isReplace
@@ -176,14 +176,14 @@ pub data Goes (e : Entry) : Type 0 where
   repeated : (d : Text) (k : ℕ) → cancelsIn (e .messages) ≡ d ∷ [] → findDownstream (e .before) d ≡ some k → isCancel (requestIn (e .before) k) ≡ true
       → ((d : Text) (k : ℕ) → findDownstream (e .left) d ≡ some k → findDownstream (e .before) d ≡ none → isCancel (requestIn (e .left) k) ≡ false) → Goes e
   fresh : (d : Text) (k : ℕ) → cancelsIn (e .messages) ≡ d ∷ [] → findDownstream (e .before) d ≡ none → findDownstream (e .left) d ≡ some k
-      → isGateway (requestIn (e .left) k) ≡ not (isEvent 2 (e .input)) → isAnswered (requestIn (e .left) k) ≡ false
+      → isGateway (requestIn (e .left) k) ≡ not (ofKind 2 (e .input)) → isAnswered (requestIn (e .left) k) ≡ false
       → ((d′ : Text) (k′ : ℕ) → findDownstream (e .left) d′ ≡ some k′ → findDownstream (e .before) d′ ≡ none → sameText d d′ ≡ true) → Goes e
 
 -- those that the gateway puts out for the order
 unfoldable pub newOf : {e : Entry} → Goes e → ℕ → List Text
 newOf (silent m n) j = []
 newOf (repeated d k m w c n) j = []
-newOf {e} (fresh d k m w v g a n) j = if not (isEvent 2 (e .input)) && eqb (requestIn (e .left) k .order) j then d ∷ [] else []
+newOf {e} (fresh d k m w v g a n) j = if not (ofKind 2 (e .input)) && eqb (requestIn (e .left) k .order) j then d ∷ [] else []
 
 -- the tries after the call, of an order whose gateway cancel then stands
 pub data Tried (j : ℕ) (e : Entry) (l : List Text) : Type 0 where
@@ -249,14 +249,14 @@ module _ (image : Book) (e : Entry) (past : List Entry) (s : Base image (e .befo
   news : (g : Goes e) (j : ℕ) → newByAt image j e past ≡ newOf g j
   unfolding newByAt newOf if_then_else_
   news (silent m n) j =
-      split-if (λ (l : List Text). l ≡ []) (isEvent 2 (e .input)) (λ c. refl)
+      split-if (λ (l : List Text). l ≡ []) (ofKind 2 (e .input)) (λ c. refl)
       (λ c. ap (λ (l : List Text). those (λ d. isForAt j (e .left) d && not (known image d past)) (once l)) m ∙ ap (those (λ d. isForAt j (e .left) d && not (known image d past))) once-none)
   news (repeated d k m w c n) j =
-      split-if (λ (l : List Text). l ≡ []) (isEvent 2 (e .input)) (λ c. refl)
+      split-if (λ (l : List Text). l ≡ []) (ofKind 2 (e .input)) (λ c. refl)
       (λ c′. ap (λ (l : List Text). those (λ d. isForAt j (e .left) d && not (known image d past)) (once l)) m
       ∙ ap (those (λ d. isForAt j (e .left) d && not (known image d past))) (once-one d)
       ∙ if-false _ (d ∷ []) [] (ap (λ (x : Bool). isForAt j (e .left) d && not x) (s .cancel-sent d k w c) ∙ both-false (isForAt j (e .left) d)))
-  news (fresh d k m w v g a n) j = go (isEvent 2 (e .input))
+  news (fresh d k m w v g a n) j = go (ofKind 2 (e .input))
     where
       held : (if isForAt j (e .left) d && not (known image d past) then d ∷ [] else []) ≡ (if eqb (requestIn (e .left) k .order) j then d ∷ [] else [])
       held = ap (λ (x : Bool). if isForAt j (e .left) d && not x then d ∷ [] else []) (unsent d w) ∙ ap (λ (x : Bool). if x then d ∷ [] else []) (and-true (isForAt j (e .left) d) ∙ for-at j d k v)
@@ -317,7 +317,7 @@ module _ (image : Book) (e : Entry) (past : List Entry) (s : Base image (e .befo
         was d k h c (inr w) = or-right (isHeld image d) (or-left (sent d past) (new-cancel (t .goes) d k h w c))
 
         answered : (d : Text) → (fails e d ≡ true) ⊎ (failed past d ≡ true) → (k : ℕ) × (findDownstream (e .left) d ≡ some k) × (isAnswered (requestIn (e .left) k) ≡ true)
-        answered d (inl p) = answered-some (e .left) d (both-true (not (answeredIn (e .before) d)) (answeredIn (e .left) d) (both-true (isEvent 7 (e .input)) _ p .1) .1)
+        answered d (inl p) = answered-some (e .left) d (both-true (not (answeredIn (e .before) d)) (answeredIn (e .left) d) (both-true (ofKind 7 (e .input)) _ p .1) .1)
         answered d (inr p) = let (k, w, a) = s .fail-answered d p in let (v, m) = t .grows d k w in (k, v, m .answered a)
 
     module _ (j : ℕ) (a : At image j (e .before) past) where
@@ -338,15 +338,15 @@ module _ (image : Book) (e : Entry) (past : List Entry) (s : Base image (e .befo
       unfolding newOf
       own-new (silent m n) l f d h = f d h
       own-new (repeated d₀ k m w c n) l f d h = f d h
-      own-new (fresh d₀ k m w v g u n) l f d h = go (not (isEvent 2 (e .input)) && eqb (requestIn (e .left) k .order) j) refl h
+      own-new (fresh d₀ k m w v g u n) l f d h = go (not (ofKind 2 (e .input)) && eqb (requestIn (e .left) k .order) j) refl h
         where
-          mine : not (isEvent 2 (e .input)) && eqb (requestIn (e .left) k .order) j ≡ true → (sameText d d₀ ≡ true) ⊎ (holds d l ≡ true) → Own j (e .left) d
+          mine : not (ofKind 2 (e .input)) && eqb (requestIn (e .left) k .order) j ≡ true → (sameText d d₀ ≡ true) ⊎ (holds d l ≡ true) → Own j (e .left) d
           mine z (inl p) =
-              let (x, y) = both-true (not (isEvent 2 (e .input))) (eqb (requestIn (e .left) k .order) j) z in
+              let (x, y) = both-true (not (ofKind 2 (e .input))) (eqb (requestIn (e .left) k .order) j) z in
               record { at = k; found = find-cong (e .left) d d₀ p ∙ v; by-gateway = g ∙ x; of-order = eqb-true _ _ y }
           mine z (inr p) = f d p
 
-          go : (x : Bool) → not (isEvent 2 (e .input)) && eqb (requestIn (e .left) k .order) j ≡ x → holds d ((if x then d₀ ∷ [] else []) ++ l) ≡ true → Own j (e .left) d
+          go : (x : Bool) → not (ofKind 2 (e .input)) && eqb (requestIn (e .left) k .order) j ≡ x → holds d ((if x then d₀ ∷ [] else []) ++ l) ≡ true → Own j (e .left) d
           go true z p = mine z (either-true (sameText d d₀) (holds d l) (unfold if_then_else_ in p))
           go false z p = f d (unfold if_then_else_ in p)
 
@@ -383,7 +383,7 @@ module _ (image : Book) (e : Entry) (past : List Entry) (s : Base image (e .befo
       new-put (fresh d₀ k m v x g a n) d w h =
           let p : sameText d d₀ ≡ true = same-back d₀ d (n d (w .at) (w .found) h) in
           let z : k ≡ w .at = same-some x (sym (find-cong (e .left) d d₀ p) ∙ w .found) in
-          ap (holds d) (if-true _ (d₀ ∷ []) [] (both-hold (not (isEvent 2 (e .input))) (eqb (requestIn (e .left) k .order) j)
+          ap (holds d) (if-true _ (d₀ ∷ []) [] (both-hold (not (ofKind 2 (e .input))) (eqb (requestIn (e .left) k .order) j)
           (sym g ∙ ap (λ (i : ℕ). isGateway (requestIn (e .left) i)) z ∙ w .by-gateway)
           (eq-eqb _ _ (ap (λ (i : ℕ). requestIn (e .left) i .order) z ∙ w .of-order))))
           ∙ holds-self d d₀ [] p
@@ -420,9 +420,9 @@ module _ (image : Book) (e : Entry) (past : List Entry) (s : Base image (e .befo
         where
           no! : fails e d ≡ false
           no! =
-              ap (λ (x : Bool). isEvent 7 (e .input) && (not (answeredIn (e .before) d) && x)) (answered-at (e .left) d k v ∙ u)
-              ∙ ap (λ (x : Bool). isEvent 7 (e .input) && x) (both-false (not (answeredIn (e .before) d)))
-              ∙ both-false (isEvent 7 (e .input))
+              ap (λ (x : Bool). ofKind 7 (e .input) && (not (answeredIn (e .before) d) && x)) (answered-at (e .left) d k v ∙ u)
+              ∙ ap (λ (x : Bool). ofKind 7 (e .input) && x) (both-false (not (answeredIn (e .before) d)))
+              ∙ both-false (ofKind 7 (e .input))
 
       -- what is left of the image's number after the call
       dropped : beginsAt j e ≡ true → (n : ℕ) → stillAt j (e ∷ past) n ≡ 0

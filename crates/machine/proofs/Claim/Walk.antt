@@ -18,20 +18,20 @@ use Rattle.prelude.specs.declared.Text.{Text}
 use Rattle.store.specs.declared.Order.{Order}
 use Rattle.store.specs.declared.Request.{Request}
 use Rattle.store.specs.Book.{Book, orderIn, requestIn}
-use Rattle.machine.specs.Codes.{unknown}
+use Rattle.machine.specs.Constants.{unknown}
 use Rattle.machine.specs.Messages.{cancelReject}
 use Rattle.machine.specs.Changes.{Event, unchanged, refusing, adding, telling, alarming}
 use Rattle.machine.specs.GatewayCancel.{cancelOrder}
 use Rattle.machine.specs.Amend.{has, refusal, amendRefusal, refuse, alreadyTaken, cancelRefusal, cancel, replaceRefusal, replace, venueCancelReject, sendFailed, unsent}
 use Rattle.machine.specs.Report.{unknownAtVenue}
 use Rattle.store.specs.Finds.{findName, findDownstream, findClordid, countClordids}
-use Rattle.machine.specs.Machine.{orderLink, orderOf, orderAtLink, factsOf, bookedOrder, firstRequest, unused, bookOrder, Amending, amending, onRequest, nothing, unknownReport, textNote, onReport, onName, changeOf, hasRoom, stepOf}
-use Rattle.machine.specs.History.{spoken}
+use Rattle.machine.specs.Machine.{orderLink, orderOf, orderAtLink, findingsOf, bookedOrder, firstRequest, unused, bookOrder, Amending, amending, onRequest, nothing, unknownReport, textNote, onReport, onName, changeOf, hasRoom, stepOf}
+use Rattle.records.specs.Answer.{chosen}
 use Rattle.machine.specs.Claim.{cancelsIn}
-use Rattle.machine.specs.declared.Facts.{Facts}
+use Rattle.machine.specs.declared.Findings.{Findings}
 use Rattle.machine.specs.declared.Refusal.{Refusal}
 use Rattle.machine.specs.declared.Change.{Change}
-use Rattle.machine.proofs.Claim.Laws.{tells, Whose, toldBy}
+use Rattle.machine.proofs.Claim.Laws.{tells, Whose, lastQtyBy}
 use Rattle.machine.proofs.Claim.Ruled.{Ruled, request-ruled}
 use Rattle.machine.proofs.Kept.Tables.{at-link}
 
@@ -42,12 +42,12 @@ pub record Bystands (c : Change) : Type 0 where
   pub answers : c .requests .answered ≡ 0
   pub supersedes : c .requests .superseded ≡ 0
   pub adds : c .requests .added ≡ 0
-  pub no-report : (t : Whose → Bool) → totalOf (toldBy t) (tells c) ≡ 0
+  pub no-report : (t : Whose → Bool) → totalOf (lastQtyBy t) (tells c) ≡ 0
   pub no-cancel : cancelsIn (tells c) ≡ []
 
 -- the change that books an order
 abbrev pub booking : Book → Event → Change
-booking b e = adding (firstRequest b e) (unchanged (length (b .orders) + 1) (bookedOrder b e))
+booking b e = adding (firstRequest (length (b .orders)) e) (unchanged (length (b .orders) + 1) (bookedOrder (length (b .requests) + 1) e))
 
 pub data Did (P : ℕ → Change → Type 0) (b : Book) (e : Event) : Change → Type 0 where
   turned-away : {c : Change} → eqb (c .refusal) 0 ≡ false → Did P b e c
@@ -83,8 +83,8 @@ found-clordid b client t k h = first-some _ _ k h .below
 
 -- ---- a cancel or replace of no order
 
-refuse-bystands : (f : Facts) (responseto : ℕ) (o : Order) (e : Event) (r : Refusal) → f .place ≡ 0 → Bystands (refuse f responseto o e r)
-unfolding refuse telling unchanged spoken if_then_else_ cancelReject cancelsIn
+refuse-bystands : (f : Findings) (responseto : ℕ) (o : Order) (e : Event) (r : Refusal) → f .place ≡ 0 → Bystands (refuse f responseto o e r)
+unfolding refuse telling unchanged if_then_else_ cancelReject cancelsIn
 refuse-bystands f responseto o e r p = record {
   taken = refl;
   nowhere = p;
@@ -95,7 +95,7 @@ refuse-bystands f responseto o e r p = record {
   no-cancel = refl;
 }
 
-none-taken : (f : Facts) (order : ℕ) (e : Event) → f .place ≡ 0 → alreadyTaken f order e ≡ false
+none-taken : (f : Findings) (order : ℕ) (e : Event) → f .place ≡ 0 → alreadyTaken f order e ≡ false
 unfolding alreadyTaken
 none-taken f order e p = ap (λ (n : ℕ). has e 21 && not (eqb order 0) && eqb order n) p ∙ go (has e 21) (eqb order 0)
   where
@@ -104,35 +104,35 @@ none-taken f order e p = ap (λ (n : ℕ). has e 21 && not (eqb order 0) && eqb 
     go true false = refl
     go false y = refl
 
-none-refused : (f : Facts) (order : ℕ) (full : Bool) (o : Order) (e : Event) (own : Refusal) → f .place ≡ 0
+none-refused : (f : Findings) (order : ℕ) (full : Bool) (o : Order) (e : Event) (own : Refusal) → f .place ≡ 0
     → eqb (amendRefusal f order full o e own .fixedtext) 0 ≡ false
 unfolding amendRefusal if_then_else_
 none-refused f order full o e own p =
     split-if (λ (r : Refusal). eqb (r .fixedtext) 0 ≡ false) (not (eqb order 0)) (λ h. refl)
     (λ h. split-if (λ (r : Refusal). eqb (r .fixedtext) 0 ≡ false) (eqb (f .place) 0) (λ k. refl) (λ k. clash _ (eq-eqb (f .place) 0 p) k))
 
-cancel-none : (f : Facts) (order : ℕ) (full : Bool) (o : Order) (e : Event) → f .place ≡ 0 → Bystands (cancel f order full o e)
+cancel-none : (f : Findings) (order : ℕ) (full : Bool) (o : Order) (e : Event) → f .place ≡ 0 → Bystands (cancel f order full o e)
 unfolding cancel
 cancel-none f order full o e p =
     split-if Bystands _ (λ h. clash _ h (none-taken f order e p))
     (λ h. split-if Bystands _ (λ k. refuse-bystands f _ o e _ p) (λ k. clash _ (not-false _ k) (none-refused f order full o e (cancelRefusal f o) p)))
 
-replace-none : (f : Facts) (order : ℕ) (full : Bool) (o : Order) (e : Event) → f .place ≡ 0 → Bystands (replace f order full o e)
+replace-none : (f : Findings) (order : ℕ) (full : Bool) (o : Order) (e : Event) → f .place ≡ 0 → Bystands (replace f order full o e)
 unfolding replace
 replace-none f order full o e p =
     split-if Bystands _ (λ h. clash _ h (none-taken f order e p))
     (λ h. split-if Bystands _ (λ k. refuse-bystands f _ o e _ p) (λ k. clash _ (not-false _ k) (none-refused f order full o e (replaceRefusal f o e) p)))
 
 nothing-bystands : Bystands nothing
-unfolding unchanged spoken if_then_else_ cancelsIn
+unfolding unchanged if_then_else_ cancelsIn
 nothing-bystands = record { taken = refl; nowhere = refl; answers = refl; supersedes = refl; adds = refl; no-report = λ t. refl; no-cancel = refl }
 
 unknown-bystands : Bystands unknownReport
-unfolding unchanged alarming spoken if_then_else_ cancelsIn
+unfolding unchanged alarming if_then_else_ cancelsIn
 unknown-bystands = record { taken = refl; nowhere = refl; answers = refl; supersedes = refl; adds = refl; no-report = λ t. refl; no-cancel = refl }
 
 pub refusing-bystands : Bystands (refusing 0)
-unfolding refusing spoken if_then_else_ cancelsIn
+unfolding refusing if_then_else_ cancelsIn
 refusing-bystands = record { taken = refl; nowhere = refl; answers = refl; supersedes = refl; adds = refl; no-report = λ t. refl; no-cancel = refl }
 
 pub refusing-away : (n : ℕ) → eqb n 0 ≡ false → eqb (refusing n .refusal) 0 ≡ false
@@ -150,21 +150,21 @@ requestsOrder b k = orderIn b (requestIn b k .order)
 
 pub record Handles (P : ℕ → Change → Type 0) (b : Book) (e : Event) : Type 0 where
   pub cancels : eqb (e .kind) 2 ≡ true → (i : ℕ) → i < length (b .orders) → (order : ℕ) (full : Bool)
-      → let c = cancel (factsOf b (i + 1)) order full (orderIn b i) e in Either (P i c) c
+      → let c = cancel (findingsOf b (i + 1)) order full (orderIn b i) e in Either (P i c) c
   pub replaces : eqb (e .kind) 3 ≡ true → (i : ℕ) → i < length (b .orders) → (order : ℕ) (full : Bool)
-      → let c = replace (factsOf b (i + 1)) order full (orderIn b i) e in Either (P i c) c
+      → let c = replace (findingsOf b (i + 1)) order full (orderIn b i) e in Either (P i c) c
   pub reports : eqb (e .kind) 4 ≡ true → (k : ℕ) → findDownstream b (e .ids .downstream) ≡ some k
-      → let c = onReport e (factsOf b (orderLink b k)) (k + 1) (requestIn b k) (requestsOrder b k) in Either (P (requestIn b k .order) c) c
+      → let c = onReport e (findingsOf b (orderLink b k)) (k + 1) (requestIn b k) (requestsOrder b k) in Either (P (requestIn b k .order) c) c
   pub unknowns : eqb (e .kind) 5 ≡ true → (k : ℕ) → findDownstream b (e .ids .downstream) ≡ some k
-      → let c = unknownAtVenue (factsOf b (orderLink b k)) (k + 1) (requestsOrder b k) e in Either (P (requestIn b k .order) c) c
+      → let c = unknownAtVenue (findingsOf b (orderLink b k)) (k + 1) (requestsOrder b k) e in Either (P (requestIn b k .order) c) c
   pub rejects : eqb (e .kind) 6 ≡ true → (k : ℕ) → findDownstream b (e .ids .downstream) ≡ some k
-      → let c = venueCancelReject (factsOf b (orderLink b k)) (k + 1) (requestIn b k) (requestsOrder b k) e in Either (P (requestIn b k .order) c) c
+      → let c = venueCancelReject (findingsOf b (orderLink b k)) (k + 1) (requestIn b k) (requestsOrder b k) e in Either (P (requestIn b k .order) c) c
   pub fails : eqb (e .kind) 7 ≡ true → (k : ℕ) → findDownstream b (e .ids .downstream) ≡ some k
-      → let c = sendFailed (factsOf b (orderLink b k)) (k + 1) (requestIn b k) (e .venue) (textNote e) (requestsOrder b k) in Either (P (requestIn b k .order) c) c
+      → let c = sendFailed (findingsOf b (orderLink b k)) (k + 1) (requestIn b k) (e .venue) (textNote e) (requestsOrder b k) in Either (P (requestIn b k .order) c) c
   pub resends : eqb (e .kind) 8 ≡ true → (k : ℕ) → findDownstream b (e .ids .downstream) ≡ some k
-      → let c = unsent (factsOf b (orderLink b k)) (k + 1) (requestIn b k) (e .venue) (requestsOrder b k) in Either (P (requestIn b k .order) c) c
+      → let c = unsent (findingsOf b (orderLink b k)) (k + 1) (requestIn b k) (e .venue) (requestsOrder b k) in Either (P (requestIn b k .order) c) c
   pub asks : (0 < e .kind → 8 < e .kind) → (i : ℕ) → findName b (e .ids .name) ≡ some i
-      → let c = cancelOrder (factsOf b (i + 1)) (orderIn b i) in Either (P i c) c
+      → let c = cancelOrder (findingsOf b (i + 1)) (orderIn b i) in Either (P i c) c
 
 module _ (P : ℕ → Change → Type 0) (b : Book) (e : Event) (r : Ruled b) where
   handled : (i : ℕ) (c : Change) → i < length (b .orders) → Either (P i c) c → Did P b e c
@@ -172,32 +172,32 @@ module _ (P : ℕ → Change → Type 0) (b : Book) (e : Event) (r : Ruled b) wh
   handled i c h (inl z) = turned-away z
   handled i c h (inr z) = on-order i h (z .0) (z .1)
 
-  by-request : (unknown : Change) (handle : Facts → ℕ → Request → Order → Change) → eqb (e .kind) 9 ≡ false → Bystands unknown
+  by-request : (unknown : Change) (handle : Findings → ℕ → Request → Order → Change) → eqb (e .kind) 9 ≡ false → Bystands unknown
       → ((k : ℕ) → findDownstream b (e .ids .downstream) ≡ some k
-      → let c = handle (factsOf b (orderLink b k)) (k + 1) (requestIn b k) (requestsOrder b k) in Either (P (requestIn b k .order) c) c)
+      → let c = handle (findingsOf b (orderLink b k)) (k + 1) (requestIn b k) (requestsOrder b k) in Either (P (requestIn b k .order) c) c)
       → Did P b e (onRequest unknown handle b e)
   unfolding onRequest
   by-request unknown handle z s h =
       split-maybe (Did P b e) _ (λ n. no-order s (inl z))
       (λ k w. handled (requestIn b k .order) _ (request-ruled b r k (found-request b (e .ids .downstream) k w) .placed) (h k w))
 
-  by-clordid : (handle : Amending) → eqb (e .kind) 9 ≡ false → ((order : ℕ) (full : Bool) → Bystands (handle (factsOf b 0) order full (orderAtLink b 0) e))
-      → ((i : ℕ) → i < length (b .orders) → (order : ℕ) (full : Bool) → let c = handle (factsOf b (i + 1)) order full (orderIn b i) e in Either (P i c) c)
+  by-clordid : (handle : Amending) → eqb (e .kind) 9 ≡ false → ((order : ℕ) (full : Bool) → Bystands (handle (findingsOf b 0) order full (orderAtLink b 0) e))
+      → ((i : ℕ) → i < length (b .orders) → (order : ℕ) (full : Bool) → let c = handle (findingsOf b (i + 1)) order full (orderIn b i) e in Either (P i c) c)
       → Did P b e (amending handle b e)
   unfolding amending orderOf
   by-clordid handle z s h =
       let order : ℕ = orderOf b (e .client) (e .ids .clordid) in
       let full : Bool = leb (b .setting) (countClordids b (e .client)) in
-      split-maybe (λ (p : ℕ). Did P b e (handle (factsOf b p) order full (orderAtLink b p) e)) (findClordid b (e .client) (e .ids .origclordid))
+      split-maybe (λ (p : ℕ). Did P b e (handle (findingsOf b p) order full (orderAtLink b p) e)) (findClordid b (e .client) (e .ids .origclordid))
       (λ n. no-order (s order full) (inl z))
       (λ k w.
       let i : ℕ = requestIn b k .order in
       let l : i < length (b .orders) = request-ruled b r k (found-clordid b (e .client) (e .ids .origclordid) k w) .placed in
-      subst (λ (o : Order). Did P b e (handle (factsOf b (i + 1)) order full o e)) (sym (at-link b i)) (handled i _ l (h i l order full)))
+      subst (λ (o : Order). Did P b e (handle (findingsOf b (i + 1)) order full o e)) (sym (at-link b i)) (handled i _ l (h i l order full)))
 
-facts-none : (b : Book) → factsOf b 0 .place ≡ 0
-unfolding factsOf
-facts-none b = refl
+findings-none : (b : Book) → findingsOf b 0 .place ≡ 0
+unfolding findingsOf
+findings-none b = refl
 
 name-unused : (b : Book) (e : Event) → unused b e ≡ true → findName b (e .ids .name) ≡ none
 unfolding unused maybe
@@ -219,8 +219,8 @@ module _ (P : ℕ → Change → Type 0) (b : Book) (e : Event) (r : Ruled b) (h
   walk =
       split-if D (eqb (e .kind) 1)
       (λ k. split-if D _ (λ u. turned-away refl) (λ u. split-if D _ (λ p. turned-away refl) (λ p. new-order k (name-unused b e (not-false _ u)))))
-      (λ k₁. split-if D (eqb (e .kind) 2) (λ k. by-clordid P b e r _ (not-kind e 2 9 k refl) (λ o f. cancel-none _ o f _ e (facts-none b)) (h .cancels k))
-      (λ k₂. split-if D (eqb (e .kind) 3) (λ k. by-clordid P b e r _ (not-kind e 3 9 k refl) (λ o f. replace-none _ o f _ e (facts-none b)) (h .replaces k))
+      (λ k₁. split-if D (eqb (e .kind) 2) (λ k. by-clordid P b e r _ (not-kind e 2 9 k refl) (λ o f. cancel-none _ o f _ e (findings-none b)) (h .cancels k))
+      (λ k₂. split-if D (eqb (e .kind) 3) (λ k. by-clordid P b e r _ (not-kind e 3 9 k refl) (λ o f. replace-none _ o f _ e (findings-none b)) (h .replaces k))
       (λ k₃. split-if D (eqb (e .kind) 4) (λ k. by-request P b e r _ _ (not-kind e 4 9 k refl) unknown-bystands (h .reports k))
       (λ k₄. split-if D (eqb (e .kind) 5) (λ k. by-request P b e r _ _ (not-kind e 5 9 k refl) unknown-bystands (h .unknowns k))
       (λ k₅. split-if D (eqb (e .kind) 6) (λ k. by-request P b e r _ _ (not-kind e 6 9 k refl) unknown-bystands (h .rejects k))

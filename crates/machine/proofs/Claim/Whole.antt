@@ -13,7 +13,7 @@ use borrow.Author.Tests.{eqb-true, eq-eqb, ne-eqb}
 use Rattle.prelude.specs.Below.{first-elim}
 use Rattle.prelude.specs.Cases.{if_then_else_, maybe, split-if, clash, both-hold, both-false, if-true, if-false, maybe-none, test-same, true-or-false, none-some}
 use Rattle.prelude.specs.Texts.{sameText, same-self, same-back}
-use Rattle.prelude.specs.Totals.{totalOf, someOf, howMany, those, Every, every[], every∷, many-append, every-map}
+use Rattle.prelude.specs.Totals.{totalOf, someOf, howMany, those, Every, every[], every∷, many-append, every-map, those-ext, total-one}
 use Rattle.prelude.specs.declared.Text.{Text}
 use Rattle.store.specs.declared.Order.{Order}
 use Rattle.store.specs.declared.Request.{Request}
@@ -24,20 +24,20 @@ use Rattle.machine.specs.Changes.{Event, Message, refusing, adding, isFi
 use Rattle.store.specs.Finds.{bearsName, findName, findDownstream}
 use Rattle.machine.specs.Machine.{bookedOrder, firstRequest, answerLink, requestsAfter, after, hasRoom, stepOf}
 use Rattle.machine.specs.Rules.{rules}
-use Rattle.machine.specs.History.{Decoded, unread, readAs, comesTo, Entry, lineOf, State, next, run, Kinds}
-use Rattle.machine.specs.Claim.{isEvent, starts, asks, begins, cancelsIn, once, isFor, answeredIn, fails, failed}
-use Rattle.machine.specs.Since.{heldTries, heldOut, known, newBy, newOut, begun, baseTries, baseOut, fresh, DemandFrom}
+use Rattle.machine.specs.History.{Decoded, unread, readAs, comesTo, Entry, lineOf, State, next, run, Kinds, startFrom}
+use Rattle.machine.specs.Claim.{ofKind, starts, asks, begins, cancelsIn, once, isFor, answeredIn, fails, failed, putOutBy}
+use Rattle.machine.specs.Since.{heldTries, heldOut, known, newOut, begunSince, baseTries, baseOut, DemandFrom}
 use Rattle.machine.specs.declared.Change.{Change}
 use Rattle.machine.proofs.Kept.Keep.{tries-at}
 use Rattle.machine.proofs.Kept.Lift.{BookKept, book-kept}
 use Rattle.machine.proofs.Kept.Consequences.{names-apart}
-use Rattle.machine.proofs.Claim.Laws.{tells, Whose, whose, filledBy, bears, total-one}
+use Rattle.machine.proofs.Claim.Laws.{tells, Whose, whose, filledBy, bears}
 use Rattle.machine.proofs.Claim.Moves.{Moves}
 use Rattle.machine.proofs.Claim.Ruled.{Ruled, ruled, request-ruled}
 use Rattle.machine.proofs.Claim.Walk.{Bystands, booking, Did, Roomy, turned-away, no-order, on-order, new-order, found-request, found-order, found-name, not-kind, step-walk, refusing-bystands, refusing-away}
 use Rattle.machine.proofs.Claim.Filled.{Moved, Persists, persists-same, same-name, persists-trans, status-stays, call-advances, Steady, steady, orders-set, orders-same, orders-more, at, beside, long, more-at, more-beside, more-long, changed-persists, after-orders, refused-line, taken-line, booking-place, booking-silent}
 use Rattle.machine.proofs.Claim.Records.{there-like, longer, added-at, added-long, none-kept}
-use Rattle.machine.proofs.Claim.Net.{run-told}
+use Rattle.machine.proofs.Claim.Net.{run-netted}
 use Rattle.machine.proofs.Claim.Turn.{isForAt, asksAt, beginsAt, newByAt, heldAt, outAt, stillAt, TriesOf, Tries, Base, At, silent, newOf, goes-on, Turn, base-kept, at-kept}
 use Rattle.machine.proofs.Claim.Image.{downstreams-same, start-base, start-at}
 use Rattle.machine.proofs.Claim.Steps.{line, grown, none-new, Shaped, shape-turn, few-tries, added-own}
@@ -71,7 +71,7 @@ still-round b i n ms m beg = record {
   turn = record {
     grows = λ d k h. (h, record { kind = refl; order = refl; answered = λ a. a });
     goes = silent m (λ d k h w. none-some w h);
-    tried = λ j hg. goes-on (beg j) hg (λ d w. never (isEvent 7 i) (answeredIn b d)) (omega arith);
+    tried = λ j hg. goes-on (beg j) hg (λ d w. never (ofKind 7 i) (answeredIn b d)) (omega arith);
   };
   few = λ f. f;
   placed = λ p. p;
@@ -164,7 +164,7 @@ module _ (laws : NumberedLaws) (b : Book) (r : Ruled b) (e : Event) (i : ℕ) (h
                   omega (arith, long b c i h m (after b c) set-orders)
 
 -- an order is booked
-booked-gateway : (b : Book) (e : Event) → hasGateway (bookedOrder b e) ≡ false
+booked-gateway : (b : Book) (e : Event) → hasGateway (bookedOrder (length (b .requests) + 1) e) ≡ false
 unfolding bookedOrder hasGateway
 booked-gateway b e = refl
 
@@ -172,7 +172,7 @@ no-gateway : hasGateway noOrder ≡ false
 unfolding hasGateway
 no-gateway = refl
 
-booked-name : (b : Book) (e : Event) → bookedOrder b e .names .name ≡ e .ids .name
+booked-name : (b : Book) (e : Event) → bookedOrder (length (b .requests) + 1) e .names .name ≡ e .ids .name
 unfolding bookedOrder
 booked-name b e = refl
 
@@ -182,7 +182,7 @@ unfolding adding firstRequest isCancel isFirst isReplace
 booking-request b e = (refl, refl, refl)
 
 module _ (b : Book) (r : Ruled b) (e : Event) (k : eqb (e .kind) 1 ≡ true) (u : findName b (e .ids .name) ≡ none) where
-  more-orders : after b (booking b e) .orders ≡ b .orders ++ (bookedOrder b e ∷ [])
+  more-orders : after b (booking b e) .orders ≡ b .orders ++ (bookedOrder (length (b .requests) + 1) e ∷ [])
   more-orders =
       let p = booking-place b e in
       after-orders b (booking b e) ∙ orders-more (b .orders) (booking b e) (p .1) ∙ ap (λ (x : Order). b .orders ++ (x ∷ [])) (p .2)
@@ -192,11 +192,11 @@ module _ (b : Book) (r : Ruled b) (e : Event) (k : eqb (e .kind) 1 ≡ true) (u 
   old-order j hg = go (decLt j (length (b .orders))) (ℕ-discrete j (length (b .orders)))
     where
       go : Dec (j < length (b .orders)) → Dec (j ≡ length (b .orders)) → orderIn (after b (booking b e)) j ≡ orderIn b j
-      go (yes l) d = more-beside b (bookedOrder b e) (after b (booking b e)) more-orders j l
+      go (yes l) d = more-beside b (bookedOrder (length (b .requests) + 1) e) (after b (booking b e)) more-orders j l
       go (no l) (yes z) =
-          clash _ hg (ap (λ (n : ℕ). hasGateway (orderIn (after b (booking b e)) n)) z ∙ ap hasGateway (more-at b (bookedOrder b e) (after b (booking b e)) more-orders) ∙ booked-gateway b e)
+          clash _ hg (ap (λ (n : ℕ). hasGateway (orderIn (after b (booking b e)) n)) z ∙ ap hasGateway (more-at b (bookedOrder (length (b .requests) + 1) e) (after b (booking b e)) more-orders) ∙ booked-gateway b e)
       go (no l) (no z) =
-          clash _ hg (ap hasGateway (List·getD-eq-default (after b (booking b e) .orders) noOrder (let n = more-long b (bookedOrder b e) (after b (booking b e)) more-orders in omega arith)) ∙ no-gateway)
+          clash _ hg (ap hasGateway (List·getD-eq-default (after b (booking b e) .orders) noOrder (let n = more-long b (bookedOrder (length (b .requests) + 1) e) (after b (booking b e)) more-orders in omega arith)) ∙ no-gateway)
 
   fresh-name : (j : ℕ) → j < length (b .orders) → sameText (orderIn b j .names .name) (e .ids .name) ≡ false
   unfolding findName
@@ -225,23 +225,23 @@ module _ (b : Book) (r : Ruled b) (e : Event) (k : eqb (e .kind) 1 ≡ true) (u 
 
       own : Placed b → (n : ℕ) → n < length (after b (booking b e) .requests) → Dec (n < length (b .requests))
           → requestIn (after b (booking b e)) n .order < length (after b (booking b e) .orders)
-      own p n l (yes z) = omega (arith, there-like b (booking b e) n z .order, p n z, more-long b (bookedOrder b e) (after b (booking b e)) more-orders)
+      own p n l (yes z) = omega (arith, there-like b (booking b e) n z .order, p n z, more-long b (bookedOrder (length (b .requests) + 1) e) (after b (booking b e)) more-orders)
       own p n l (no z) =
           let (x, y, w) = booking-request b e in
           let one : (booking b e .requests .added ≡ 0 → ⊥) = (λ v. omega arith) in
           let at-end : n ≡ length (b .requests) = omega (arith, added-long b (booking b e) one) in
           let v : requestIn (after b (booking b e)) n .order ≡ length (b .orders) =
           ap (λ (j : ℕ). requestIn (after b (booking b e)) j .order) at-end ∙ ap (λ (q : Request). q .order) (added-at b (booking b e) one) ∙ x in
-          omega (arith, more-long b (bookedOrder b e) (after b (booking b e)) more-orders)
+          omega (arith, more-long b (bookedOrder (length (b .requests) + 1) e) (after b (booking b e)) more-orders)
 
       name-at : (j : ℕ) → j < length (b .orders) → orderIn (after b (booking b e)) j .names .name ≡ orderIn b j .names .name
-      name-at j l = ap (λ (o : Order). o .names .name) (more-beside b (bookedOrder b e) (after b (booking b e)) more-orders j l)
+      name-at j l = ap (λ (o : Order). o .names .name) (more-beside b (bookedOrder (length (b .requests) + 1) e) (after b (booking b e)) more-orders j l)
 
       new-name : (j : ℕ) → j < length (after b (booking b e) .orders) → (j < length (b .orders) → ⊥) → orderIn (after b (booking b e)) j .names .name ≡ e .ids .name
       new-name j l n =
-          let z : j ≡ length (b .orders) = omega (arith, more-long b (bookedOrder b e) (after b (booking b e)) more-orders) in
+          let z : j ≡ length (b .orders) = omega (arith, more-long b (bookedOrder (length (b .requests) + 1) e) (after b (booking b e)) more-orders) in
           ap (λ (i : ℕ). orderIn (after b (booking b e)) i .names .name) z
-          ∙ ap (λ (o : Order). o .names .name) (more-at b (bookedOrder b e) (after b (booking b e)) more-orders) ∙ booked-name b e
+          ∙ ap (λ (o : Order). o .names .name) (more-at b (bookedOrder (length (b .requests) + 1) e) (after b (booking b e)) more-orders) ∙ booked-name b e
 
       pair : Apart b → (i j : ℕ) → i < length (after b (booking b e) .orders) → j < length (after b (booking b e) .orders)
           → sameText (orderIn (after b (booking b e)) i .names .name) (orderIn (after b (booking b e)) j .names .name) ≡ true
@@ -251,7 +251,7 @@ module _ (b : Book) (r : Ruled b) (e : Event) (k : eqb (e .kind) 1 ≡ true) (u 
           clash _ (sym (ap (sameText (orderIn b i .names .name)) (new-name j lj y)) ∙ sym (ap (λ (t : Text). sameText t (orderIn (after b (booking b e)) j .names .name)) (name-at i x)) ∙ w) (fresh-name i x)
       pair a i j li lj w (no x) (yes y) =
           clash _ (sym (ap (sameText (orderIn b j .names .name)) (new-name i li x)) ∙ sym (ap (λ (t : Text). sameText t (orderIn (after b (booking b e)) i .names .name)) (name-at j y)) ∙ same-back _ _ w) (fresh-name j y)
-      pair a i j li lj w (no x) (no y) = omega (arith, more-long b (bookedOrder b e) (after b (booking b e)) more-orders)
+      pair a i j li lj w (no x) (no y) = omega (arith, more-long b (bookedOrder (length (b .requests) + 1) e) (after b (booking b e)) more-orders)
 
 -- ---- a call
 
@@ -296,7 +296,7 @@ pub record Second (image : Book) (s : State) : Type 0 where
   pub known : Every (Known (s .book)) (s .past)
 
 module _ (laws : NumberedLaws) (image : Book) where
-  start-second : BookKept image → Second image (fresh image)
+  start-second : BookKept image → Second image (startFrom image)
   start-second good = record {
     base = start-base laws image good;
     orders = start-at laws image good;
@@ -335,11 +335,6 @@ module _ (laws : NumberedLaws) (image : Book) where
     run-second s (i ∷ is) a = run-second (next s (read i)) is (next-second s (read i) (λ e h. (kinds .above i e h, kinds .below i e h)) a)
 
 -- ---- from the index to the name
-
-pub those-same : (f g : Text → Bool) (l : List Text) → ((d : Text) → f d ≡ g d) → those f l ≡ those g l
-those-same f g [] h = refl
-those-same f g (d ∷ l) h =
-    ap (λ (x : Bool). if x then d ∷ those f l else those f l) (h d) ∙ ap (λ (x : List Text). if g d then d ∷ x else x) (those-same f g l h)
 
 module _ (b : Book) (a : Apart b) (j : ℕ) (h : j < length (b .orders)) where
   -- an earlier book's order has the name just where it is the same order
@@ -387,20 +382,20 @@ module _ (b : Book) (a : Apart b) (j : ℕ) (h : j < length (b .orders)) where
       go none w = refl
       go (some i) w = ap (λ (y : Bool). y && starts c i) (same-order c p i (found-order c (e .ids .name) i w))
 
-  by-same : (image : Book) (e : Entry) (past : List Entry) → Known b e → newBy image (orderIn b j .names .name) e past ≡ newByAt image j e past
-  unfolding newBy newByAt
+  by-same : (image : Book) (e : Entry) (past : List Entry) → Known b e → putOutBy (known image) (orderIn b j .names .name) e past ≡ newByAt image j e past
+  unfolding putOutBy newByAt
   by-same image e past k =
-      ap (λ (l : List Text). if isEvent 2 (e .input) then [] else l)
-      (those-same _ _ (once (cancelsIn (e .messages))) (λ d. ap (λ (x : Bool). x && not (known image d past)) (for-same e k d)))
+      ap (λ (l : List Text). if ofKind 2 (e .input) then [] else l)
+      (those-ext _ _ (once (cancelsIn (e .messages))) (λ d. ap (λ (x : Bool). x && not (known image d past)) (for-same e k d)))
 
   begins-same : (e : Entry) → Known b e → begins (orderIn b j .names .name) e ≡ beginsAt j e
   unfolding beginsAt
   begins-same e k = ap (λ (x : Bool). eqb (e .refusal) 0 && x) (asks-same (e .before) (k .before) (e .input))
 
-  begun-same : (past : List Entry) → Every (Known b) past → begun (orderIn b j .names .name) past ≡ someOf (beginsAt j) past
+  begun-same : (past : List Entry) → Every (Known b) past → begunSince (orderIn b j .names .name) past ≡ someOf (beginsAt j) past
   begun-same [] every[] = refl
   begun-same (e ∷ past) (every∷ k ks) =
-      ap (λ (x : Bool). x || begun (orderIn b j .names .name) past) (begins-same e k) ∙ ap (λ (x : Bool). beginsAt j e || x) (begun-same past ks)
+      ap (λ (x : Bool). x || begunSince (orderIn b j .names .name) past) (begins-same e k) ∙ ap (λ (x : Bool). beginsAt j e || x) (begun-same past ks)
 
   module _ (image : Book) (good : BookKept image) (p : Persists image b) where
     held-same : heldOut image (orderIn b j .names .name) ≡ heldAt image j
@@ -430,10 +425,10 @@ module _ (b : Book) (a : Apart b) (j : ℕ) (h : j < length (b .orders)) where
         ∙ ap (λ (x : Bool). newByAt image j e past ++ (if x then [] else outAt image j past)) (begins-same e k)
       where
         new : List Text
-        new = newBy image (orderIn b j .names .name) e past
+        new = putOutBy (known image) (orderIn b j .names .name) e past
 
         go : (x : Bool) → newOut image (orderIn b j .names .name) past ++ baseOut image (orderIn b j .names .name) past ≡ outAt image j past
-            → (new ++ (if x then [] else newOut image (orderIn b j .names .name) past)) ++ (if x || begun (orderIn b j .names .name) past then [] else heldOut image (orderIn b j .names .name))
+            → (new ++ (if x then [] else newOut image (orderIn b j .names .name) past)) ++ (if x || begunSince (orderIn b j .names .name) past then [] else heldOut image (orderIn b j .names .name))
             ≡ new ++ (if x then [] else outAt image j past)
         go true r = append-nil (new ++ [])
         go false r = append-assoc new _ _ ∙ ap (λ (l : List Text). new ++ l) r
@@ -448,7 +443,7 @@ module _ (b : Book) (a : Apart b) (j : ℕ) (h : j < length (b .orders)) where
         let many = many-append (failed past) (newOut image name past) (baseOut image name past) in
         let long = length-append (newOut image name past) (baseOut image name past) in
         let base : length (baseOut image name past) ≡ stillAt j past (length (heldAt image j)) =
-        cut (begun name past) (heldOut image name) ∙ ap (λ (x : Bool). if x then 0 else length (heldOut image name)) (begun-same past ks)
+        cut (begunSince name past) (heldOut image name) ∙ ap (λ (x : Bool). if x then 0 else length (heldOut image name)) (begun-same past ks)
         ∙ ap (λ (l : List Text). stillAt j past (length l)) held-same in
         let tries : baseTries image name past ≡ stillAt j past (orderIn image j .gateway .tries) =
         ap (λ (x : Bool). if x then 0 else heldTries image name) (begun-same past ks) ∙ ap (stillAt j past) (held-at (λ o. o .gateway .tries) refl) in
@@ -462,16 +457,16 @@ module _ (b : Book) (a : Apart b) (j : ℕ) (h : j < length (b .orders)) where
 
 pub demand-from : DemandFrom
 demand-from In read kinds image r is =
-    let s = run read (fresh image) is in
+    let s = run read (startFrom image) is in
     let good = book-kept image r in
     let f : Steady image s = steady read image good is in
-    let a : Second image s = run-second numbered-laws image read kinds (fresh image) is (start-second numbered-laws image good) in
+    let a : Second image s = run-second numbered-laws image read kinds (startFrom image) is (start-second numbered-laws image good) in
     record {
       filled = λ j h.
           let its : Whose → Bool = bears (orderIn (s .book) j .client) (orderIn (s .book) j .names .name) in
           omega (
             arith,
-            run-told image its read (fresh image) is (omega arith),
+            run-netted image its read (startFrom image) is (omega arith),
             picked (s .book) (a .apart) j h image (f .since),
             picked (s .book) (a .apart) j h (s .book) (persists-same (s .book)),
             held-at (s .book) (a .apart) j h image good (f .since) (λ o. o .state .cumqty) refl,

@@ -11,44 +11,18 @@ use lib.ListN.{length, getD, set, length-append, length-set, List·getD-append}
 use lib.Seq.{getD-set-same, getD-set-other, set-append-left, set-comm, getD-at}
 use borrow.Author.Tests.{eq-eqb, ne-eqb}
 use Rattle.prelude.specs.Cases.{if_then_else_, if-true, if-false}
-use Rattle.prelude.specs.Totals.{totalOf, those}
+use Rattle.prelude.specs.Totals.{those, those-append, append-swap}
 use Rattle.store.specs.declared.Order.{Order}
 use Rattle.store.specs.declared.Request.{Request}
-use Rattle.store.specs.Book.{Book, orderIn, requestIn}
+use Rattle.store.specs.Book.{Book, orderIn, requestIn, answered}
 use Rattle.store.specs.Orders.{noOrder}
 use Rattle.store.specs.Requests.{noRequest}
-use Rattle.machine.specs.Machine.{answeredRequest, answerLink, requestsAfter, after}
+use Rattle.machine.specs.Machine.{answerLink, requestsAfter, after}
 use Rattle.machine.specs.declared.Requests.{Requests}
 use Rattle.machine.specs.declared.Change.{Change}
 use Rattle.machine.proofs.Kept.Tables.{at, length-answer}
 use Rattle.machine.proofs.Claim.Filled.{orders-set, after-orders}
 use Rattle.machine.proofs.Exchange.Frame.{Owned, owned-orders}
-
--- ---- lists
-
-module _ {A : Type 0} where
-  those-append : (f : A → Bool) (s t : List A) → those f (s ++ t) ≡ those f s ++ those f t
-  those-append f [] t = refl
-  those-append f (x ∷ s) t = go (f x) (those-append f s t)
-    where
-      go : (a : Bool) → those f (s ++ t) ≡ those f s ++ those f t → (if a then x ∷ those f (s ++ t) else those f (s ++ t)) ≡ (if a then x ∷ those f s else those f s) ++ those f t
-      go true e = unfold if_then_else_ in ap (λ (l : List A). x ∷ l) e
-      go false e = unfold if_then_else_ in e
-
-  -- in either order, where one of the two is empty
-  turned : (x s t : List A) → (s ≡ []) ⊎ (t ≡ []) → (x ++ s) ++ t ≡ (x ++ t) ++ s
-  turned x s t (inl e) = ap (λ (y : List A). (x ++ y) ++ t) e ∙ ap (λ (y : List A). y ++ t) (append-nil x) ∙ sym (ap (λ (y : List A). (x ++ t) ++ y) e ∙ append-nil (x ++ t))
-  turned x s t (inr e) = ap (λ (y : List A). (x ++ s) ++ y) e ∙ append-nil (x ++ s) ∙ sym (ap (λ (y : List A). (x ++ y) ++ s) e ∙ ap (λ (y : List A). y ++ s) (append-nil x))
-
-  -- two lists of one length, alike at each place
-  pub total-ext : (f : A → ℕ) (d : A) (s t : List A) → length s ≡ length t → ((k : ℕ) → f (getD s k d) ≡ f (getD t k d)) → totalOf f s ≡ totalOf f t
-  total-ext f d [] [] e h = refl
-  total-ext f d [] (y ∷ t) e h = absurd (omega arith)
-  total-ext f d (x ∷ s) [] e h = absurd (omega arith)
-  total-ext f d (x ∷ s) (y ∷ t) e h =
-      let here : f x ≡ f y = h 0 in
-      let rest : totalOf f s ≡ totalOf f t = total-ext f d s t (omega arith) (λ k. h (suc k)) in
-      omega arith
 
 -- the requests of the order at index k
 abbrev ownBy : ℕ → Request → Bool
@@ -64,12 +38,12 @@ answer-front : (k : ℕ) (s t : List Request) → k ≤ length s → answerLink 
 unfolding answerLink
 answer-front k s t l = go (ℕ-discrete k 0)
   where
-    go : Dec (k ≡ 0) → (if eqb k 0 then s ++ t else set (s ++ t) (k - 1) (answeredRequest (at (s ++ t) (k - 1)))) ≡ (if eqb k 0 then s else set s (k - 1) (answeredRequest (at s (k - 1)))) ++ t
+    go : Dec (k ≡ 0) → (if eqb k 0 then s ++ t else set (s ++ t) (k - 1) (answered (at (s ++ t) (k - 1)))) ≡ (if eqb k 0 then s else set s (k - 1) (answered (at s (k - 1)))) ++ t
     go (yes z) = if-true _ _ _ (eq-eqb k 0 z) ∙ ap (λ (x : List Request). x ++ t) (sym (if-true (eqb k 0) s _ (eq-eqb k 0 z)))
     go (no z) =
         let h : k - 1 < length s = omega arith in
         if-false _ _ _ (ne-eqb k 0 z)
-        ∙ ap (λ (q : Request). set (s ++ t) (k - 1) (answeredRequest q)) (List·getD-append s t noRequest (k - 1) h)
+        ∙ ap (λ (q : Request). set (s ++ t) (k - 1) (answered q)) (List·getD-append s t noRequest (k - 1) h)
         ∙ set-append-left s t (k - 1) _ h
         ∙ ap (λ (x : List Request). x ++ t) (sym (if-false (eqb k 0) s _ (ne-eqb k 0 z)))
 
@@ -80,14 +54,14 @@ answer-comm k l qs = go (ℕ-discrete k l) (ℕ-discrete k 0) (ℕ-discrete l 0)
     none : (x : ℕ) (s : List Request) → x ≡ 0 → answerLink x s ≡ s
     none x s z = unfold answerLink in if-true _ _ _ (eq-eqb x 0 z)
 
-    one : (x : ℕ) (s : List Request) → (x ≡ 0 → ⊥) → answerLink x s ≡ set s (x - 1) (answeredRequest (at s (x - 1)))
+    one : (x : ℕ) (s : List Request) → (x ≡ 0 → ⊥) → answerLink x s ≡ set s (x - 1) (answered (at s (x - 1)))
     one x s z = unfold answerLink in if-false _ _ _ (ne-eqb x 0 z)
 
     both : (x y : ℕ) → (x ≡ 0 → ⊥) → (y ≡ 0 → ⊥) → (x - 1 ≡ y - 1 → ⊥)
-        → answerLink x (answerLink y qs) ≡ set (set qs (y - 1) (answeredRequest (at qs (y - 1)))) (x - 1) (answeredRequest (at qs (x - 1)))
+        → answerLink x (answerLink y qs) ≡ set (set qs (y - 1) (answered (at qs (y - 1)))) (x - 1) (answered (at qs (x - 1)))
     both x y nx ny d =
         ap (answerLink x) (one y qs ny) ∙ one x _ nx
-        ∙ ap (λ (q : Request). set (set qs (y - 1) (answeredRequest (at qs (y - 1)))) (x - 1) (answeredRequest q)) (getD-set-other qs (y - 1) (x - 1) _ noRequest d)
+        ∙ ap (λ (q : Request). set (set qs (y - 1) (answered (at qs (y - 1)))) (x - 1) (answered q)) (getD-set-other qs (y - 1) (x - 1) _ noRequest d)
 
     go : Dec (k ≡ l) → Dec (k ≡ 0) → Dec (l ≡ 0) → answerLink k (answerLink l qs) ≡ answerLink l (answerLink k qs)
     go (yes e) p q = ap (λ (x : ℕ). answerLink x (answerLink l qs)) e ∙ ap (λ (x : ℕ). answerLink l (answerLink x qs)) (sym e)
@@ -188,7 +162,7 @@ module _ (b : Book) (i j : ℕ) (n : i ≡ j → ⊥) (c d : Change) (w : Owned 
       requests : after (after b c) d .requests ≡ after (after b d) c .requests
       requests =
           requests-two b i j c d d w v refl
-          ∙ turned (settle (d .requests) (settle (c .requests) (b .requests))) (more (c .requests)) (more (d .requests)) (⊎-elim (λ z. inl (none-more (c .requests) z)) (λ z. inr (none-more (d .requests) z)) a)
+          ∙ append-swap (settle (d .requests) (settle (c .requests) (b .requests))) (more (c .requests)) (more (d .requests)) (⊎-elim (λ z. inl (none-more (c .requests) z)) (λ z. inr (none-more (d .requests) z)) a)
           ∙ ap (λ (s : List Request). (s ++ more (d .requests)) ++ more (c .requests)) (settle-comm (d .requests) (c .requests) (b .requests))
           ∙ sym (requests-two b j i d c c v w refl)
 
@@ -265,7 +239,7 @@ module _ (b : Book) (i j : ℕ) (c c′ d d′ : Change) (w : Owned b i c) (v : 
 
       whole : (ownOf k (more (c .requests)) ≡ []) ⊎ (ownOf k (more (d .requests)) ≡ []) → ownOf k (one .requests) ≡ ownOf k (two .requests)
       whole e =
-          ap (ownOf k) requests-one ∙ parts (more (c .requests)) (more (d .requests)) ∙ turned (ownOf k both-settled) (ownOf k (more (c .requests))) (ownOf k (more (d .requests))) e
+          ap (ownOf k) requests-one ∙ parts (more (c .requests)) (more (d .requests)) ∙ append-swap (ownOf k both-settled) (ownOf k (more (c .requests))) (ownOf k (more (d .requests))) e
           ∙ sym (parts (more (d .requests)) (more (c .requests))) ∙ sym (ap (ownOf k) requests-other)
 
       go : Dec (i ≡ k) → ownOf k (one .requests) ≡ ownOf k (two .requests)

@@ -12,7 +12,7 @@ use lib.Dec.{eqb, leb, ltb}
 use lib.ListN.{length, getD, set, length-set}
 use lib.Seq.{getD-set-same, getD-set-other}
 use borrow.Author.Tests.{eqb-true, eq-eqb, ne-eqb, leb-true}
-use Rattle.prelude.specs.Below.{firstBelow, countBelow, First, first-some, first-hit, first-ext, count-ext}
+use Rattle.prelude.specs.Below.{firstBelow, countBelow, First, first-some, first-hit, first-ext, first-past, count-ext, count-past}
 use Rattle.prelude.specs.Cases.{if_then_else_, maybe, both-true, both-false, either-true, clash}
 use Rattle.prelude.specs.Texts.{sameText}
 use Rattle.prelude.specs.declared.Text.{Text}
@@ -31,32 +31,6 @@ use Rattle.machine.proofs.Kept.Lift.{BookKept, after-case}
 use Rattle.machine.proofs.Claim.Filled.{orders-set, after-orders}
 use Rattle.machine.proofs.Claim.Records.{there-like, there-other, longer, added-long, added-at, none-kept}
 use Rattle.machine.proofs.Exchange.Links.{Within}
-
--- ---- a longer range whose rest does not pass
-
-module _ (p : ℕ → Bool) (n : ℕ) where
-  first-past : (m : ℕ) → n ≤ m → ((k : ℕ) → n ≤ k → k < m → p k ≡ false) → firstBelow p m ≡ firstBelow p n
-  unfolding firstBelow
-  first-past zero l h = let z : 0 ≡ n = omega arith in ap (firstBelow p) z
-  first-past (suc m) l h =
-      ⊎-elim (λ e. ap (firstBelow p) (sym e))
-      (λ u. miss (firstBelow p m) (p m) (h m (le-of-suc-le-suc u) (omega arith)) ∙ first-past m (le-of-suc-le-suc u) (λ k a b. h k a (omega arith)))
-      (eq-or-lt-of-le l)
-    where
-      miss : (o : Option ℕ) (a : Bool) → a ≡ false → maybe (if a then some m else none) some o ≡ o
-      miss none a e = unfold maybe if_then_else_ in rw e
-      miss (some k) a e = unfold maybe in refl
-
-  count-past : (m : ℕ) → n ≤ m → ((k : ℕ) → n ≤ k → k < m → p k ≡ false) → countBelow p m ≡ countBelow p n
-  unfolding countBelow
-  count-past zero l h = let z : 0 ≡ n = omega arith in ap (countBelow p) z
-  count-past (suc m) l h =
-      ⊎-elim (λ e. ap (countBelow p) (sym e))
-      (λ u. miss (countBelow p m) (p m) (h m (le-of-suc-le-suc u) (omega arith)) ∙ count-past m (le-of-suc-le-suc u) (λ k a b. h k a (omega arith)))
-      (eq-or-lt-of-le l)
-    where
-      miss : (c : ℕ) (a : Bool) → a ≡ false → c + (if a then 1 else 0) ≡ c
-      miss c a e = unfold if_then_else_ in rw e (omega arith)
 
 -- ---- a change of the order at index i and of its own requests
 

@@ -23,9 +23,9 @@ use Rattle.machine.specs.Changes.{Event, unchanged, refusing, adding, te
 use Rattle.machine.specs.GatewayCancel.{sendGatewayCancel, cancelOrder}
 use Rattle.machine.specs.Amend.{refuse, statusReport, cancelGoes, cancel, replaceGoes, replace, venueCancelReject, sendFailed, unsent}
 use Rattle.machine.specs.Report.{unknownAtVenue}
-use Rattle.machine.specs.Machine.{orderLink, orderOf, latestCancel, orderAtLink, factsOf, Amending, amending, onRequest, nothing, unknownReport, textNote, onReport, onName, changeOf}
+use Rattle.machine.specs.Machine.{orderLink, orderOf, latestCancel, orderAtLink, findingsOf, Amending, amending, onRequest, nothing, unknownReport, textNote, onReport, onName, changeOf}
 use Rattle.machine.specs.Exchange.{concerns}
-use Rattle.machine.specs.declared.Facts.{Facts}
+use Rattle.machine.specs.declared.Findings.{Findings}
 use Rattle.machine.specs.declared.Change.{Change}
 use Rattle.machine.proofs.Kept.Tables.{at-link}
 use Rattle.machine.proofs.Kept.Lift.{BookKept}
@@ -34,7 +34,7 @@ use Rattle.machine.proofs.Claim.Ruled.{Ruled, order-ruled, request-rule
 use Rattle.machine.proofs.Claim.Walk.{found-request, found-order, refusing-away}
 use Rattle.machine.proofs.Claim.Moves.{Moves, more-moves, cancelOrder-moves, failed-moves, unsent-moves, told-refusal, status-moves, cancel-goes-moves, replace-goes-moves, unknown-moves, reject-moves, report-moves}
 use Rattle.machine.proofs.Claim.Touches.{Touches, on-report-touches, unknown-touches, reject-touches, failed-touches, unsent-touches}
-use Rattle.machine.proofs.Exchange.Links.{Within, Linked, facts, reject-pair, unknown-pair, on-report-pair, failed-pair, unsent-pair, ask-pair, cancel-pair, replace-pair}
+use Rattle.machine.proofs.Exchange.Links.{Within, Linked, findings, reject-pair, unknown-pair, on-report-pair, failed-pair, unsent-pair, ask-pair, cancel-pair, replace-pair}
 use Rattle.machine.proofs.Exchange.Frame.{Owned, Apart, name-same, downstream-stays, clordid-same, count-same, latest-same, links-within}
 
 -- ---- the laws of a handler
@@ -42,18 +42,18 @@ use Rattle.machine.proofs.Exchange.Frame.{Owned, Apart, name-same, down
 -- of a client's cancel or replace
 pub record Client (handle : Amending) (e : Event) : Type 0 where
   pub linked : (t p : ℕ) (x : Request) (m n order : ℕ) (full : Bool) (o : Order) → Within t o
-      → Linked t (oneMore 65535 m) (oneMore 65535 n) (handle (facts p x m) order full o e) (handle (facts p x n) order full o e)
-  pub touches : (f : Facts) (order : ℕ) (full : Bool) (o : Order) → Touches f 0 o (handle f order full o e)
-  pub moves : (f : Facts) (order : ℕ) (full : Bool) (o : Order) → handle f order full o e .refusal ≡ 0 → Moves 2 (f .place) o (handle f order full o e)
+      → Linked t (oneMore 65535 m) (oneMore 65535 n) (handle (findings p x m) order full o e) (handle (findings p x n) order full o e)
+  pub touches : (f : Findings) (order : ℕ) (full : Bool) (o : Order) → Touches f 0 o (handle f order full o e)
+  pub moves : (f : Findings) (order : ℕ) (full : Bool) (o : Order) → handle f order full o e .refusal ≡ 0 → Moves 2 (f .place) o (handle f order full o e)
 
 -- of an event that names a request
-pub record Venue (handle : Facts → ℕ → Request → Order → Change) : Type 0 where
+pub record Venue (handle : Findings → ℕ → Request → Order → Change) : Type 0 where
   pub linked : (t p : ℕ) (x : Request) (m n k : ℕ) (q : Request) (o : Order) → Within t o
-      → Linked t (oneMore 65535 m) (oneMore 65535 n) (handle (facts p x m) k q o) (handle (facts p x n) k q o)
-  pub touches : (f : Facts) (k : ℕ) (q : Request) (o : Order) → Touches f k o (handle f k q o)
-  pub moves : (f : Facts) (k : ℕ) (q : Request) (o : Order) → Moves 2 (f .place) o (handle f k q o)
+      → Linked t (oneMore 65535 m) (oneMore 65535 n) (handle (findings p x m) k q o) (handle (findings p x n) k q o)
+  pub touches : (f : Findings) (k : ℕ) (q : Request) (o : Order) → Touches f k o (handle f k q o)
+  pub moves : (f : Findings) (k : ℕ) (q : Request) (o : Order) → Moves 2 (f .place) o (handle f k q o)
 
-module _ (f : Facts) (o : Order) where
+module _ (f : Findings) (o : Order) where
   status-touches : (e : Event) → Touches f 0 o (statusReport f o e)
   unfolding statusReport telling unchanged
   status-touches e = record { answers = inl refl; supersedes = inl refl; adds = inl refl }
@@ -173,7 +173,7 @@ resends e = record {
 pub data Handled (b : Book) (e : Event) (i : ℕ) : Type 0 where
   by-clordid : (handle : Amending) → Client handle e → ((x : Book) → changeOf x e ≡ amending handle x e)
       → (k : ℕ) → findClordid b (e .client) (e .ids .origclordid) ≡ some k → requestIn b k .order ≡ i → Handled b e i
-  by-request : (unknown : Change) (handle : Facts → ℕ → Request → Order → Change) → Venue handle → ((x : Book) → changeOf x e ≡ onRequest unknown handle x e)
+  by-request : (unknown : Change) (handle : Findings → ℕ → Request → Order → Change) → Venue handle → ((x : Book) → changeOf x e ≡ onRequest unknown handle x e)
       → (k : ℕ) → findDownstream b (e .ids .downstream) ≡ some k → requestIn b k .order ≡ i → Handled b e i
   by-name : ((x : Book) → changeOf x e ≡ onName x e) → findName b (e .ids .name) ≡ some i → Handled b e i
 
@@ -241,7 +241,7 @@ module _ (b : Book) (e : Event) (i : ℕ) where
     clordid handle h s z =
         let (k, w, o) = found (findClordid b (e .client) (e .ids .origclordid)) (λ k. requestIn b k .order) i (concerns-clordid z c) in by-clordid handle h s k w o
 
-    request : (unknown : Change) (handle : Facts → ℕ → Request → Order → Change) → Venue handle → ((x : Book) → changeOf x e ≡ onRequest unknown handle x e)
+    request : (unknown : Change) (handle : Findings → ℕ → Request → Order → Change) → Venue handle → ((x : Book) → changeOf x e ≡ onRequest unknown handle x e)
         → 4 ≤ e .kind → e .kind ≤ 8 → Handled b e i
     request unknown handle h s l u =
         let (k, w, o) = found (findDownstream b (e .ids .downstream)) (λ k. requestIn b k .order) i (concerns-request l u c) in by-request unknown handle h s k w o
@@ -268,21 +268,21 @@ module _ (b : Book) (e : Event) (i : ℕ) where
 -- ---- the change, by what was found
 
 module _ (b : Book) (e : Event) where
-  on-request : (unknown : Change) (handle : Facts → ℕ → Request → Order → Change) (k : ℕ) → findDownstream b (e .ids .downstream) ≡ some k
-      → onRequest unknown handle b e ≡ handle (factsOf b (orderLink b k)) (k + 1) (requestIn b k) (orderIn b (requestIn b k .order))
+  on-request : (unknown : Change) (handle : Findings → ℕ → Request → Order → Change) (k : ℕ) → findDownstream b (e .ids .downstream) ≡ some k
+      → onRequest unknown handle b e ≡ handle (findingsOf b (orderLink b k)) (k + 1) (requestIn b k) (orderIn b (requestIn b k .order))
   unfolding onRequest
   on-request unknown handle k w = maybe-some _ k _ _ w
 
-  on-name : (i : ℕ) → findName b (e .ids .name) ≡ some i → onName b e ≡ cancelOrder (factsOf b (i + 1)) (orderIn b i)
+  on-name : (i : ℕ) → findName b (e .ids .name) ≡ some i → onName b e ≡ cancelOrder (findingsOf b (i + 1)) (orderIn b i)
   unfolding onName
   on-name i w = maybe-some _ i _ _ w
 
   on-clordid : (handle : Amending) (i : ℕ) → orderOf b (e .client) (e .ids .origclordid) ≡ i + 1
-      → amending handle b e ≡ handle (factsOf b (i + 1)) (orderOf b (e .client) (e .ids .clordid)) (leb (b .setting) (countClordids b (e .client))) (orderIn b i) e
+      → amending handle b e ≡ handle (findingsOf b (i + 1)) (orderOf b (e .client) (e .ids .clordid)) (leb (b .setting) (countClordids b (e .client))) (orderIn b i) e
   unfolding amending
   on-clordid handle i w =
-      ap (λ (p : ℕ). handle (factsOf b p) (orderOf b (e .client) (e .ids .clordid)) (leb (b .setting) (countClordids b (e .client))) (orderAtLink b p) e) w
-      ∙ ap (λ (o : Order). handle (factsOf b (i + 1)) (orderOf b (e .client) (e .ids .clordid)) (leb (b .setting) (countClordids b (e .client))) o e) (at-link b i)
+      ap (λ (p : ℕ). handle (findingsOf b p) (orderOf b (e .client) (e .ids .clordid)) (leb (b .setting) (countClordids b (e .client))) (orderAtLink b p) e) w
+      ∙ ap (λ (o : Order). handle (findingsOf b (i + 1)) (orderOf b (e .client) (e .ids .clordid)) (leb (b .setting) (countClordids b (e .client))) o e) (at-link b i)
 
   order-of : (client : ℕ) (t : Text) (k : ℕ) → findClordid b client t ≡ some k → orderOf b client t ≡ requestIn b k .order + 1
   unfolding orderOf
@@ -305,9 +305,9 @@ clordid-found b client t k h =
 -- ---- it changes its own order
 
 module _ (b : Book) (r : Ruled b) (good : BookKept b) where
-  owned-from : (c : Change) (i k : ℕ) → i < length (b .orders) → k ≤ length (b .requests) → Moves 2 (factsOf b (i + 1) .place) (orderIn b i) c → Touches (factsOf b (i + 1)) k (orderIn b i) c
+  owned-from : (c : Change) (i k : ℕ) → i < length (b .orders) → k ≤ length (b .requests) → Moves 2 (findingsOf b (i + 1) .place) (orderIn b i) c → Touches (findingsOf b (i + 1)) k (orderIn b i) c
       → ((j : ℕ) → k ≡ j + 1 → requestIn b j .order ≡ i) → Owned b i c
-  unfolding factsOf
+  unfolding findingsOf
   owned-from c i k h u m t own = record {
     inside = h;
     there = m .there;
@@ -357,7 +357,7 @@ module _ (b : Book) (r : Ruled b) (good : BookKept b) where
           subst (Owned b i) (sym q)
           (owned-from _ i 0 (placed e i v) (omega arith) (h .moves _ _ _ _ (ap (λ (c : Change). c .refusal) (sym q) ∙ z)) (h .touches _ _ _ _) (λ j y. absurd (omega arith)))
       go (by-request unknown handle h s k w o) z =
-          let q = s b ∙ on-request b e unknown handle k w ∙ ap (λ (j : ℕ). handle (factsOf b (j + 1)) (k + 1) (requestIn b k) (orderIn b j)) o in
+          let q = s b ∙ on-request b e unknown handle k w ∙ ap (λ (j : ℕ). handle (findingsOf b (j + 1)) (k + 1) (requestIn b k) (orderIn b j)) o in
           subst (Owned b i) (sym q)
           (owned-from _ i (k + 1) (placed e i v) (let l = found-request b (e .ids .downstream) k w in omega arith) (h .moves _ _ _ _) (h .touches _ _ _ _) (λ j y. let x : k ≡ j = omega arith in sym (ap (λ (n : ℕ). requestIn b n .order) x) ∙ o))
       go (by-name s w) z =
@@ -374,15 +374,15 @@ module _ (b b′ : Book) (i : ℕ) (a : Apart b b′ i) (r : Ruled b) (good : Bo
   latest : Request
   latest = latestCancel b (orderIn b j)
 
-  facts-before : factsOf b (j + 1) ≡ facts (j + 1) latest (length (b .requests))
-  unfolding factsOf latest
-  facts-before = ap (λ (o : Order). facts (j + 1) (latestCancel b o) (length (b .requests))) (at-link b j)
+  findings-before : findingsOf b (j + 1) ≡ findings (j + 1) latest (length (b .requests))
+  unfolding findingsOf latest
+  findings-before = ap (λ (o : Order). findings (j + 1) (latestCancel b o) (length (b .requests))) (at-link b j)
 
-  facts-after : factsOf b′ (j + 1) ≡ facts (j + 1) latest (length (b′ .requests))
-  unfolding factsOf latest
-  facts-after =
-      ap (λ (o : Order). facts (j + 1) (latestCancel b′ o) (length (b′ .requests))) (at-link b′ j ∙ a .others j other)
-      ∙ ap (λ (x : Request). facts (j + 1) x (length (b′ .requests))) (latest-same b b′ i a good j (placed b r good e j v) other)
+  findings-after : findingsOf b′ (j + 1) ≡ findings (j + 1) latest (length (b′ .requests))
+  unfolding findingsOf latest
+  findings-after =
+      ap (λ (o : Order). findings (j + 1) (latestCancel b′ o) (length (b′ .requests))) (at-link b′ j ∙ a .others j other)
+      ∙ ap (λ (x : Request). findings (j + 1) x (length (b′ .requests))) (latest-same b b′ i a good j (placed b r good e j v) other)
 
   abbrev Seen : Change → Change → Type 0
   Seen = Linked (length (b .requests)) (oneMore 65535 (length (b .requests))) (oneMore 65535 (length (b′ .requests)))
@@ -411,30 +411,30 @@ module _ (b b′ : Book) (i : ℕ) (a : Apart b b′ i) (r : Ruled b) (good : Bo
           let order : ℕ = orderOf b (e .client) (e .ids .clordid) in
           let full : Bool = leb (b .setting) (countClordids b (e .client)) in
           seen-by _ _ _ _
-          (s b ∙ on-clordid b e handle j place ∙ ap (λ (f : Facts). handle f order full (orderIn b j) e) facts-before)
+          (s b ∙ on-clordid b e handle j place ∙ ap (λ (f : Findings). handle f order full (orderIn b j) e) findings-before)
           (s b′ ∙ on-clordid b′ e handle j (order-same (e .client) n (e .ids .origclordid) ∙ place)
-          ∙ ap (λ (f : Facts). handle f (orderOf b′ (e .client) (e .ids .clordid)) (leb (b′ .setting) (countClordids b′ (e .client))) (orderIn b′ j) e) facts-after
-          ∙ ap (λ (x : ℕ). handle (facts (j + 1) latest (length (b′ .requests))) x (leb (b′ .setting) (countClordids b′ (e .client))) (orderIn b′ j) e) (order-same (e .client) n (e .ids .clordid))
-          ∙ ap (λ (x : ℕ). handle (facts (j + 1) latest (length (b′ .requests))) order (leb x (countClordids b′ (e .client))) (orderIn b′ j) e) (a .setting)
-          ∙ ap (λ (x : ℕ). handle (facts (j + 1) latest (length (b′ .requests))) order (leb (b .setting) x) (orderIn b′ j) e) (count-same b b′ i a (e .client) n)
-          ∙ ap (λ (x : Order). handle (facts (j + 1) latest (length (b′ .requests))) order full x e) (a .others j other))
+          ∙ ap (λ (f : Findings). handle f (orderOf b′ (e .client) (e .ids .clordid)) (leb (b′ .setting) (countClordids b′ (e .client))) (orderIn b′ j) e) findings-after
+          ∙ ap (λ (x : ℕ). handle (findings (j + 1) latest (length (b′ .requests))) x (leb (b′ .setting) (countClordids b′ (e .client))) (orderIn b′ j) e) (order-same (e .client) n (e .ids .clordid))
+          ∙ ap (λ (x : ℕ). handle (findings (j + 1) latest (length (b′ .requests))) order (leb x (countClordids b′ (e .client))) (orderIn b′ j) e) (a .setting)
+          ∙ ap (λ (x : ℕ). handle (findings (j + 1) latest (length (b′ .requests))) order (leb (b .setting) x) (orderIn b′ j) e) (count-same b b′ i a (e .client) n)
+          ∙ ap (λ (x : Order). handle (findings (j + 1) latest (length (b′ .requests))) order full x e) (a .others j other))
           (h .linked _ _ _ _ _ _ _ _ inside)
       go (by-request unknown handle h s k w o) =
           let same : requestIn b′ k ≡ requestIn b k = a .requests k (found-request b (e .ids .downstream) k w) (λ z. other (sym o ∙ z)) in
           seen-by _ _ _ _
           (s b ∙ on-request b e unknown handle k w
-          ∙ ap (λ (x : ℕ). handle (factsOf b (x + 1)) (k + 1) (requestIn b k) (orderIn b x)) o
-          ∙ ap (λ (f : Facts). handle f (k + 1) (requestIn b k) (orderIn b j)) facts-before)
+          ∙ ap (λ (x : ℕ). handle (findingsOf b (x + 1)) (k + 1) (requestIn b k) (orderIn b x)) o
+          ∙ ap (λ (f : Findings). handle f (k + 1) (requestIn b k) (orderIn b j)) findings-before)
           (s b′ ∙ on-request b′ e unknown handle k (downstream-stays b b′ i a (e .ids .downstream) k w)
-          ∙ ap (λ (q : Request). handle (factsOf b′ (q .order + 1)) (k + 1) q (orderIn b′ (q .order))) same
-          ∙ ap (λ (x : ℕ). handle (factsOf b′ (x + 1)) (k + 1) (requestIn b k) (orderIn b′ x)) o
-          ∙ ap (λ (f : Facts). handle f (k + 1) (requestIn b k) (orderIn b′ j)) facts-after
-          ∙ ap (λ (x : Order). handle (facts (j + 1) latest (length (b′ .requests))) (k + 1) (requestIn b k) x) (a .others j other))
+          ∙ ap (λ (q : Request). handle (findingsOf b′ (q .order + 1)) (k + 1) q (orderIn b′ (q .order))) same
+          ∙ ap (λ (x : ℕ). handle (findingsOf b′ (x + 1)) (k + 1) (requestIn b k) (orderIn b′ x)) o
+          ∙ ap (λ (f : Findings). handle f (k + 1) (requestIn b k) (orderIn b′ j)) findings-after
+          ∙ ap (λ (x : Order). handle (findings (j + 1) latest (length (b′ .requests))) (k + 1) (requestIn b k) x) (a .others j other))
           (h .linked _ _ _ _ _ _ _ _ inside)
       go (by-name s w) =
           seen-by _ _ _ _
-          (s b ∙ on-name b e j w ∙ ap (λ (f : Facts). cancelOrder f (orderIn b j)) facts-before)
+          (s b ∙ on-name b e j w ∙ ap (λ (f : Findings). cancelOrder f (orderIn b j)) findings-before)
           (s b′ ∙ on-name b′ e j (name-same b b′ i a (e .ids .name) ∙ w)
-          ∙ ap (λ (f : Facts). cancelOrder f (orderIn b′ j)) facts-after
-          ∙ ap (λ (x : Order). cancelOrder (facts (j + 1) latest (length (b′ .requests))) x) (a .others j other))
+          ∙ ap (λ (f : Findings). cancelOrder f (orderIn b′ j)) findings-after
+          ∙ ap (λ (x : Order). cancelOrder (findings (j + 1) latest (length (b′ .requests))) x) (a .others j other))
           (ask-pair _ _ _ _ _ _ inside)

@@ -1,5 +1,5 @@
 -- What the count of the book's requests does to a change: it is the link of the request that the change adds, and nothing else. Rests on Report.
--- Each handler is followed twice, with facts that differ in that count alone.
+-- Each handler is followed twice, with findings that differ in that count alone.
 use Prim.Native.Nat.{ℕ, _≤_}
 use native.Mathlib.Omega.{arith}
 use mathlib.Core.Path.{_≡_, refl, sym, ap, subst, _∙_}
@@ -13,15 +13,16 @@ use Rattle.store.specs.declared.Pending.{Pending}
 use Rattle.store.specs.declared.GatewayCancel.{GatewayCancel}
 use Rattle.store.specs.declared.Order.{Order}
 use Rattle.store.specs.declared.Request.{Request}
-use Rattle.machine.specs.Codes.{rejected}
-use Rattle.machine.specs.Orders.{oneMore, hasGateway, setStatus, recordVenueOrderId, applyReplace, nextExec, withLinks, withPending, withGateway, withState, noPending, noGateway}
+use Rattle.format.specs.Codes.{rejected}
+use Rattle.machine.specs.Orders.{oneMore, hasGateway, setStatus, recordVenueOrderId, applyReplace, nextExec, withLinks, withPending, withGateway, withState}
+use Rattle.store.specs.Orders.{noPending, noGateway}
 use Rattle.machine.specs.Messages.{cancelRequest, replaceRequest, toVenue}
 use Rattle.machine.specs.Changes.{Event, Message, unchanged, refusing, withOrder, answering, superseding, adding, telling, alarming, nextLink, nextRequest, numberedOrder}
 use Rattle.machine.specs.GatewayCancel.{outstandingCancel, gatewayCancelInFlight, begun, trySent, givenUp, sendGatewayCancel, cancelOrder, gatewayCancelWaiting, resumeGatewayCancel, stuck, retryGatewayCancel, gatewayCancelRefused}
 use Rattle.machine.specs.Amend.{amendRefusal, refuse, statusReport, alreadyTaken, cancelRefusal, cancelGoes, cancel, replaceRefusal, newPending, replaceGoes, replace, notPending, refusedOrder, refuseRequest, venueCancelReject, sendRefused, firstFailed, sendFailed, unsent}
 use Rattle.machine.specs.Report.{unknownAtVenue, droppedStale, droppedRepeat, reportedOrder, settles, applyReport, venueReport}
 use Rattle.machine.specs.Machine.{onReport}
-use Rattle.machine.specs.declared.Facts.{Facts}
+use Rattle.machine.specs.declared.Findings.{Findings}
 use Rattle.machine.specs.declared.Note.{Note}
 use Rattle.machine.specs.declared.Refused.{Refused}
 use Rattle.machine.specs.declared.Change.{Change}
@@ -180,8 +181,8 @@ module _ (t : ℕ) where
 
 -- ---- the handlers: p is the order's link, x its latest cancel, and m and n the counts
 
-abbrev pub facts : ℕ → Request → ℕ → Facts
-facts p x n = record { place = p; requests = n; cancel = x }
+abbrev pub findings : ℕ → Request → ℕ → Findings
+findings p x n = record { place = p; requests = n; cancel = x }
 
 module _ (t p : ℕ) (x : Request) (m n : ℕ) where
   abbrev pub Pair : Change → Change → Type 0
@@ -190,15 +191,15 @@ module _ (t p : ℕ) (x : Request) (m n : ℕ) where
   rest : {c : Change} → Rests t c → Pair c c
   rest r = same r refl
 
-  send : (c : Change) → Within t (c .order) → Pair (sendGatewayCancel (facts p x m) c) (sendGatewayCancel (facts p x n) c)
+  send : (c : Change) → Within t (c .order) → Pair (sendGatewayCancel (findings p x m) c) (sendGatewayCancel (findings p x n) c)
   unfolding sendGatewayCancel numberedOrder nextLink telling adding trySent cancelRequest toVenue nextRequest if_then_else_
   send c w = cancels refl refl (record { current = w .current; cancel = omega arith; pending = w .pending; named = w .current }) refl
 
-  cancel-goes : (o : Order) (e : Event) → Within t o → Pair (cancelGoes (facts p x m) o e) (cancelGoes (facts p x n) o e)
+  cancel-goes : (o : Order) (e : Event) → Within t o → Pair (cancelGoes (findings p x m) o e) (cancelGoes (findings p x n) o e)
   unfolding cancelGoes numberedOrder nextLink telling adding unchanged cancelRequest toVenue nextRequest if_then_else_
   cancel-goes o e w = cancels refl refl (record { current = w .current; cancel = omega arith; pending = w .pending; named = w .named }) refl
 
-  replace-goes : (o : Order) (e : Event) → Within t o → Pair (replaceGoes (facts p x m) o e) (replaceGoes (facts p x n) o e)
+  replace-goes : (o : Order) (e : Event) → Within t o → Pair (replaceGoes (findings p x m) o e) (replaceGoes (findings p x n) o e)
   unfolding replaceGoes numberedOrder nextLink newPending telling adding unchanged replaceRequest toVenue nextRequest if_then_else_
   replace-goes o e w = replaces refl refl (record { current = w .current; cancel = w .cancel; pending = omega arith; named = w .named }) refl
 
@@ -214,19 +215,19 @@ module _ (t p : ℕ) (x : Request) (m n : ℕ) where
   tried-pair c c′ (rested r e) = same r e
   tried-pair c c′ (sent u u′ l) = l
 
-  send-tried : (c : Change) → Within t (c .order) → Tried (sendGatewayCancel (facts p x m) c) (sendGatewayCancel (facts p x n) c)
+  send-tried : (c : Change) → Within t (c .order) → Tried (sendGatewayCancel (findings p x m) c) (sendGatewayCancel (findings p x n) c)
   send-tried c w = sent (out m) (out n) (send c w)
     where
-      out : (r : ℕ) → sendGatewayCancel (facts p x r) c .order .gateway .unsent ≡ false
+      out : (r : ℕ) → sendGatewayCancel (findings p x r) c .order .gateway .unsent ≡ false
       out r = unfold sendGatewayCancel telling adding trySent in refl
 
-  refused-tried : (note : Note) (c : Change) → Rests t c → Tried (gatewayCancelRefused (facts p x m) note c) (gatewayCancelRefused (facts p x n) note c)
+  refused-tried : (note : Note) (c : Change) → Rests t c → Tried (gatewayCancelRefused (findings p x m) note c) (gatewayCancelRefused (findings p x n) note c)
   unfolding gatewayCancelRefused retryGatewayCancel
   refused-tried note c r =
       split-two Tried _ (λ e. resting r)
       (λ e. split-two Tried _ (λ h. resting (stuck-rests t c r)) (λ h. split-two Tried _ (λ g. resting (stuck-rests t c r)) (λ g. send-tried c (r .within))))
 
-  not-waiting : (f : Facts) (c : Change) → c .order .gateway .unsent ≡ false → gatewayCancelWaiting f c ≡ false
+  not-waiting : (f : Findings) (c : Change) → c .order .gateway .unsent ≡ false → gatewayCancelWaiting f c ≡ false
   unfolding gatewayCancelWaiting
   not-waiting f c u = shut (hasGateway (c .order)) (c .order .gateway .unsent) _ u
     where
@@ -234,24 +235,24 @@ module _ (t p : ℕ) (x : Request) (m n : ℕ) where
       shut true v z e = rw e
       shut false v z e = refl
 
-  no-wait : (f : Facts) (c : Change) → c .order .gateway .unsent ≡ false → resumeGatewayCancel f c ≡ c
+  no-wait : (f : Findings) (c : Change) → c .order .gateway .unsent ≡ false → resumeGatewayCancel f c ≡ c
   unfolding resumeGatewayCancel
   no-wait f c u = if-false (gatewayCancelWaiting f c) (sendGatewayCancel f c) c (not-waiting f c u)
 
-  resume-same : (c : Change) → Rests t c → Pair (resumeGatewayCancel (facts p x m) c) (resumeGatewayCancel (facts p x n) c)
+  resume-same : (c : Change) → Rests t c → Pair (resumeGatewayCancel (findings p x m) c) (resumeGatewayCancel (findings p x n) c)
   unfolding resumeGatewayCancel gatewayCancelWaiting outstandingCancel
   resume-same c r = split-two Pair _ (λ e. send c (r .within)) (λ e. rest r)
 
-  resume-pair : (c c′ : Change) → Tried c c′ → Pair (resumeGatewayCancel (facts p x m) c) (resumeGatewayCancel (facts p x n) c′)
-  resume-pair c c′ (rested r e) = subst (λ (y : Change). Pair (resumeGatewayCancel (facts p x m) c) (resumeGatewayCancel (facts p x n) y)) (sym e) (resume-same c r)
+  resume-pair : (c c′ : Change) → Tried c c′ → Pair (resumeGatewayCancel (findings p x m) c) (resumeGatewayCancel (findings p x n) c′)
+  resume-pair c c′ (rested r e) = subst (λ (y : Change). Pair (resumeGatewayCancel (findings p x m) c) (resumeGatewayCancel (findings p x n) y)) (sym e) (resume-same c r)
   resume-pair c c′ (sent u u′ l) =
-      subst (λ (y : Change). Pair y (resumeGatewayCancel (facts p x n) c′)) (sym (no-wait _ c u)) (subst (Pair c) (sym (no-wait _ c′ u′)) l)
+      subst (λ (y : Change). Pair y (resumeGatewayCancel (findings p x n) c′)) (sym (no-wait _ c u)) (subst (Pair c) (sym (no-wait _ c′ u′)) l)
 
   module _ (k : ℕ) (o : Order) (w : Within t o) where
     still : Rests t (unchanged p o)
     still = unchanged-rests t p o w
 
-    refuse-tried : (q : Request) (venue : ℕ) (r : Refused) → Tried (refuseRequest (facts p x m) k q venue r o) (refuseRequest (facts p x n) k q venue r o)
+    refuse-tried : (q : Request) (venue : ℕ) (r : Refused) → Tried (refuseRequest (findings p x m) k q venue r o) (refuseRequest (findings p x n) k q venue r o)
     unfolding refuseRequest
     refuse-tried q venue r =
         split-two Tried _ (λ e. resting still)
@@ -263,23 +264,23 @@ module _ (t p : ℕ) (x : Request) (m n : ℕ) where
         gone : Rests t (answering k (unchanged p (refusedOrder k r o)))
         gone = answering-rests t _ (unchanged-rests t p _ (refused-within t k r o w)) k
 
-    pub reject-pair : (q : Request) (e : Event) → Pair (venueCancelReject (facts p x m) k q o e) (venueCancelReject (facts p x n) k q o e)
+    pub reject-pair : (q : Request) (e : Event) → Pair (venueCancelReject (findings p x m) k q o e) (venueCancelReject (findings p x n) k q o e)
     unfolding venueCancelReject
     reject-pair q e = resume-pair _ _ (refuse-tried q (e .venue) _)
 
-    pub unknown-pair : (e : Event) → Pair (unknownAtVenue (facts p x m) k o e) (unknownAtVenue (facts p x n) k o e)
+    pub unknown-pair : (e : Event) → Pair (unknownAtVenue (findings p x m) k o e) (unknownAtVenue (findings p x n) k o e)
     unfolding unknownAtVenue
     unknown-pair e =
         split-two Pair _ (λ h. rest still)
         (λ h. split-two Pair _ (λ h. rest still) (λ h. split-two Pair _ (λ h. rest still) (λ h. rest (alarming-rests t _ still _))))
 
-    apply-pair : (q : Request) (e : Event) → Pair (applyReport (facts p x m) k q o e) (applyReport (facts p x n) k q o e)
+    apply-pair : (q : Request) (e : Event) → Pair (applyReport (findings p x m) k q o e) (applyReport (findings p x n) k q o e)
     unfolding applyReport
     apply-pair q e =
         split-two Pair _ (λ h. rest (settles-rests t _ _ k q o _ (unchanged-rests t p _ (reported-within t _ _ q o e w))))
         (λ h. rest (telling-rests t _ (settles-rests t _ _ k q o _ (unchanged-rests t p _ (next-within t _ (reported-within t _ _ q o e w)))) _))
 
-    report-pair : (q : Request) (e : Event) → Pair (venueReport (facts p x m) k q o e) (venueReport (facts p x n) k q o e)
+    report-pair : (q : Request) (e : Event) → Pair (venueReport (findings p x m) k q o e) (venueReport (findings p x n) k q o e)
     unfolding venueReport droppedStale droppedRepeat
     report-pair q e =
         split-two Pair _ (λ h. resume-pair _ _ (refuse-tried q (e .venue) _))
@@ -288,11 +289,11 @@ module _ (t p : ℕ) (x : Request) (m n : ℕ) where
         (λ s. split-two Pair _ (λ r. rest (unchanged-rests t p _ (venue-within t o w _ _)))
         (λ r. split-two Pair _ (λ v. rest (alarming-rests t _ still _)) (λ v. apply-pair q e)))))
 
-    pub on-report-pair : (q : Request) (e : Event) → Pair (onReport e (facts p x m) k q o) (onReport e (facts p x n) k q o)
+    pub on-report-pair : (q : Request) (e : Event) → Pair (onReport e (findings p x m) k q o) (onReport e (findings p x n) k q o)
     unfolding onReport
     on-report-pair q e = split-two Pair _ (λ h. unknown-pair e) (λ h. report-pair q e)
 
-    pub failed-pair : (q : Request) (venue : ℕ) (note : Note) → Pair (sendFailed (facts p x m) k q venue note o) (sendFailed (facts p x n) k q venue note o)
+    pub failed-pair : (q : Request) (venue : ℕ) (note : Note) → Pair (sendFailed (findings p x m) k q venue note o) (sendFailed (findings p x n) k q venue note o)
     unfolding sendFailed firstFailed
     failed-pair q venue note =
         split-two Pair _ (λ e. rest still)
@@ -303,7 +304,7 @@ module _ (t p : ℕ) (x : Request) (m n : ℕ) where
         (λ e. split-two Pair _ (λ e. rest still)
         (λ e. rest (telling-rests t _ (answering-rests t _ (unchanged-rests t p _ (next-within t _ (status-within t o w rejected))) k) _)))))))
 
-    pub unsent-pair : (q : Request) (venue : ℕ) → Pair (unsent (facts p x m) k q venue o) (unsent (facts p x n) k q venue o)
+    pub unsent-pair : (q : Request) (venue : ℕ) → Pair (unsent (findings p x m) k q venue o) (unsent (findings p x n) k q venue o)
     unfolding unsent
     unsent-pair q venue =
         split-two Pair _ (λ e. rest (telling-rests t _ still _))
@@ -311,7 +312,7 @@ module _ (t p : ℕ) (x : Request) (m n : ℕ) where
         (λ e. split-two Pair _ (λ e. rest (telling-rests t _ still _)) (λ e. failed-pair q venue _)))
 
   module _ (o : Order) (w : Within t o) where
-    pub ask-pair : Pair (cancelOrder (facts p x m) o) (cancelOrder (facts p x n) o)
+    pub ask-pair : Pair (cancelOrder (findings p x m) o) (cancelOrder (findings p x n) o)
     unfolding cancelOrder gatewayCancelInFlight outstandingCancel
     ask-pair =
         split-two Pair _ (λ e. rest (unchanged-rests t p o w))
@@ -321,13 +322,13 @@ module _ (t p : ℕ) (x : Request) (m n : ℕ) where
         begun-order : Within t o → Within t (unchanged p (withGateway (begun o) o) .order)
         begun-order w = unfold unchanged in begun-within t o w
 
-    pub cancel-pair : (order : ℕ) (full : Bool) (e : Event) → Pair (cancel (facts p x m) order full o e) (cancel (facts p x n) order full o e)
+    pub cancel-pair : (order : ℕ) (full : Bool) (e : Event) → Pair (cancel (findings p x m) order full o e) (cancel (findings p x n) order full o e)
     unfolding cancel alreadyTaken amendRefusal cancelRefusal gatewayCancelInFlight outstandingCancel statusReport refuse
     cancel-pair order full e =
         split-two Pair _ (λ h. rest (telling-rests t _ (unchanged-rests t p _ (next-within t o w)) _))
         (λ h. split-two Pair _ (λ h. rest (telling-rests t _ (unchanged-rests t p o w) _)) (λ h. cancel-goes o e w))
 
-    pub replace-pair : (order : ℕ) (full : Bool) (e : Event) → Pair (replace (facts p x m) order full o e) (replace (facts p x n) order full o e)
+    pub replace-pair : (order : ℕ) (full : Bool) (e : Event) → Pair (replace (findings p x m) order full o e) (replace (findings p x n) order full o e)
     unfolding replace alreadyTaken amendRefusal replaceRefusal gatewayCancelInFlight outstandingCancel statusReport refuse
     replace-pair order full e =
         split-two Pair _ (λ h. rest (telling-rests t _ (unchanged-rests t p _ (next-within t o w)) _))

@@ -8,6 +8,7 @@ use lib.Dec.{eqb}
 use lib.ListN.{length, List·getD-eq-default}
 use borrow.Author.Tests.{eq-eqb, ne-eqb}
 use Rattle.prelude.specs.Cases.{if_then_else_, if-true, if-false}
+use Rattle.prelude.specs.Totals.{total-ext}
 use Rattle.prelude.specs.declared.Terms.{Terms}
 use Rattle.store.specs.declared.Order.{Order}
 use Rattle.store.specs.declared.Request.{Request}
@@ -23,7 +24,7 @@ use Rattle.machine.proofs.Kept.Lift.{BookKept}
 use Rattle.machine.proofs.Claim.Records.{added-long, none-kept}
 use Rattle.machine.proofs.Exchange.Links.{Within, Linked, same, cancels, replaces, withCancel, withRequest, linked-equal, same-place, same-requests, same-output}
 use Rattle.machine.proofs.Exchange.Frame.{links-within}
-use Rattle.machine.proofs.Exchange.Commute.{after-comm, count-two, first-at, second-at, others-at, old-same, added-one, added-two, requests-same, total-ext}
+use Rattle.machine.proofs.Exchange.Commute.{after-comm, count-two, first-at, second-at, others-at, old-same, added-one, added-two, requests-same}
 use Rattle.machine.proofs.Exchange.Both.{next, Crossed, crossed-back, Both, both-ways}
 
 -- ---- an order in two books, links read as what they name
@@ -241,8 +242,8 @@ two-clients b d e h =
     record {
       taken-first = ap (λ (c : Change). c .refusal) (w .earlier .step) ∙ w .earlier .taken;
       taken-second = ap (λ (c : Change). c .refusal) again ∙ w .later .taken;
-      answer = ap (λ (c : Change). c .output) again ∙ same-output (w .crossed .first-linked) ∙ sym (ap (λ (c : Change). c .output) (w .first .step));
-      answer′ =
+      first-answer = ap (λ (c : Change). c .output) again ∙ same-output (w .crossed .first-linked) ∙ sym (ap (λ (c : Change). c .output) (w .first .step));
+      second-answer =
           ap (λ (z : Book). stepOf z e .output) (w .first .left) ∙ ap (λ (c : Change). c .output) (w .second .step)
           ∙ same-output (w .crossed .second-linked) ∙ sym (ap (λ (c : Change). c .output) (w .earlier .step));
       count = ap (λ (z : Book). length (z .orders)) (w .left-one) ∙ n ∙ sym (ap (λ (z : Book). length (z .orders)) (w .left-two));

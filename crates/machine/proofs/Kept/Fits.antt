@@ -1,5 +1,5 @@
 -- What the rules leave open of a book's fields stays within their widths: client, venue, texts, and the three counters. Rests on Machine.
-use Prim.Native.Nat.{ℕ, zero, suc, _-_, _^_, _≤_, _<_}
+use Prim.Native.Nat.{ℕ, _+_, zero, suc, _-_, _^_, _≤_, _<_}
 use native.Mathlib.Omega.{arith}
 use mathlib.Core.Path.{_≡_, refl}
 use mathlib.Core.Bool.{Bool, true, false}
@@ -17,17 +17,17 @@ use Rattle.store.specs.declared.GatewayCancel.{GatewayCancel}
 use Rattle.store.specs.declared.Order.{Order}
 use Rattle.store.specs.declared.Request.{Request}
 use Rattle.store.specs.Book.{Book, orderIn, requestIn}
-use Rattle.store.specs.Orders.{noOrder}
+use Rattle.store.specs.Orders.{noOrder, noPending}
 use Rattle.store.specs.Requests.{noRequest}
 use Rattle.text.specs.Words.{noText}
-use Rattle.machine.specs.Orders.{oneMore, setStatus, keptOrderId, recordVenueOrderId, applyReplace, nextSequence, nextExec, withState, withPending, withGateway, noPending}
+use Rattle.machine.specs.Orders.{oneMore, setStatus, keptOrderId, recordVenueOrderId, applyReplace, nextSequence, nextExec, withState, withPending, withGateway}
 use Rattle.machine.specs.Changes.{Event, Message, unchanged, refusing, answering, superseding, adding, telling, alarming, nextNumber, nextDownstream, nextRequest, numberedOrder}
 use Rattle.machine.specs.GatewayCancel.{begun, trySent, givenUp, sendGatewayCancel, cancelOrder, resumeGatewayCancel, stuck, retryGatewayCancel, gatewayCancelRefused}
 use Rattle.machine.specs.Amend.{refuse, statusReport, cancelGoes, cancel, replaceGoes, replace, notPending, refusedOrder, refuseRequest, venueCancelReject, sendRefused, firstFailed, sendFailed, unsent}
 use Rattle.machine.specs.Report.{unknownAtVenue, droppedStale, droppedRepeat, reportedOrder, settles, applyReport, venueReport}
 use Rattle.machine.specs.Machine.{orderAtLink, bookedOrder, firstRequest, bookOrder, amending, onRequest, nothing, onReport, onName, changeOf, stepOf, answerLink, ordersAfter, requestsAfter, after, bookAfter}
 use Rattle.machine.specs.Whole.{WholeEvent}
-use Rattle.machine.specs.declared.Facts.{Facts}
+use Rattle.machine.specs.declared.Findings.{Findings}
 use Rattle.machine.specs.declared.Note.{Note}
 use Rattle.machine.specs.declared.Refusal.{Refusal}
 use Rattle.machine.specs.declared.Refused.{Refused}
@@ -149,7 +149,7 @@ module _ (o : Order) (f : OrderFits o) where
     refusedsends = split-if (λ (g : GatewayCancel). g .refusedsends ≤ 4294967295) _ (λ t. omega arith) (λ t. f .refusedsends);
   }
 
-  numbered-fits : (x : Facts) (cancels : Bool) → OrderFits (numberedOrder x cancels o)
+  numbered-fits : (x : Findings) (cancels : Bool) → OrderFits (numberedOrder x cancels o)
   unfolding numberedOrder nextNumber
   numbered-fits x cancels = record {
     client = f .client;
@@ -205,7 +205,7 @@ refused-fits k r o w f =
 
 -- ---- the handling of an event
 
-module _ (laws : NumberedLaws) (f : Facts) where
+module _ (laws : NumberedLaws) (f : Findings) where
   next-fits : (o : Order) (kind : ℕ) (clordid origclordid : Text) → OrderFits o → WholeText clordid → WholeText origclordid → RequestFits (nextRequest f o kind clordid origclordid)
   unfolding nextRequest nextDownstream nextNumber
   next-fits o kind clordid origclordid h c d = record {
@@ -390,7 +390,7 @@ module _ (laws : NumberedLaws) (b : Book) (e : Event) (f : BookFits b) (w : Whol
   booking-fits : e .kind ≡ 1 → ChangeFits (bookOrder b e)
   unfolding bookOrder bookedOrder firstRequest
   booking-fits one = split-if ChangeFits _ (λ t. refusing-fits 5) (λ t. split-if ChangeFits _ (λ t. refusing-fits 6)
-      (λ t. adding-fits _ (unchanged-fits _ (bookedOrder b e)
+      (λ t. adding-fits _ (unchanged-fits _ (bookedOrder (length (b .requests) + 1) e)
       (record {
         client = w .client;
         venue = w .venue;
@@ -399,14 +399,14 @@ module _ (laws : NumberedLaws) (b : Book) (e : Event) (f : BookFits b) (w : Whol
         amendments = omega arith;
         refusedsends = omega arith;
       }))
-      (firstRequest b e) (record { clordid = w .clordid; origclordid = no-text-whole; downstream = w .name })))
+      (firstRequest (length (b .orders)) e) (record { clordid = w .clordid; origclordid = no-text-whole; downstream = w .name })))
 
   order-fits : (place : ℕ) → OrderFits (orderAtLink b place)
   unfolding orderAtLink
   order-fits place = split-if OrderFits _ (λ t. no-order-fits) (λ t. f .order (place - 1))
 
-  request-fits : (c : Change) (handle : Facts → ℕ → Request → Order → Change) → ChangeFits c
-      → ((x : Facts) (k : ℕ) (q : Request) (o : Order) → RequestFits q → OrderFits o → ChangeFits (handle x k q o)) → ChangeFits (onRequest c handle b e)
+  request-fits : (c : Change) (handle : Findings → ℕ → Request → Order → Change) → ChangeFits c
+      → ((x : Findings) (k : ℕ) (q : Request) (o : Order) → RequestFits q → OrderFits o → ChangeFits (handle x k q o)) → ChangeFits (onRequest c handle b e)
   unfolding onRequest
   request-fits c handle u h = split-maybe ChangeFits _ (λ t. u) (λ k t. h _ _ _ _ (f .request k) (f .order (requestIn b k .order)))
 

@@ -20,18 +20,19 @@ use Rattle.store.specs.Book.{Book, orderIn}
 use Rattle.text.specs.Words.{noText}
 use Rattle.store.specs.Requests.{noRequest}
 use Rattle.text.specs.Numbered.{numberedText}
-use Rattle.machine.specs.Codes.{pendingNew, new, partiallyFilled, canceled, rejected, limit, cancelKind, replaceKind, gatewayKind}
-use Rattle.machine.specs.Orders.{oneMore, isEmpty, isDone, hasGateway, setStatus, recordVenueOrderId, pendingTerms, applyReplace, nextExec, withPending, withGateway, noPending}
+use Rattle.machine.specs.Constants.{cancelKind, replaceKind, gatewayKind}
+use Rattle.machine.specs.Orders.{oneMore, isEmpty, isDone, hasGateway, setStatus, recordVenueOrderId, pendingTerms, applyReplace, nextExec, withPending, withGateway}
+use Rattle.store.specs.Orders.{noPending}
 use Rattle.machine.specs.Changes.{Event, Message, unchanged, answering, superseding, adding, telling, alarming, isFirst, isReplace, isGateway, isCancel, isAnswered, nextLink, nextNumber, nextDownstream, nextRequest, numberedOrder}
 use Rattle.machine.specs.GatewayCancel.{outstandingCancel, gatewayCancelInFlight, begun, trySent, givenUp, sendGatewayCancel, cancelOrder, gatewayCancelWaiting, resumeGatewayCancel, stuck, retryGatewayCancel, gatewayCancelRefused}
 use Rattle.machine.specs.Amend.{has, statusReport, cancelGoes, orOwn, newTerms, pricedRight, newPending, replaceGoes, notPending, refusedOrder, refuseRequest, sendRefused, venueCancelReject, firstFailed, sendFailed, unsent}
 use Rattle.machine.specs.Report.{unknownAtVenue, isRejection, pendingHere, stale, droppedStale, droppedRepeat, statusTaken, accepts, orderedQty, reportedOrder, settles, applyReport, venueReport}
 use Rattle.machine.specs.Machine.{answerLink, requestsAfter, latestCancel}
 use Rattle.machine.specs.Events.{Ranged}
-use Rattle.format.specs.Codes.{isOrdtype, isStatus, statuses}
-use Rattle.machine.specs.Ranges.{isPrice, textWithin}
+use Rattle.format.specs.Codes.{isOrdtype, isStatus, statuses, isPrice, pendingNew, new, partiallyFilled, canceled, rejected, limit}
+use Rattle.machine.specs.Ranges.{textWithin}
 use Rattle.machine.specs.Rules.{forceRange, pricedRange, pendingRange, gatewayRange, requestRange, linked, pendingTest, currentTest, currentRule, pendingRule, filledRule, triesRule, nameNumber, numberRule, inFlightRule, clientOf}
-use Rattle.machine.specs.declared.Facts.{Facts}
+use Rattle.machine.specs.declared.Findings.{Findings}
 use Rattle.machine.specs.declared.Note.{Note}
 use Rattle.machine.specs.declared.Refused.{Refused}
 use Rattle.machine.specs.declared.Change.{Change}
@@ -89,7 +90,7 @@ no-link : (b : Book) (i : ℕ) → Owns b i 0
 no-link b i j e = absurd (omega arith)
 
 -- an order of the book and the facts that go with it
-pub record Here (b : Book) (i : ℕ) (f : Facts) (o : Order) : Type 0 where
+pub record Here (b : Book) (i : ℕ) (f : Findings) (o : Order) : Type 0 where
   pub is : o ≡ orderIn b i
   pub place : f .place ≡ i + 1
   pub count : f .requests ≡ length (b .requests)
@@ -102,7 +103,7 @@ pub record Same (o p : Order) : Type 0 where
   pub name : p .names .name ≡ o .names .name
   pub client : p .client ≡ o .client
 
-module _ (b : Book) (i : ℕ) (f : Facts) (o : Order) (here : Here b i f o) where
+module _ (b : Book) (i : ℕ) (f : Findings) (o : Order) (here : Here b i f o) where
   pub unchanged-kept : (p : Order) → Same o p → OrderKept i p (b .requests) → Kept b i (unchanged (f .place) p)
   unfolding unchanged requestsAfter answerLink if_then_else_
   unchanged-kept p s l = record {
@@ -144,7 +145,7 @@ module _ (b : Book) (i : ℕ) (f : Facts) (o : Order) (here : Here b i f o) wher
 
 -- ---- the next request of an order
 
-next-right : (f : Facts) (o : Order) (kind n : ℕ) (clordid origclordid : Text) → nextNumber o ≡ n → 0 < n → isFirst (nextRequest f o kind clordid origclordid) ≡ false
+next-right : (f : Findings) (o : Order) (kind n : ℕ) (clordid origclordid : Text) → nextNumber o ≡ n → 0 < n → isFirst (nextRequest f o kind clordid origclordid) ≡ false
     → numberRule (o .names .name) n (nextRequest f o kind clordid origclordid) ≡ true
 unfolding numberRule nextRequest nextDownstream
 next-right f o kind n clordid origclordid e h first =
@@ -221,7 +222,7 @@ record Sends (b : Book) (i : ℕ) (c : Change) : Type 0 where
   few : c .order .gateway .tries ≤ 2
   free : c .order .gateway .stuck ≡ false
 
-module _ (b : Book) (i : ℕ) (f : Facts) (o : Order) (here : Here b i f o) (c : Change) where
+module _ (b : Book) (i : ℕ) (f : Findings) (o : Order) (here : Here b i f o) (c : Change) where
   gateway-request : Request
   gateway-request = nextRequest f (c .order) gatewayKind noText noText
 
@@ -296,7 +297,7 @@ pub record Refuses (b : Book) (i : ℕ) (c : Change) : Type 0 where
 telling-refuses : (b : Book) (i : ℕ) (m : Message) (c : Change) → Refuses b i c → Refuses b i (telling m c)
 telling-refuses b i m c r = record { kept = telling-kept b i m c (r .kept); idle = unfold telling in r .idle }
 
-module _ (b : Book) (i : ℕ) (f : Facts) (o : Order) (here : Here b i f o) (c : Change) (k : Kept b i c) where
+module _ (b : Book) (i : ℕ) (f : Findings) (o : Order) (here : Here b i f o) (c : Change) (k : Kept b i c) where
   stuck-refuses : hasGateway (c .order) ≡ true → Sent b i c → Refuses b i (stuck c)
   unfolding stuck alarming requestsAfter
   stuck-refuses g s = record {
@@ -432,7 +433,7 @@ pub record Asked (b : Book) (i j : ℕ) (q : Request) : Type 0 where
   pub is : q ≡ at (b .requests) j
   pub own : q .order ≡ i
 
-module _ (b : Book) (i : ℕ) (f : Facts) (o : Order) (here : Here b i f o) (j : ℕ) (q : Request) (asked : Asked b i j q) where
+module _ (b : Book) (i : ℕ) (f : Findings) (o : Order) (here : Here b i f o) (j : ℕ) (q : Request) (asked : Asked b i j q) where
   owns : Owns b i (j + 1)
   owns k e = subst (λ (n : ℕ). at (b .requests) n .order ≡ i) (omega arith) (sym (ap (λ (x : Request). x .order) (asked .is)) ∙ asked .own)
 
@@ -678,7 +679,7 @@ unfolding pricedRange
 priced-listed ordtype price e = both-true (isOrdtype ordtype) (isPrice price) (both-true (isOrdtype ordtype && isPrice price) _ e .0) .0
 
 -- a client's cancel or replace is in its range
-client-range : (f : Facts) (o : Order) (kind : ℕ) (clordid origclordid : Text) → leb kind 3 ≡ true → isFirst (nextRequest f o kind clordid origclordid) ≡ false
+client-range : (f : Findings) (o : Order) (kind : ℕ) (clordid origclordid : Text) → leb kind 3 ≡ true → isFirst (nextRequest f o kind clordid origclordid) ≡ false
     → isGateway (nextRequest f o kind clordid origclordid) ≡ false → textWithin 1 32 clordid ≡ true → textWithin 1 32 origclordid ≡ true
     → requestRange (nextRequest f o kind clordid origclordid) ≡ true
 unfolding requestRange nextRequest
@@ -691,7 +692,7 @@ settled-or a false s e = refl
 settled-or true true s e = refl
 settled-or {c} false true s e = clash (c && true && true) (both (both s refl) refl) e
 
-module _ (b : Book) (i : ℕ) (f : Facts) (o : Order) (here : Here b i f o) where
+module _ (b : Book) (i : ℕ) (f : Findings) (o : Order) (here : Here b i f o) where
   -- none of the gateway's in flight, by the latest cancel
   pub quiet-idle : isDone (o .state .status) ≡ false → gatewayCancelInFlight f o ≡ false → Quiet i (b .requests)
   unfolding gatewayCancelInFlight outstandingCancel latestCancel

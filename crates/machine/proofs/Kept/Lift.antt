@@ -16,12 +16,12 @@ use Rattle.prelude.specs.Texts.{sameText}
 use Rattle.prelude.specs.declared.Text.{Text}
 use Rattle.store.specs.declared.Order.{Order}
 use Rattle.store.specs.declared.Request.{Request}
-use Rattle.store.specs.Book.{Book, orderIn, requestIn}
+use Rattle.store.specs.Book.{Book, orderIn, requestIn, answered}
 use Rattle.store.specs.Orders.{noOrder}
 use Rattle.machine.specs.Orders.{isEmpty}
 use Rattle.machine.specs.Changes.{isFirst, isGateway}
 use Rattle.machine.specs.Ranges.{textWithin}
-use Rattle.machine.specs.Machine.{answeredRequest, answerLink, ordersAfter, requestsAfter, after, hasRoom}
+use Rattle.machine.specs.Machine.{answerLink, ordersAfter, requestsAfter, after, hasRoom}
 use Rattle.machine.specs.Rules.{requestRange, ofOrder, orderRule, numberIn, numberRule, inFlightRule, requestRule, namesApart, nameRule, clientOf, sameKey, keysApart, keyRule, rules}
 use Rattle.machine.specs.declared.Change.{Change}
 use Rattle.machine.proofs.Kept.Laws.{both, or-else, not-is, decide}
@@ -108,14 +108,14 @@ kept-book b k =
 
 -- ---- the requests after a change
 
-pub after-case : (P : Request → Type 0) (qs : List Request) (c : Change) (j : ℕ) → j < length qs → P (at qs j) → P (answeredRequest (at qs j)) → P (at (requestsAfter qs c) j)
+pub after-case : (P : Request → Type 0) (qs : List Request) (c : Change) (j : ℕ) → j < length qs → P (at qs j) → P (answered (at qs j)) → P (at (requestsAfter qs c) j)
 unfolding requestsAfter
 after-case P qs c j h p a =
     let h′ : j < length (answerLink (c .requests .answered) qs) = subst (λ (n : ℕ). j < n) (sym (length-answer (c .requests .answered) qs)) h in
     let s : P (at (settledBy qs c) j) =
     answer-case P (c .requests .superseded) (answerLink (c .requests .answered) qs) j h′
     (λ d. answer-case P (c .requests .answered) qs j h (λ d. p) (λ e. a))
-    (λ e. answer-case (λ (q : Request). P (answeredRequest q)) (c .requests .answered) qs j h (λ d. a) (λ e. a)) in
+    (λ e. answer-case (λ (q : Request). P (answered q)) (c .requests .answered) qs j h (λ d. a) (λ e. a)) in
     split-if (λ (l : List Request). P (at l j)) (eqb (c .requests .added) 0) (λ e. s)
     (λ e. subst P (sym (more-old (settledBy qs c) (c .requests .request) j (subst (λ (n : ℕ). j < n) (sym (length-settled qs c)) h))) s)
 
@@ -231,11 +231,11 @@ module _ (b : Book) (i : ℕ) (c : Change) (m : Kept b i c) where
 
 -- ---- the book
 
-answered-range : (q : Request) → requestRange q ≡ true → requestRange (answeredRequest q) ≡ true
+answered-range : (q : Request) → requestRange q ≡ true → requestRange (answered q) ≡ true
 unfolding isGateway isFirst
-answered-range q e = let r : RangeKept q = range-kept q e in kept-range (answeredRequest q) (record { kind = r .kind; answered = omega arith; clordid = r .clordid; origclordid = r .origclordid })
+answered-range q e = let r : RangeKept q = range-kept q e in kept-range (answered q) (record { kind = r .kind; answered = omega arith; clordid = r .clordid; origclordid = r .origclordid })
 
-answered-number : (name : Text) (n : ℕ) (q : Request) → numberRule name n q ≡ true → numberRule name n (answeredRequest q) ≡ true
+answered-number : (name : Text) (n : ℕ) (q : Request) → numberRule name n q ≡ true → numberRule name n (answered q) ≡ true
 unfolding numberRule isFirst
 answered-number name n q e = e
 

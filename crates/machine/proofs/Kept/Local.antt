@@ -18,15 +18,15 @@ use Rattle.store.specs.declared.Pending.{Pending}
 use Rattle.store.specs.declared.GatewayCancel.{GatewayCancel}
 use Rattle.store.specs.declared.Order.{Order}
 use Rattle.store.specs.declared.Request.{Request}
-use Rattle.store.specs.Book.{Book, orderIn}
-use Rattle.machine.specs.Codes.{pendingNew, new}
-use Rattle.machine.specs.Orders.{oneMore, isDone, hasPending, hasGateway, statusAt, setStatus, keptOrderId, recordVenueOrderId, pendingTerms, applyReplace, nextExec, withState, withPending, withGateway, noPending, noGateway}
+use Rattle.store.specs.Book.{Book, orderIn, answered}
+use Rattle.machine.specs.Orders.{oneMore, isDone, hasPending, hasGateway, statusAt, setStatus, keptOrderId, recordVenueOrderId, pendingTerms, applyReplace, nextExec, withState, withPending, withGateway}
+use Rattle.store.specs.Orders.{noPending, noGateway}
 use Rattle.machine.specs.Changes.{isFirst, isReplace, isGateway, isCancel, isAnswered, nextLink, nextNumber, numberedOrder}
-use Rattle.machine.specs.Machine.{answeredRequest, answerLink}
-use Rattle.format.specs.Codes.{isSide, isStatus, statuses}
-use Rattle.machine.specs.Ranges.{isQty, isPrice, textWithin, nameRange}
+use Rattle.machine.specs.Machine.{answerLink}
+use Rattle.format.specs.Codes.{isSide, isStatus, statuses, isQty, isPrice, pendingNew, new}
+use Rattle.machine.specs.Ranges.{textWithin, nameRange}
 use Rattle.machine.specs.Rules.{linked, namesRange, forceRange, pricedRange, termsRange, pendingRange, gatewayRange, orderRange, currentTest, pendingTest, currentRule, cancelRule, pendingRule, filledRule, statusRule, doneRule, triesRule, ofOrder, amendmentsRule, orderRule, inFlightRule}
-use Rattle.machine.specs.declared.Facts.{Facts}
+use Rattle.machine.specs.declared.Findings.{Findings}
 use Rattle.machine.proofs.Kept.Laws.{both, or-left, or-right, or-map, or-else, and-false, not-is, is-not, decide}
 use Rattle.machine.proofs.Kept.Tables.{at, Linked, linked-at, at-linked, linked-answer, linked-more, linked-new, length-answer, answer-case, length-more, more-case, owned, owned-answer, owned-own, owned-other, amendments-at, at-amendments}
 
@@ -151,9 +151,9 @@ quiet-answer i o qs live f j h e =
 
 -- ---- a request answered
 
-answered-flight : (link : ℕ) (q : Request) (o : Order) → inFlightRule link (answeredRequest q) o ≡ true
+answered-flight : (link : ℕ) (q : Request) (o : Order) → inFlightRule link (answered q) o ≡ true
 unfolding isAnswered isGateway
-answered-flight link q o = settled-flight link (answeredRequest q) o (or-right (not (isGateway q)) refl)
+answered-flight link q o = settled-flight link (answered q) o (or-right (not (isGateway q)) refl)
 
 cancel-answer : (i k c : ℕ) (qs : List Request) → cancelRule i c qs ≡ true → cancelRule i c (answerLink k qs) ≡ true
 unfolding cancelRule isCancel isFirst isReplace
@@ -203,7 +203,7 @@ unfolding oneMore
 one-more top n h = if-true (ltb n top) (n + 1) n (lt-ltb n top h)
 
 -- the link of the request that is added
-pub next-link : (f : Facts) (n : ℕ) → f .requests ≡ n → n ≤ 256 → nextLink f ≡ n + 1
+pub next-link : (f : Findings) (n : ℕ) → f .requests ≡ n → n ≤ 256 → nextLink f ≡ n + 1
 unfolding nextLink
 next-link f n e h = one-more 65535 (f .requests) (omega arith) ∙ ap (λ (k : ℕ). k + 1) e
 
@@ -252,7 +252,7 @@ module _ (i : ℕ) (qs : List Request) (x : Request) where
   }
 
   -- the order's own: it has the next number, and a cancel becomes the latest
-  pub own-kept : (f : Facts) (cancels : Bool) (o : Order) → f .requests ≡ length qs → length qs ≤ 256 → x .order ≡ i → (cancels ≡ true → isCancel x ≡ true)
+  pub own-kept : (f : Findings) (cancels : Bool) (o : Order) → f .requests ≡ length qs → length qs ≤ 256 → x .order ≡ i → (cancels ≡ true → isCancel x ≡ true)
       → Flights i (numberedOrder f cancels o) qs → inFlightRule (length qs + 1) x (numberedOrder f cancels o) ≡ true
       → OrderKept i o qs → OrderKept i (numberedOrder f cancels o) (qs ++ (x ∷ []))
   unfolding numberedOrder filledRule doneRule hasPending hasGateway

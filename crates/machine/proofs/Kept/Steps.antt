@@ -22,13 +22,13 @@ use Rattle.machine.specs.Changes.{Event, Message, unchanged, refusing, a
 use Rattle.machine.specs.GatewayCancel.{gatewayCancelInFlight}
 use Rattle.machine.specs.Amend.{has, amendRefusal, refuse, alreadyTaken, statusReport, cancelRefusal, cancelGoes, cancel, replaceRefusal, replaceGoes, replace, pricedRight, orOwn, refusal, passes}
 use Rattle.store.specs.Finds.{bearsName, bearsClordid, bearsDownstream, hasClordid, ofClient, findName, findDownstream, findClordid, countClordids}
-use Rattle.machine.specs.Machine.{orderLink, orderOf, latestCancel, orderAtLink, factsOf, bookedOrder, firstRequest, unused, bookOrder, amending, onRequest, nothing, unknownReport, onReport, onName, changeOf, hasRoom, stepOf, answerLink, ordersAfter, requestsAfter, after, bookAfter}
-use Rattle.format.specs.Codes.{isStatus, statuses}
-use Rattle.machine.specs.Ranges.{isPrice, textWithin, nameRange}
+use Rattle.machine.specs.Machine.{orderLink, orderOf, latestCancel, orderAtLink, findingsOf, bookedOrder, firstRequest, unused, bookOrder, amending, onRequest, nothing, unknownReport, onReport, onName, changeOf, hasRoom, stepOf, answerLink, ordersAfter, requestsAfter, after, bookAfter}
+use Rattle.format.specs.Codes.{isStatus, statuses, isPrice}
+use Rattle.machine.specs.Ranges.{textWithin, nameRange}
 use Rattle.machine.specs.Rules.{pendingRange, requestRange, currentTest, currentRule, cancelRule, pendingRule, filledRule, statusRule, doneRule, triesRule, ofOrder, numberIn, nameNumber, numberRule, clientOf, rules}
 use Rattle.machine.specs.Events.{Booking, Amendment, Ranged}
 use Rattle.machine.specs.Kept.{StartKeeps, StepKeeps}
-use Rattle.machine.specs.declared.Facts.{Facts}
+use Rattle.machine.specs.declared.Findings.{Findings}
 use Rattle.machine.specs.declared.Refusal.{Refusal}
 use Rattle.machine.specs.declared.Change.{Change}
 use Rattle.machine.proofs.Kept.Laws.{both, and-tail, not-is, untrue, text-kept, name-within, same-within}
@@ -78,8 +78,8 @@ kept-keeps : (b : Book) (i : ℕ) (c : Change) → BookKept b → i < length (b 
 kept-keeps b i c good h k e r = kept-book (after b c) (lift b i c good k (omega arith) r (λ z. absurd (omega arith)))
 
 -- order i and the facts that go with it
-here-at : (b : Book) (i : ℕ) → BookKept b → i < length (b .orders) → Here b i (factsOf b (i + 1)) (orderIn b i)
-unfolding factsOf orderAtLink
+here-at : (b : Book) (i : ℕ) → BookKept b → i < length (b .orders) → Here b i (findingsOf b (i + 1)) (orderIn b i)
+unfolding findingsOf orderAtLink
 here-at b i good h = record {
   is = refl;
   place = refl;
@@ -94,8 +94,8 @@ here-at b i good h = record {
 asked-at : (b : Book) (j : ℕ) → j < length (b .requests) → Asked b (requestIn b j .order) j (requestIn b j)
 asked-at b j h = record { below = h; is = refl; own = refl }
 
-request-keeps : (b : Book) (e : Event) (unknown : Change) (handle : Facts → ℕ → Request → Order → Change) → BookKept b → Keeps b unknown
-    → ((i j : ℕ) (f : Facts) (q : Request) (o : Order) → Here b i f o → Asked b i j q → RequestKept b j → Kept b i (handle f (j + 1) q o))
+request-keeps : (b : Book) (e : Event) (unknown : Change) (handle : Findings → ℕ → Request → Order → Change) → BookKept b → Keeps b unknown
+    → ((i j : ℕ) (f : Findings) (q : Request) (o : Order) → Here b i f o → Asked b i j q → RequestKept b j → Kept b i (handle f (j + 1) q o))
     → Keeps b (onRequest unknown handle b e)
 unfolding onRequest findDownstream
 request-keeps b e unknown handle good u h =
@@ -172,13 +172,13 @@ fresh-key b client t w e j h booked = untrue _ (λ z.
     (never-used b client t e j h))
 
 -- what holds of a cancel or replace that is not refused
-record Passes (f : Facts) (order : ℕ) (o : Order) (own : Refusal) : Type 0 where
+record Passes (f : Findings) (order : ℕ) (o : Order) (own : Refusal) : Type 0 where
   unused : eqb order 0 ≡ true
   found : eqb (f .place) 0 ≡ false
   live : isDone (o .state .status) ≡ false
   silent : eqb (own .fixedtext) 0 ≡ true
 
-amend-passes : (f : Facts) (order : ℕ) (full : Bool) (o : Order) (e : Event) (own : Refusal) → not (eqb (amendRefusal f order full o e own .fixedtext) 0) ≡ false → Passes f order o own
+amend-passes : (f : Findings) (order : ℕ) (full : Bool) (o : Order) (e : Event) (own : Refusal) → not (eqb (amendRefusal f order full o e own .fixedtext) 0) ≡ false → Passes f order o own
 unfolding amendRefusal
 amend-passes f order full o e own =
     let P : Refusal → Type 0 = λ r. not (eqb (r .fixedtext) 0) ≡ false → Passes f order o own in
@@ -193,7 +193,7 @@ amend-passes f order full o e own =
 module _ (b : Book) (e : Event) (good : BookKept b) (order : ℕ) (full : Bool) (n : ℕ) (own : Refusal) (goes : Change) where
   abbrev amended : ℕ → Order → Change
   amended place o =
-      let f = factsOf b place in
+      let f = findingsOf b place in
       let r = amendRefusal f order full o e own in
       if alreadyTaken f order e then statusReport f o e
       else if not (eqb (r .fixedtext) 0) then refuse f n o e r
@@ -201,21 +201,21 @@ module _ (b : Book) (e : Event) (good : BookKept b) (order : ℕ) (full : Bool) 
 
   -- no order has the ClOrdID
   amend-none : (o : Order) → rules b ≡ true → Keeps b (amended 0 o)
-  unfolding alreadyTaken factsOf refuse
+  unfolding alreadyTaken findingsOf refuse
   amend-none o k =
       split-if (Keeps b) (has e 21 && not (eqb order 0) && eqb order 0)
       (λ t. let (t, same) = both-true (has e 21 && not (eqb order 0)) (eqb order 0) t in
       clash (eqb order 0) same (not-true (eqb order 0) (both-true (has e 21) (not (eqb order 0)) t .1)))
       (λ t. split-if (Keeps b) _ (λ t. telling-keeps b _ _ (nothing-keeps b o k))
-      (λ t. clash (eqb 0 0) refl (amend-passes (factsOf b 0) order full o e own t .found)))
+      (λ t. clash (eqb 0 0) refl (amend-passes (findingsOf b 0) order full o e own t .found)))
 
-  amend-some : (i : ℕ) → i < length (b .orders) → (Passes (factsOf b (i + 1)) order (orderIn b i) own → Keeps b goes) → Keeps b (amended (i + 1) (orderIn b i))
+  amend-some : (i : ℕ) → i < length (b .orders) → (Passes (findingsOf b (i + 1)) order (orderIn b i) own → Keeps b goes) → Keeps b (amended (i + 1) (orderIn b i))
   unfolding refuse
   amend-some i h k =
-      let here : Here b i (factsOf b (i + 1)) (orderIn b i) = here-at b i good h in
+      let here : Here b i (findingsOf b (i + 1)) (orderIn b i) = here-at b i good h in
       split-if (Keeps b) _ (λ t. kept-keeps b i _ good h (status-kept b i _ _ here e))
       (λ t. split-if (Keeps b) _ (λ t. kept-keeps b i _ good h (told-kept b i _ _ here _))
-      (λ t. k (amend-passes (factsOf b (i + 1)) order full (orderIn b i) e own t)))
+      (λ t. k (amend-passes (findingsOf b (i + 1)) order full (orderIn b i) e own t)))
 
 silent-if : (t : Bool) (r : Refusal) → eqb (r .fixedtext) 0 ≡ false → (q : Refusal) → eqb ((if t then r else q) .fixedtext) 0 ≡ true → (t ≡ false) × (eqb (q .fixedtext) 0 ≡ true)
 unfolding if_then_else_
@@ -242,29 +242,29 @@ module _ (b : Book) (e : Event) (good : BookKept b) (k : rules b ≡ true) (amen
   cancel-keeps =
       let order : ℕ = orderOf b (e .client) (e .ids .clordid) in
       let full : Bool = leb (b .setting) (countClordids b (e .client)) in
-      amend-at (λ (place : ℕ) (o : Order). Keeps b (cancel (factsOf b place) order full o e))
+      amend-at (λ (place : ℕ) (o : Order). Keeps b (cancel (findingsOf b place) order full o e))
       (amend-none b e good order full _ _ _ (orderAtLink b 0) k)
       (λ i h c. amend-some b e good order full _ _ _ i h (λ p. goes i h c p))
     where
       goes : (i : ℕ) → i < length (b .orders) → orderIn b i .client ≡ e .client
-          → Passes (factsOf b (i + 1)) (orderOf b (e .client) (e .ids .clordid)) (orderIn b i) (cancelRefusal (factsOf b (i + 1)) (orderIn b i)) → Keeps b (cancelGoes (factsOf b (i + 1)) (orderIn b i) e)
+          → Passes (findingsOf b (i + 1)) (orderOf b (e .client) (e .ids .clordid)) (orderIn b i) (cancelRefusal (findingsOf b (i + 1)) (orderIn b i)) → Keeps b (cancelGoes (findingsOf b (i + 1)) (orderIn b i) e)
       goes i h c p =
-          let here : Here b i (factsOf b (i + 1)) (orderIn b i) = here-at b i good h in
+          let here : Here b i (findingsOf b (i + 1)) (orderIn b i) = here-at b i good h in
           kept-keeps b i _ good h (cancel-goes b i _ _ here e (amendment .clordid) (amendment .origclordid) (fresh i c (p .unused)) (p .live)
-          (quiet-idle b i _ _ here (p .live) (unfold cancelRefusal in silent-if (gatewayCancelInFlight (factsOf b (i + 1)) (orderIn b i)) _ refl _ (p .silent) .0)))
+          (quiet-idle b i _ _ here (p .live) (unfold cancelRefusal in silent-if (gatewayCancelInFlight (findingsOf b (i + 1)) (orderIn b i)) _ refl _ (p .silent) .0)))
 
   replace-keeps : Ranged e → Keeps b (amending replace b e)
   unfolding amending replace
   replace-keeps ranged =
       let order : ℕ = orderOf b (e .client) (e .ids .clordid) in
       let full : Bool = leb (b .setting) (countClordids b (e .client)) in
-      amend-at (λ (place : ℕ) (o : Order). Keeps b (replace (factsOf b place) order full o e))
+      amend-at (λ (place : ℕ) (o : Order). Keeps b (replace (findingsOf b place) order full o e))
       (amend-none b e good order full _ _ _ (orderAtLink b 0) k)
       (λ i h c. amend-some b e good order full _ _ _ i h (λ p. split-if (Keeps b) _ (λ t. refusing-keeps b 6 refl) (λ t. goes i h c p (not-false _ t))))
     where
       goes : (i : ℕ) → i < length (b .orders) → orderIn b i .client ≡ e .client
-          → Passes (factsOf b (i + 1)) (orderOf b (e .client) (e .ids .clordid)) (orderIn b i) (replaceRefusal (factsOf b (i + 1)) (orderIn b i) e)
-          → pricedRight (orOwn (e .terms .ordtype) (orderIn b i .terms .ordtype)) e ≡ true → Keeps b (replaceGoes (factsOf b (i + 1)) (orderIn b i) e)
+          → Passes (findingsOf b (i + 1)) (orderOf b (e .client) (e .ids .clordid)) (orderIn b i) (replaceRefusal (findingsOf b (i + 1)) (orderIn b i) e)
+          → pricedRight (orOwn (e .terms .ordtype) (orderIn b i .terms .ordtype)) e ≡ true → Keeps b (replaceGoes (findingsOf b (i + 1)) (orderIn b i) e)
       goes i h c p t =
           kept-keeps b i _ good h
           (replace-goes b i _ _ (here-at b i good h) e (amendment .clordid) (amendment .origclordid) (fresh i c (p .unused)) (p .live) ranged t)
@@ -285,11 +285,11 @@ none-owned b good =
 
 module _ (b : Book) (e : Event) (good : BookKept b) (booking : Booking e) (ranged : Ranged e) (priced : pricedRight (e .terms .ordtype) e ≡ true)
     (unused′ : eqb (orderOf b (e .client) (e .ids .clordid)) 0 ≡ true) where
-  booked-kept : OrderKept (length (b .orders)) (bookedOrder b e) (b .requests ++ (firstRequest b e ∷ []))
-  unfolding bookedOrder firstRequest isCancel isFirst isReplace isGateway isStatus statuses isPrice pendingRange if_then_else_ currentRule cancelRule pendingRule filledRule statusRule doneRule isDone triesRule
+  booked-kept : OrderKept (length (b .orders)) (bookedOrder (length (b .requests) + 1) e) (b .requests ++ (firstRequest (length (b .orders)) e ∷ []))
+  unfolding bookedOrder firstRequest isCancel isFirst isReplace isGateway isStatus statuses pendingRange if_then_else_ currentRule cancelRule pendingRule filledRule statusRule doneRule isDone triesRule
   booked-kept =
       let n : ℕ = length (b .orders) in
-      let qs : List Request = b .requests ++ (firstRequest b e ∷ []) in
+      let qs : List Request = b .requests ++ (firstRequest (length (b .orders)) e ∷ []) in
       record {
         names = kept-names _ (record { name = booking .name; clordid = booking .clordid; downstream = name-within (e .ids .name) (booking .name); symbol = booking .symbol; venueorderid = no-text });
         terms = kept-terms (e .terms) (record { side = booking .side; priced = priced-range (e .terms .ordtype) e ranged (booking .ordtype) priced; timeinforce = ranged .timeinforce; qty = ranged .qty });
@@ -297,29 +297,29 @@ module _ (b : Book) (e : Event) (good : BookKept b) (booking : Booking e) (range
         average = refl;
         waiting = refl;
         gateway = gateway-none (length qs);
-        current = linked-new (currentTest (e .ids .name)) n (b .requests) (firstRequest b e) refl (same-self (e .ids .name));
+        current = linked-new (currentTest (e .ids .name)) n (b .requests) (firstRequest (length (b .orders)) e) refl (same-self (e .ids .name));
         cancel = refl;
         pending = refl;
-        amendments = at-amendments n 0 qs (ap (λ (k : ℕ). k + 1) (sym (none-owned b good)) ∙ sym (owned-own n (b .requests) (firstRequest b e) refl));
+        amendments = at-amendments n 0 qs (ap (λ (k : ℕ). k + 1) (sym (none-owned b good)) ∙ sym (owned-own n (b .requests) (firstRequest (length (b .orders)) e) refl));
         filled = le-leb 0 (e .terms .qty) (omega arith);
         status = refl;
         done = refl;
         tries = refl;
-        flight = flight-more n (b .requests) (firstRequest b e) (bookedOrder b e)
-            (λ j h own. let l : requestIn b j .order < n = good .request j h .order in absurd (omega arith)) (λ own. settled-flight _ (firstRequest b e) _ refl);
+        flight = flight-more n (b .requests) (firstRequest (length (b .orders)) e) (bookedOrder (length (b .requests) + 1) e)
+            (λ j h own. let l : requestIn b j .order < n = good .request j h .order in absurd (omega arith)) (λ own. settled-flight _ (firstRequest (length (b .orders)) e) _ refl);
       }
 
-  first-added : Added b (length (b .orders)) (bookedOrder b e) (firstRequest b e)
+  first-added : Added b (length (b .orders)) (bookedOrder (length (b .requests) + 1) e) (firstRequest (length (b .orders)) e)
   unfolding bookedOrder firstRequest
   first-added = record {
     order = refl;
     range = unfold requestRange isFirst isGateway if_then_else_ in both (booking .clordid) (unfold textWithin isText allBelow in refl);
-    number = subst (λ (n : ℕ). numberRule (e .ids .name) n (firstRequest b e) ≡ true) (sym (none-owned b good))
+    number = subst (λ (n : ℕ). numberRule (e .ids .name) n (firstRequest (length (b .orders)) e) ≡ true) (sym (none-owned b good))
         (unfold numberRule nameNumber isFirst if_then_else_ in both (same-self (e .ids .name)) refl);
     fresh = λ j h. and-tail (not (isEmpty (e .ids .clordid))) _ _ (fresh-key b (e .client) (e .ids .clordid) (booking .clordid) unused′ j h (good .request j h .order));
   }
 
-  first-kept : Kept b (length (b .orders)) (adding (firstRequest b e) (unchanged (length (b .orders) + 1) (bookedOrder b e)))
+  first-kept : Kept b (length (b .orders)) (adding (firstRequest (length (b .orders)) e) (unchanged (length (b .orders) + 1) (bookedOrder (length (b .requests) + 1) e)))
   unfolding adding unchanged requestsAfter answerLink if_then_else_
   first-kept = record {
     place = refl;
@@ -345,7 +345,7 @@ booking-keeps b e good booking ranged =
         go none z u = first-elim (λ k. bearsName (e .ids .name) (orderIn b k)) (length (b .orders)) (unfold findName in z) j h
         go (some k) z u = clash false (unfold maybe in u) refl
 
-    goes : unused b e ≡ true → pricedRight (e .terms .ordtype) e ≡ true → Keeps b (adding (firstRequest b e) (unchanged (length (b .orders) + 1) (bookedOrder b e)))
+    goes : unused b e ≡ true → pricedRight (e .terms .ordtype) e ≡ true → Keeps b (adding (firstRequest (length (b .orders)) e) (unchanged (length (b .orders) + 1) (bookedOrder (length (b .requests) + 1) e)))
     goes u priced z r =
         let (name, key) = both-true (maybe true (λ k. false) (findName b (e .ids .name))) (eqb (orderOf b (e .client) (e .ids .clordid)) 0) (unfold unused in u) in
         kept-book _ (lift b (length (b .orders)) _ good (first-kept b e good booking ranged priced key) (omega arith) r (λ l j h. unfold adding unchanged bookedOrder in apart name j h))
@@ -371,7 +371,7 @@ module _ (laws : NumberedLaws) (b : Book) (e : Event) (ranged : Ranged e) (k : r
       (λ i z. let f : First (λ n. bearsName (e .ids .name) (orderIn b n)) (length (b .orders)) i = first-some _ (length (b .orders)) i z in
       kept-keeps b i _ good (f .below) (cancel-order b i _ _ (here-at b i good (f .below))))))))))))
     where
-      reported : BookKept b → (i j : ℕ) (f : Facts) (q : Request) (o : Order) → Here b i f o → Asked b i j q → RequestKept b j → Kept b i (onReport e f (j + 1) q o)
+      reported : BookKept b → (i j : ℕ) (f : Findings) (q : Request) (o : Order) → Here b i f o → Asked b i j q → RequestKept b j → Kept b i (onReport e f (j + 1) q o)
       reported good i j f q o h a r =
           split-if (Kept b i) _ (λ t. unknown-kept b i f o h j q a e)
           (λ t. report-kept b i f o h j q a e ranged

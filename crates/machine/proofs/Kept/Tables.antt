@@ -12,10 +12,10 @@ use borrow.Author.Tests.{eqb-true, eqb-false, eq-eqb, ne-eqb, leb-true, le-leb, 
 use Rattle.prelude.specs.Below.{countBelow, count-hit, count-pass, count-ext}
 use Rattle.prelude.specs.Cases.{split-if, if-false, both-true}
 use Rattle.store.specs.declared.Request.{Request}
-use Rattle.store.specs.Book.{Book, orderIn}
+use Rattle.store.specs.Book.{Book, orderIn, answered}
 use Rattle.store.specs.Orders.{noOrder}
 use Rattle.store.specs.Requests.{noRequest}
-use Rattle.machine.specs.Machine.{orderAtLink, answeredRequest, answerLink}
+use Rattle.machine.specs.Machine.{orderAtLink, answerLink}
 use Rattle.machine.specs.Rules.{linked, ofOrder, numberIn, amendmentsRule}
 use Rattle.machine.proofs.Kept.Laws.{both}
 
@@ -35,17 +35,17 @@ unfolding answerLink
 length-answer k qs = split-if (λ (l : List Request). length l ≡ length qs) (eqb k 0) (λ e. refl) (λ e. length-set qs (k - 1) _)
 
 pub answer-case : (P : Request → Type 0) (k : ℕ) (qs : List Request) (j : ℕ) → j < length qs → ((k ≡ j + 1 → ⊥) → P (at qs j))
-    → (k ≡ j + 1 → P (answeredRequest (at qs j))) → P (at (answerLink k qs) j)
+    → (k ≡ j + 1 → P (answered (at qs j))) → P (at (answerLink k qs) j)
 unfolding answerLink
 answer-case P k qs j h p a =
     split-if (λ (l : List Request). P (at l j)) (eqb k 0) (λ e. let z : k ≡ 0 = eqb-true k 0 e in p (λ q. omega arith))
     (λ e. go (ℕ-discrete j (k - 1)) (λ z. eqb-false k 0 e z))
   where
-    go : Dec (j ≡ k - 1) → (k ≡ 0 → ⊥) → P (at (set qs (k - 1) (answeredRequest (at qs (k - 1)))) j)
+    go : Dec (j ≡ k - 1) → (k ≡ 0 → ⊥) → P (at (set qs (k - 1) (answered (at qs (k - 1)))) j)
     go (yes q) n =
-        subst (λ (i : ℕ). P (at (set qs i (answeredRequest (at qs i))) j)) q
-        (subst P (sym (getD-set-same qs j (answeredRequest (at qs j)) noRequest h)) (a (omega arith)))
-    go (no q) n = subst P (sym (getD-set-other qs (k - 1) j (answeredRequest (at qs (k - 1))) noRequest q)) (p (λ z. q (omega arith)))
+        subst (λ (i : ℕ). P (at (set qs i (answered (at qs i))) j)) q
+        (subst P (sym (getD-set-same qs j (answered (at qs j)) noRequest h)) (a (omega arith)))
+    go (no q) n = subst P (sym (getD-set-other qs (k - 1) j (answered (at qs (k - 1))) noRequest q)) (p (λ z. q (omega arith)))
 
 pub answer-order : (k : ℕ) (qs : List Request) (j : ℕ) → j < length qs → at (answerLink k qs) j .order ≡ at qs j .order
 answer-order k qs j h = answer-case (λ (q : Request). q .order ≡ at qs j .order) k qs j h (λ d. refl) (λ e. refl)
@@ -91,7 +91,7 @@ at-linked test i link qs l =
     both (both (both (lt-ltb 0 link (l .above)) (le-leb link (length qs) (l .within))) (eq-eqb (at qs (link - 1) .order) i (l .own))) (l .passes)
 
 module _ (test : Request → Bool) (i link : ℕ) (qs : List Request) where
-  pub linked-answer : (k : ℕ) → (k ≡ link → (q : Request) → test q ≡ true → test (answeredRequest q) ≡ true) → linked test i link qs ≡ true
+  pub linked-answer : (k : ℕ) → (k ≡ link → (q : Request) → test q ≡ true → test (answered q) ≡ true) → linked test i link qs ≡ true
       → linked test i link (answerLink k qs) ≡ true
   linked-answer k f e =
       let l : Linked test i link qs = linked-at test i link qs e in

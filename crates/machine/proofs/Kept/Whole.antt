@@ -19,8 +19,7 @@ use Rattle.store.specs.Orders.{WholeOrder}
 use Rattle.store.specs.Requests.{WholeRequest}
 use Rattle.machine.specs.Changes.{Event, isCancel}
 use Rattle.machine.specs.Machine.{after, bookAfter}
-use Rattle.format.specs.Codes.{sides, ordtypes, timesinforce, statuses, isSide, isOrdtype, isTimeinforce, isStatus, listed-small}
-use Rattle.machine.specs.Ranges.{isQty, isPrice}
+use Rattle.format.specs.Codes.{sides, ordtypes, timesinforce, statuses, isSide, isOrdtype, isTimeinforce, isStatus, isQty, isPrice}
 use Rattle.machine.specs.Rules.{forceRange, pricedRange, pendingRange, gatewayRange, pendingTest, cancelRule, pendingRule, filledRule, rules}
 use Rattle.machine.specs.Whole.{WholeBook, WholeStart, WholeKept}
 use Rattle.machine.proofs.Kept.Laws.{or-else, is-not, name-short}
@@ -31,6 +30,7 @@ use Rattle.machine.proofs.Kept.Lift.{RangeKept, range-kept, RequestKept
 use Rattle.machine.proofs.Kept.Steps.{step-keeps}
 use Rattle.machine.proofs.Kept.Fits.{NamesFit, OrderFits, RequestFits, BookFits, orders-past, requests-past, fits-kept}
 use Rattle.machine.proofs.Numbered.{numbered-laws}
+use Rattle.format.specs.Laws.Codes.{listed-small}
 
 or-case : {A : Type 0} (a b : Bool) → (a ≡ true → A) → (b ≡ true → A) → a || b ≡ true → A
 or-case a b f g e = ⊎-elim f g (either-true a b e)
@@ -55,11 +55,9 @@ unfolding isStatus statuses
 status-byte c = listed-small c statuses refl
 
 qty-word : (n : ℕ) → isQty n ≡ true → n < 2 ^ 64
-unfolding isQty
 qty-word n e = let h : n ≤ 1000000000000 = leb-true n (10 ^ 12) e in omega arith
 
 price-word : (n : ℕ) → isPrice n ≡ true → n < 2 ^ 64
-unfolding isPrice
 price-word n e = let h : n ≤ 100000000000000 = leb-true n (10 ^ 14) e in omega arith
 
 record Priced (ordtype price : ℕ) : Type 0 where

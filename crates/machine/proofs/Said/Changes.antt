@@ -13,26 +13,22 @@ use Rattle.prelude.specs.declared.Text.{Text}
 use Rattle.wide.specs.Wide.{fillPrice}
 use Rattle.wide.specs.Words.{upper-word}
 use Rattle.wide.specs.Price.{price-fits}
-use Rattle.format.specs.Codes.{isStatus, statuses, isExectype, exectypes, isOrdtype, isName, within}
+use Rattle.format.specs.Codes.{isStatus, statuses, isExectype, exectypes, isOrdtype, isName, within, isQty, isPrice, rejected, execStatus, execRejected}
 use Rattle.records.specs.Record.{isMessage}
-use Rattle.records.specs.Right.{RightText, Right}
-use Rattle.records.specs.Ranges.{Ranges, ranges}
 use Rattle.store.specs.declared.Pending.{Pending}
 use Rattle.store.specs.declared.Order.{Order}
 use Rattle.store.specs.declared.Request.{Request}
-use Rattle.store.specs.Orders.{noOrder}
+use Rattle.store.specs.Orders.{noOrder, noPending}
 use Rattle.text.specs.Words.{noText}
-use Rattle.machine.specs.Codes.{rejected, execStatus, execRejected, textRejected, other, venues}
-use Rattle.machine.specs.Orders.{isEmpty, setStatus, recordVenueOrderId, pendingTerms, nextExec, withPending, withGateway, noPending}
+use Rattle.machine.specs.Constants.{mostAlarm, textRejected, other, venues}
+use Rattle.machine.specs.Orders.{isEmpty, setStatus, recordVenueOrderId, pendingTerms, nextExec, withPending, withGateway}
 use Rattle.machine.specs.Messages.{noNote}
 use Rattle.machine.specs.Changes.{Event, Message, unchanged, refusing, answering, superseding, adding, telling, alarming, isFirst, isReplace, isGateway, isCancel, nextDownstream, numberedOrder}
 use Rattle.machine.specs.GatewayCancel.{begun, trySent, sendGatewayCancel, cancelOrder, resumeGatewayCancel, stuck, retryGatewayCancel, gatewayCancelRefused}
 use Rattle.machine.specs.Amend.{has, passes, refusal, amendRefusal, refuse, alreadyTaken, statusReport, cancelRefusal, cancelGoes, cancel, orOwn, verdictText, checkReplace, replaceRefusal, newTerms, pricedRight, newPending, replaceGoes, replace, notPending, refusedOrder, refusedNote, refuseRequest, venueNote, venueCancelReject, firstFailed, sendFailed, resendable, unsent}
 use Rattle.machine.specs.Report.{unknownAtVenue, isRejection, pendingHere, droppedStale, droppedRepeat, statusTaken, accepts, answersRequest, reportedOrder, fillPriceOf, reportNote, clientReport, settles, applyReport, venueReport}
 use Rattle.machine.specs.Events.{Ranged}
-use Rattle.machine.specs.Ranges.{isQty, isPrice}
 use Rattle.machine.specs.Rules.{forceRange, pricedRange, termsRange}
-use Rattle.machine.specs.declared.Facts.{Facts}
 use Rattle.machine.specs.declared.Note.{Note}
 use Rattle.machine.specs.declared.Refusal.{Refusal}
 use Rattle.machine.specs.declared.Refused.{Refused}
@@ -43,57 +39,62 @@ use Rattle.machine.proofs.Kept.Keep.{priced-range, freed-coded}
 use Rattle.machine.proofs.Kept.Steps.{replace-client}
 use Rattle.machine.proofs.Said.Reads.{right-ranged, right-exectype}
 use Rattle.machine.proofs.Said.Rows.{Fine}
-use Rattle.machine.proofs.Said.Messages.{Words, Noted, Told, no-right-text, no-fine, no-long-text, report-right, reject-right, new-right, cancel-right, replace-right, named-text, named-is}
-use Rattle.machine.proofs.Said.Orders.{Asks, sequence-told, state-told, status-told, named-told, pending-told, gateway-told, numbered-told, replaced-told, next-fine}
+use Rattle.machine.proofs.Said.Messages.{Words, Noted, no-right-text, no-fine, no-long-text, report-right, reject-right, new-right, cancel-right, replace-right, named-text, named-is, Tellable}
+use Rattle.machine.proofs.Said.Orders.{Asks, next-fine, sequence-tellable, state-tellable, status-tellable, named-tellable, pending-tellable, gateway-tellable, numbered-tellable, replaced-tellable}
+use Rattle.machine.specs.declared.Findings.{Findings}
+use Rattle.records.specs.Laws.Right.{RightText, Right}
+use Rattle.records.specs.Laws.Ranges.{Ranges, ranges}
 
 -- ---- the messages of a change
 
--- those that are put out are right, by their count
+-- those that are put out are right, by their count, and the alarm is one of the paper's
 pub record Says (c : Change) : Type 0 where
   pub first : eqb (c .output .count) 0 ≡ false → isMessage (c .output .first) ≡ true
   pub second : eqb (c .output .count) 0 ≡ false → eqb (c .output .count) 1 ≡ false → isMessage (c .output .second) ≡ true
+  pub alarm : c .output .alarm ≤ mostAlarm
 
 -- and the order that is left can be told
 pub record Speaks (c : Change) : Type 0 where
-  pub order : Told (c .order)
+  pub order : Tellable (c .order)
   pub says : Says c
 
 pub unchanged-says : (place : ℕ) (o : Order) → Says (unchanged place o)
 unfolding unchanged
-unchanged-says place o = record { first = λ z. clash true refl z; second = λ z. clash true refl z }
+unchanged-says place o = record { first = λ z. clash true refl z; second = λ z. clash true refl z; alarm = omega arith }
 
 pub refusing-says : (n : ℕ) → Says (refusing n)
 unfolding refusing
-refusing-says n = record { first = λ z. clash true refl z; second = λ z. clash true refl z }
+refusing-says n = record { first = λ z. clash true refl z; second = λ z. clash true refl z; alarm = omega arith }
 
-pub alarming-says : (a : ℕ) (c : Change) → Says c → Says (alarming a c)
+pub alarming-says : (a : ℕ) (c : Change) → a ≤ mostAlarm → Says c → Says (alarming a c)
 unfolding alarming
-alarming-says a c s = record { first = s .first; second = s .second }
+alarming-says a c l s = record { first = s .first; second = s .second; alarm = l }
 
 pub adding-says : (q : Request) (c : Change) → Says c → Says (adding q c)
 unfolding adding
-adding-says q c s = record { first = s .first; second = s .second }
+adding-says q c s = record { first = s .first; second = s .second; alarm = s .alarm }
 
 answering-says : (k : ℕ) (c : Change) → Says c → Says (answering k c)
 unfolding answering
-answering-says k c s = record { first = s .first; second = s .second }
+answering-says k c s = record { first = s .first; second = s .second; alarm = s .alarm }
 
 superseding-says : (k : ℕ) (c : Change) → Says c → Says (superseding k c)
 unfolding superseding
-superseding-says k c s = record { first = s .first; second = s .second }
+superseding-says k c s = record { first = s .first; second = s .second; alarm = s .alarm }
 
 telling-says : (m : Message) (c : Change) → isMessage m ≡ true → Says c → Says (telling m c)
 unfolding telling if_then_else_
 telling-says m c r s = record {
   first = λ z. split-if (λ (x : Message). isMessage x ≡ true) (eqb (c .output .count) 0) (λ e. r) (λ e. s .first e);
   second = λ z. behind (eqb (c .output .count) 0);
+  alarm = s .alarm;
 }
   where
     behind : (t : Bool) → eqb (if t then 1 else 2) 1 ≡ false → isMessage (if t then c .output .second else m) ≡ true
     behind true y = clash true refl y
     behind false y = r
 
-pub unchanged-speaks : (place : ℕ) (o : Order) → Told o → Speaks (unchanged place o)
+pub unchanged-speaks : (place : ℕ) (o : Order) → Tellable o → Speaks (unchanged place o)
 unfolding unchanged
 unchanged-speaks place o k = record { order = k; says = unchanged-says place o }
 
@@ -105,14 +106,14 @@ telling-speaks m c r s = record { order = unfold telling in s .order; says = tel
 
 -- ---- gateway cancels
 
-module _ (f : Facts) where
+module _ (f : Findings) where
   send-speaks : (c : Change) → Speaks c → Speaks (sendGatewayCancel f c)
   unfolding sendGatewayCancel
   send-speaks c s =
       let o : Order = withGateway (trySent (c .order)) (numberedOrder f true (c .order)) in
-      let k : Told o = gateway-told _ _ (numbered-told f true (c .order) (s .order)) in
+      let k : Tellable o = gateway-tellable _ _ (numbered-tellable f true (c .order) (s .order)) in
       telling-speaks _ _ (cancel-right o k (nextDownstream (c .order)) (next-fine (c .order) (s .order)))
-      (record { order = unfold adding in k; says = adding-says _ _ (record { first = s .says .first; second = s .says .second }) })
+      (record { order = unfold adding in k; says = adding-says _ _ (record { first = s .says .first; second = s .says .second; alarm = s .says .alarm }) })
 
   pub resume-speaks : (c : Change) → Speaks c → Speaks (resumeGatewayCancel f c)
   unfolding resumeGatewayCancel
@@ -120,17 +121,17 @@ module _ (f : Facts) where
 
   stuck-speaks : (c : Change) → Speaks c → Speaks (stuck c)
   unfolding stuck
-  stuck-speaks c s = record { order = unfold alarming in gateway-told _ _ (s .order); says = alarming-says _ _ (record { first = s .says .first; second = s .says .second }) }
+  stuck-speaks c s = record { order = unfold alarming in gateway-tellable _ _ (s .order); says = alarming-says _ _ (omega arith) (record { first = s .says .first; second = s .says .second; alarm = s .says .alarm }) }
 
   refused-speaks : (n : Note) (c : Change) → Speaks c → Speaks (gatewayCancelRefused f n c)
   unfolding gatewayCancelRefused retryGatewayCancel
   refused-speaks n c s =
       split-if Speaks _ (λ t. s) (λ t. split-if Speaks _ (λ t. stuck-speaks c s) (λ t. split-if Speaks _ (λ t. stuck-speaks c s) (λ t. send-speaks c s)))
 
-  pub cancel-order-says : (o : Order) → Told o → Says (cancelOrder f o)
+  pub cancel-order-says : (o : Order) → Tellable o → Says (cancelOrder f o)
   unfolding cancelOrder
   cancel-order-says o k =
-      let begins : Speaks (unchanged (f .place) (withGateway (begun o) o)) = unchanged-speaks (f .place) _ (gateway-told (begun o) o k) in
+      let begins : Speaks (unchanged (f .place) (withGateway (begun o) o)) = unchanged-speaks (f .place) _ (gateway-tellable (begun o) o k) in
       split-if Says _ (λ t. unchanged-says _ o) (λ t. split-if Says _ (λ t. unchanged-says _ o) (λ t. split-if Says _ (λ t. begins .says) (λ t. send-speaks _ begins .says)))
 
 -- ---- notes
@@ -202,18 +203,18 @@ refused-note n k =
 
 -- ---- a request refused
 
-refused-told : (k : ℕ) (r : Refused) (o : Order) → (eqb (r .status) 0 ≡ false → isStatus (r .status) ≡ true) → Fine 0 32 (r .venueorderid) → Told o → Told (refusedOrder k r o)
+refused-tellable : (k : ℕ) (r : Refused) (o : Order) → (eqb (r .status) 0 ≡ false → isStatus (r .status) ≡ true) → Fine 0 32 (r .venueorderid) → Tellable o → Tellable (refusedOrder k r o)
 unfolding refusedOrder notPending
-refused-told k r o s v t =
-    let n : Told (recordVenueOrderId (r .venueorderid) false o) = named-told (r .venueorderid) false o v t in
-    let p : Told (withPending (if eqb (o .pending .request) k then noPending else o .pending) (recordVenueOrderId (r .venueorderid) false o)) =
-    pending-told _ (recordVenueOrderId (r .venueorderid) false o)
+refused-tellable k r o s v t =
+    let n : Tellable (recordVenueOrderId (r .venueorderid) false o) = named-tellable (r .venueorderid) false o v t in
+    let p : Tellable (withPending (if eqb (o .pending .request) k then noPending else o .pending) (recordVenueOrderId (r .venueorderid) false o)) =
+    pending-tellable _ (recordVenueOrderId (r .venueorderid) false o)
     (unfold recordVenueOrderId pendingTerms in
     split-if (λ (x : Pending). eqb (x .request) 0 ≡ false → termsRange (record { side = o .terms .side; ordtype = x .ordtype; timeinforce = x .timeinforce; qty = x .qty; price = x .price }) ≡ true) _
     (λ e z. clash true refl z) (λ e. t .pending)) n in
-    split-if Told _ (λ e. p)
-    (λ e. split-if Told _ (λ e. status-told (r .status) _ (s (not-true (eqb (r .status) 0) e)) p)
-    (λ e. split-if Told _ (λ e. status-told _ _ (freed-coded _) p) (λ e. p)))
+    split-if Tellable _ (λ e. p)
+    (λ e. split-if Tellable _ (λ e. status-tellable (r .status) _ (s (not-true (eqb (r .status) 0) e)) p)
+    (λ e. split-if Tellable _ (λ e. status-tellable _ _ (freed-coded _) p) (λ e. p)))
 
 -- a cancel or replace of the client's
 client-kind : (q : Request) → q .kind ≤ 3 → isFirst q ≡ false → isGateway q ≡ false → within 1 2 (q .kind) ≡ true
@@ -223,7 +224,7 @@ client-kind q h f g =
     let c : (q .kind ≡ 3 → ⊥) = eqb-false (q .kind) 3 g in
     both (le-leb 1 (q .kind) (omega arith)) (le-leb (q .kind) 2 (omega arith))
 
-module _ (f : Facts) (o : Order) (t : Told o) where
+module _ (f : Findings) (o : Order) (t : Tellable o) where
   still-speaks : Speaks (unchanged (f .place) o)
   still-speaks = unchanged-speaks (f .place) o t
 
@@ -232,7 +233,7 @@ module _ (f : Facts) (o : Order) (t : Told o) where
         → Speaks (refuseRequest f k q venue r o)
     unfolding refuseRequest
     refuse-speaks venue r s v n =
-        let p : Told (refusedOrder k r o) = refused-told k r o s v t in
+        let p : Tellable (refusedOrder k r o) = refused-tellable k r o s v t in
         let c : Speaks (answering k (unchanged (f .place) (refusedOrder k r o))) = answering-speaks k _ (unchanged-speaks (f .place) (refusedOrder k r o) p) in
         let m : Answered (refusedNote (r .note)) = refused-note (r .note) n in
         split-if Speaks _ (λ e. still-speaks)
@@ -249,9 +250,9 @@ module _ (f : Facts) (o : Order) (t : Told o) where
     first-speaks : (n : Note) → Noted n → Speaks (firstFailed f k n o)
     unfolding firstFailed
     first-speaks n m =
-        let p : Told (nextExec (setStatus rejected o)) = sequence-told _ (status-told rejected o (unfold isStatus statuses in refl) t) in
+        let p : Tellable (nextExec (setStatus rejected o)) = sequence-tellable _ (status-tellable rejected o (unfold isStatus statuses in refl) t) in
         telling-speaks _ _
-        (report-right (nextExec (setStatus rejected o)) _ noText execRejected 0 (0 ∷ (0 ∷ [])) _ p (p .names .clordid) no-fine (unfold isExectype exectypes in refl) (unfold isQty in refl)
+        (report-right (nextExec (setStatus rejected o)) _ noText execRejected 0 (0 ∷ (0 ∷ [])) _ p (p .names .clordid) no-fine (unfold isExectype exectypes in refl) refl
         (record { two = refl; low = omega arith; high = omega arith })
         (record { text = m .text; fixedtext = m .fixedtext; reason = omega arith; origin = omega arith; unsaid = λ z. absurd (omega arith); one = m .one }))
         (answering-speaks k _ (unchanged-speaks (f .place) (nextExec (setStatus rejected o)) p))
@@ -262,7 +263,7 @@ module _ (f : Facts) (o : Order) (t : Told o) where
         split-if Speaks _ (λ e. still-speaks)
         (λ e. split-if Speaks _ (λ e. still-speaks)
         (λ e. split-if Speaks _ (λ e. answering-speaks k _ still-speaks)
-        (λ e. split-if Speaks _ (λ e. answering-speaks k _ (unchanged-speaks (f .place) _ (gateway-told _ o t)))
+        (λ e. split-if Speaks _ (λ e. answering-speaks k _ (unchanged-speaks (f .place) _ (gateway-tellable _ o t)))
         (λ e. split-if Speaks _ (λ e. refuse-speaks venue _ (λ z. t .state .status) no-fine m)
         (λ e. split-if Speaks _ (λ e. still-speaks) (λ e. first-speaks n m))))))
 
@@ -285,7 +286,7 @@ module _ (f : Facts) (o : Order) (t : Told o) where
   pub unknown-says : (k : ℕ) (e : Event) → Says (unknownAtVenue f k o e)
   unfolding unknownAtVenue
   unknown-says k e =
-      split-if Says _ (λ z. unchanged-says _ o) (λ z. split-if Says _ (λ z. unchanged-says _ o) (λ z. split-if Says _ (λ z. unchanged-says _ o) (λ z. alarming-says _ _ (unchanged-says _ o))))
+      split-if Says _ (λ z. unchanged-says _ o) (λ z. split-if Says _ (λ z. unchanged-says _ o) (λ z. split-if Says _ (λ z. unchanged-says _ o) (λ z. alarming-says _ _ (omega arith) (unchanged-says _ o))))
 
 -- ---- a report
 
@@ -315,7 +316,7 @@ answers-client k q o e =
     apart : isReplace q ≡ true → isFirst q ≡ false
     apart z = unfold isReplace isFirst in ne-eqb (q .kind) 0 (λ y. let x : q .kind ≡ 2 = eqb-true (q .kind) 2 (unfold isReplace in z) in omega arith)
 
-module _ (f : Facts) (o : Order) (t : Told o) (k : ℕ) (q : Request) (a : Asks q) (some : eqb k 0 ≡ false) (mine : eqb (o .pending .request) k ≡ true → isReplace q ≡ true)
+module _ (f : Findings) (o : Order) (t : Tellable o) (k : ℕ) (q : Request) (a : Asks q) (some : eqb k 0 ≡ false) (mine : eqb (o .pending .request) k ≡ true → isReplace q ≡ true)
     (e : Event) (h : Right e) (kind : e .kind ≡ 4) where
   given : Fine 0 32 (e .ids .venueorderid)
   given = record { long = h .venueorderid .long; range = right-ranged e h .venueorderid }
@@ -333,21 +334,21 @@ module _ (f : Facts) (o : Order) (t : Told o) (k : ℕ) (q : Request) (a : Asks 
           (λ d y. subst (λ (n : ℕ). isStatus n ≡ true) (sym y) (right-ranged e h .status (sym (ap (λ (n : ℕ). eqb n 0) y) ∙ z))) taken
 
   -- the order as the report leaves it
-  reported-told : (accepted : Bool) (s : ℕ) → accepted ≡ accepts k q o e → s ≡ statusTaken k q o e → Told (reportedOrder accepted s q o e)
-  unfolding reportedOrder recordVenueOrderId if_then_else_ isQty
-  reported-told true s is taken =
+  reported-tellable : (accepted : Bool) (s : ℕ) → accepted ≡ accepts k q o e → s ≡ statusTaken k q o e → Tellable (reportedOrder accepted s q o e)
+  unfolding reportedOrder recordVenueOrderId if_then_else_
+  reported-tellable true s is taken =
       let here : eqb (o .pending .request) k ≡ true = pending-there (sym is) in
-      let n : Told (recordVenueOrderId (e .ids .venueorderid) true o) = named-told (e .ids .venueorderid) true o given t in
-      state-told _ (o .state .status) (e .exec .cumqty) (e .exec .avgpx) (o .state .execseq) _ (status-listed s taken)
+      let n : Tellable (recordVenueOrderId (e .ids .venueorderid) true o) = named-tellable (e .ids .venueorderid) true o given t in
+      state-tellable _ (o .state .status) (e .exec .cumqty) (e .exec .avgpx) (o .state .execseq) _ (status-listed s taken)
       (le-leb (e .exec .cumqty) (10 ^ 12) (ranges e h .cumqty)) (right-ranged e h .avgpx) (t .state .execseq)
-      (replaced-told q (recordVenueOrderId (e .ids .venueorderid) true o) (a .clordid (replace-client q (mine here))) (a .downstream) (ap (λ (n : ℕ). eqb n 0) (eqb-true (o .pending .request) k here) ∙ some) n)
-  reported-told false s is taken =
-      state-told _ (o .state .status) (e .exec .cumqty) (e .exec .avgpx) (o .state .execseq) _ (status-listed s taken)
+      (replaced-tellable q (recordVenueOrderId (e .ids .venueorderid) true o) (a .clordid (replace-client q (mine here))) (a .downstream) (ap (λ (n : ℕ). eqb n 0) (eqb-true (o .pending .request) k here) ∙ some) n)
+  reported-tellable false s is taken =
+      state-tellable _ (o .state .status) (e .exec .cumqty) (e .exec .avgpx) (o .state .execseq) _ (status-listed s taken)
       (le-leb (e .exec .cumqty) (10 ^ 12) (ranges e h .cumqty)) (right-ranged e h .avgpx) (t .state .execseq)
-      (named-told (e .ids .venueorderid) false o given t)
+      (named-tellable (e .ids .venueorderid) false o given t)
 
-  client-right : (p : Order) → Told p → isMessage (clientReport (answersRequest k q o) (e .exec .cumqty - o .state .cumqty) q (fillPriceOf o e) p e) ≡ true
-  unfolding clientReport isQty
+  client-right : (p : Order) → Tellable p → isMessage (clientReport (answersRequest k q o) (e .exec .cumqty - o .state .cumqty) q (fillPriceOf o e) p e) ≡ true
+  unfolding clientReport
   client-right p s =
       let most : e .exec .cumqty ≤ 1000000000000 = ranges e h .cumqty in
       report-right p _ _ _ (e .exec .cumqty - o .state .cumqty) (fillPriceOf o e) (reportNote e) s
@@ -366,9 +367,9 @@ module _ (f : Facts) (o : Order) (t : Told o) (k : ℕ) (q : Request) (a : Asks 
       let accepted : Bool = accepts k q o e in
       let s : ℕ = statusTaken k q o e in
       let p : Order = reportedOrder accepted s q o e in
-      let told : Told p = reported-told accepted s refl refl in
+      let told : Tellable p = reported-tellable accepted s refl refl in
       split-if Says _ (λ z. settles-says accepted s _ (unchanged-says _ p))
-      (λ z. telling-says _ _ (client-right (nextExec p) (sequence-told p told)) (settles-says accepted s _ (unchanged-says _ (nextExec p))))
+      (λ z. telling-says _ _ (client-right (nextExec p) (sequence-tellable p told)) (settles-says accepted s _ (unchanged-says _ (nextExec p))))
 
   pub report-says : Says (venueReport f k q o e)
   unfolding venueReport droppedStale droppedRepeat
@@ -376,8 +377,8 @@ module _ (f : Facts) (o : Order) (t : Told o) (k : ℕ) (q : Request) (a : Asks 
       let still : Says (unchanged (f .place) o) = unchanged-says (f .place) o in
       split-if Says _ (λ z. resume-speaks f _ (refuse-speaks f o t k q a (e .venue) _ status given (text-noted e h)) .says)
       (λ z. split-if Says _ (λ z. still)
-      (λ z. split-if Says _ (λ z. split-if Says _ (λ z. alarming-says _ _ still) (λ z. still))
-      (λ z. split-if Says _ (λ z. unchanged-says _ _) (λ z. split-if Says _ (λ z. alarming-says _ _ still) (λ z. applied-says)))))
+      (λ z. split-if Says _ (λ z. split-if Says _ (λ z. alarming-says _ _ (omega arith) still) (λ z. still))
+      (λ z. split-if Says _ (λ z. unchanged-says _ _) (λ z. split-if Says _ (λ z. alarming-says _ _ (omega arith) still) (λ z. applied-says)))))
     where
       status : eqb (if eqb (e .exec .status) rejected then 0 else e .exec .status) 0 ≡ false → isStatus (if eqb (e .exec .status) rejected then 0 else e .exec .status) ≡ true
       status = split-if (λ (n : ℕ). eqb n 0 ≡ false → isStatus n ≡ true) _ (λ z y. clash true refl y) (λ z. right-ranged e h .status)
@@ -398,11 +399,11 @@ or-known t r e k =
 no-refusal : Refuses passes
 no-refusal = record { reason = omega arith; fixedtext = omega arith }
 
-amend-refuses : (f : Facts) (order : ℕ) (full : Bool) (o : Order) (e : Event) (own : Refusal) → Refuses own → Refuses (amendRefusal f order full o e own)
+amend-refuses : (f : Findings) (order : ℕ) (full : Bool) (o : Order) (e : Event) (own : Refusal) → Refuses own → Refuses (amendRefusal f order full o e own)
 unfolding amendRefusal
 amend-refuses f order full o e own r = or-known _ _ refl (or-known _ _ refl (or-known _ _ refl (or-known _ _ refl (or-known _ _ refl r))))
 
-cancel-refuses : (f : Facts) (o : Order) → Refuses (cancelRefusal f o)
+cancel-refuses : (f : Findings) (o : Order) → Refuses (cancelRefusal f o)
 unfolding cancelRefusal
 cancel-refuses f o = or-known _ _ refl no-refusal
 
@@ -411,13 +412,13 @@ verdict-text : (v : ℕ) → v ≤ 7 → verdictText v ≡ 11 + v
 unfolding verdictText if_then_else_
 verdict-text v h = rw (lt-ltb v 244 (omega arith))
 
-replace-refuses : (f : Facts) (o : Order) (e : Event) → e .verdict ≤ 7 → Refuses (replaceRefusal f o e)
+replace-refuses : (f : Findings) (o : Order) (e : Event) → e .verdict ≤ 7 → Refuses (replaceRefusal f o e)
 unfolding replaceRefusal checkReplace
 replace-refuses f o e v =
     let verdict : Refuses (refusal other (verdictText (e .verdict))) = record { reason = omega arith; fixedtext = rw (verdict-text (e .verdict) v) (omega arith) } in
     or-known _ _ refl (or-known _ _ refl (or-known _ _ refl (or-known _ _ refl (or-known _ _ refl (or-known _ _ refl verdict)))))
 
-module _ (f : Facts) (o : Order) (e : Event) (h : Right e) (clordid : Fine 1 32 (e .ids .clordid)) (origclordid : Fine 1 32 (e .ids .origclordid)) where
+module _ (f : Findings) (o : Order) (e : Event) (h : Right e) (clordid : Fine 1 32 (e .ids .clordid)) (origclordid : Fine 1 32 (e .ids .origclordid)) where
   -- of an order of the book, or of none
   refuse-says : (responseto : ℕ) (r : Refusal) → within 1 2 responseto ≡ true → RightText (o .names .name) → (isEmpty (o .names .name) ≡ false → isName (o .names .name) ≡ true)
       → isStatus (if eqb (f .place) 0 then rejected else o .state .status) ≡ true → Refuses r → not (eqb (r .fixedtext) 0) ≡ true → Says (refuse f responseto o e r)
@@ -429,18 +430,18 @@ module _ (f : Facts) (o : Order) (e : Event) (h : Right e) (clordid : Fine 1 32 
       (sym (ap not some)) refl)
       (unchanged-says _ o)
 
-  module _ (t : Told o) where
+  module _ (t : Tellable o) where
     status-says : Says (statusReport f o e)
     unfolding statusReport
     status-says =
         telling-says _ _
-        (report-right (nextExec o) (e .ids .clordid) (e .ids .origclordid) execStatus 0 (0 ∷ (0 ∷ [])) noNote (sequence-told o t) clordid (wider _ origclordid)
-        (unfold isExectype exectypes in refl) (unfold isQty in refl) (record { two = refl; low = omega arith; high = omega arith }) no-noted)
+        (report-right (nextExec o) (e .ids .clordid) (e .ids .origclordid) execStatus 0 (0 ∷ (0 ∷ [])) noNote (sequence-tellable o t) clordid (wider _ origclordid)
+        (unfold isExectype exectypes in refl) refl (record { two = refl; low = omega arith; high = omega arith }) no-noted)
         (unchanged-says _ (nextExec o))
 
     cancel-goes : Says (cancelGoes f o e)
     unfolding cancelGoes
-    cancel-goes = telling-says _ _ (cancel-right _ (numbered-told f true o t) (nextDownstream o) (next-fine o t)) (adding-says _ _ (unchanged-says _ _))
+    cancel-goes = telling-says _ _ (cancel-right _ (numbered-tellable f true o t) (nextDownstream o) (next-fine o t)) (adding-says _ _ (unchanged-says _ _))
 
     replace-goes : pricedRight (orOwn (e .terms .ordtype) (o .terms .ordtype)) e ≡ true → Says (replaceGoes f o e)
     unfolding replaceGoes
@@ -467,8 +468,8 @@ module _ (f : Facts) (o : Order) (e : Event) (h : Right e) (clordid : Fine 1 32 
           qty = ranged .qty;
         })
 
-        p : Told (withPending (newPending f (newTerms o e)) (numberedOrder f false o))
-        p = pending-told (newPending f (newTerms o e)) (numberedOrder f false o) (λ z. unfold newPending pendingTerms numberedOrder newTerms in terms) (numbered-told f false o t)
+        p : Tellable (withPending (newPending f (newTerms o e)) (numberedOrder f false o))
+        p = pending-tellable (newPending f (newTerms o e)) (numberedOrder f false o) (λ z. unfold newPending pendingTerms numberedOrder newTerms in terms) (numbered-tellable f false o t)
 
   -- told again, refused, or on to what goes out
   amended-says : (order : ℕ) (full : Bool) (n : ℕ) (own : Refusal) (goes : Change) → within 1 2 n ≡ true → Refuses own
@@ -479,7 +480,7 @@ module _ (f : Facts) (o : Order) (e : Event) (h : Right e) (clordid : Fine 1 32 
       split-if Says _ taken (λ z. split-if Says _ (λ y. refuse-says n _ w name named status (amend-refuses f order full o e own k) y) passed)
 
   -- of an order
-  module _ (t : Told o) where
+  module _ (t : Tellable o) where
     some-says : (order : ℕ) (full : Bool) (n : ℕ) (own : Refusal) (goes : Change) → within 1 2 n ≡ true → Refuses own → Says goes
         → Says (let r = amendRefusal f order full o e own in if alreadyTaken f order e then statusReport f o e else if not (eqb (r .fixedtext) 0) then refuse f n o e r else goes)
     some-says order full n own goes w k g =
@@ -496,7 +497,7 @@ module _ (f : Facts) (o : Order) (e : Event) (h : Right e) (clordid : Fine 1 32 
         (split-if Says _ (λ z. refusing-says 6) (λ z. replace-goes t (not-false _ z)))
 
 -- of none: it is refused
-module _ (f : Facts) (none : f .place ≡ 0) (e : Event) (h : Right e) (clordid : Fine 1 32 (e .ids .clordid)) (origclordid : Fine 1 32 (e .ids .origclordid)) where
+module _ (f : Findings) (none : f .place ≡ 0) (e : Event) (h : Right e) (clordid : Fine 1 32 (e .ids .clordid)) (origclordid : Fine 1 32 (e .ids .origclordid)) where
   none-says : (order : ℕ) (full : Bool) (n : ℕ) (own : Refusal) (goes : Change) → within 1 2 n ≡ true → Refuses own
       → Says (let r = amendRefusal f order full noOrder e own in if alreadyTaken f order e then statusReport f noOrder e else if not (eqb (r .fixedtext) 0) then refuse f n noOrder e r else goes)
   none-says order full n own goes w k =

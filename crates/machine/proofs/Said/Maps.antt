@@ -11,9 +11,11 @@ use Rattle.prelude.specs.Below.{allBelow, all-elim}
 use Rattle.prelude.specs.Cases.{if_then_else_, clash, both-true}
 use Rattle.prelude.specs.Number.{bound}
 use Rattle.format.specs.Format.{isKind, requiredBits, allowedBits, required, allowed, joined, bitsRight}
-use Rattle.machine.specs.Messages.{mask, bitIf}
+use Rattle.machine.specs.Messages.{bitIf}
+use Rattle.bits.specs.Map.{mapOf}
 use Rattle.machine.proofs.Kept.Laws.{or-else}
 use Rattle.machine.proofs.Said.Reads.{bit}
+use Rattle.bits.specs.Laws.Tests.{each}
 
 -- the bits of the map, as a list of tests, and that the map is right
 pub record Mapped (kind map : ℕ) (l : List Bool) : Type 0 where
@@ -42,25 +44,6 @@ mapped kind map l e =
     let (c, d) = both-true (ltb map (bound 4)) _ e in
     record { bits = a; small = ltb-true map (bound 4) c; stands = λ k h. alike-true (bit map k) (getD l k false) (all-elim (λ k. alike (bit map k) (getD l k false)) 32 d k h) }
 
--- a test of n tests, for each of their combinations
-abbrev Tests : ℕ → Type 0
-Tests zero = Bool
-Tests (suc n) = Bool → Tests n
-
-abbrev passes : (n : ℕ) → Tests n → Bool
-passes zero p = p
-passes (suc n) p = passes n (p true) && passes n (p false)
-
-abbrev Each : (n : ℕ) → Tests n → Type 0
-Each zero p = p ≡ true
-Each (suc n) p = (t : Bool) → Each n (p t)
-
-each : (n : ℕ) (p : Tests n) → passes n p ≡ true → Each n p
-each zero p e = e
-each (suc n) p e =
-    let (x, y) = both-true (passes n (p true)) (passes n (p false)) e in
-    elim [ true ↦ each n (p true) x | false ↦ each n (p false) y ]
-
 -- ---- a report: an OrigClOrdID, a price, a time in force, a text, a fixed text, a reason
 
 abbrev pub reportBits : (a p t x f r : Bool) → List Bool
@@ -72,7 +55,7 @@ reportBits a p t x f r =
 
 abbrev reportMap : (a p t x f r : Bool) → ℕ
 reportMap a p t x f r =
-    mask (0 ∷ (2 ∷ (3 ∷ (6 ∷ (7 ∷ (8 ∷ (9 ∷ (12 ∷ (13 ∷ (14 ∷ (16 ∷ (17 ∷ (24 ∷ (25 ∷ (26 ∷ [])))))))))))))))
+    mapOf (0 ∷ (2 ∷ (3 ∷ (6 ∷ (7 ∷ (8 ∷ (9 ∷ (12 ∷ (13 ∷ (14 ∷ (16 ∷ (17 ∷ (24 ∷ (25 ∷ (26 ∷ [])))))))))))))))
     + (bitIf a 4 + (bitIf p 10 + bitIf t 11 + (bitIf x 20 + bitIf f 27 + (bitIf r 19 + bitIf r 28))))
 
 pub report-mapped : (a p t x f r : Bool) → x && f ≡ false → Mapped 16 (reportMap a p t x f r) (reportBits a p t x f r)
@@ -91,7 +74,7 @@ rejectBits n x f r =
     ∷ false ∷ false ∷ false ∷ f ∷ r ∷ true ∷ false ∷ false ∷ []
 
 abbrev rejectMap : (n x f r : Bool) → ℕ
-rejectMap n x f r = mask (0 ∷ (3 ∷ (4 ∷ (13 ∷ (29 ∷ []))))) + (bitIf n 2 + (bitIf x 20 + bitIf f 27 + (bitIf r 19 + bitIf r 28)))
+rejectMap n x f r = mapOf (0 ∷ (3 ∷ (4 ∷ (13 ∷ (29 ∷ []))))) + (bitIf n 2 + (bitIf x 20 + bitIf f 27 + (bitIf r 19 + bitIf r 28)))
 
 pub reject-mapped : (n x f r : Bool) → x ≡ not f → r ≡ true → Mapped 17 (rejectMap n x f r) (rejectBits n x f r)
 unfolding bitIf if_then_else_ bitsRight isKind required allowed requiredBits allowedBits joined allBelow
@@ -114,7 +97,7 @@ venueBits v d p t =
     ∷ false ∷ false ∷ false ∷ false ∷ false ∷ false ∷ d ∷ false ∷ []
 
 abbrev venueMap : (bits : ℕ) (p t : Bool) → ℕ
-venueMap bits p t = mask (1 ∷ (5 ∷ (6 ∷ (7 ∷ (8 ∷ (9 ∷ [])))))) + (bits + (bitIf p 10 + bitIf t 11))
+venueMap bits p t = mapOf (1 ∷ (5 ∷ (6 ∷ (7 ∷ (8 ∷ (9 ∷ [])))))) + (bits + (bitIf p 10 + bitIf t 11))
 
 pub new-mapped : (p t : Bool) → Mapped 18 (venueMap 0 p t) (venueBits false false p t)
 unfolding bitIf if_then_else_ bitsRight isKind required allowed requiredBits allowedBits joined allBelow

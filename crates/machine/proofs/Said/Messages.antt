@@ -12,24 +12,24 @@ use Rattle.prelude.specs.Cases.{if_then_else_, clash, both-true, split-if}
 use Rattle.prelude.specs.Texts.{isText}
 use Rattle.prelude.specs.declared.Text.{Text}
 use Rattle.prelude.specs.declared.Terms.{Terms}
-use Rattle.format.specs.Codes.{sides, ordtypes, timesinforce, statuses, exectypes, isSide, isOrdtype, isTimeinforce, isStatus, isExectype, isName, within, listed-small}
+use Rattle.format.specs.Codes.{sides, ordtypes, timesinforce, statuses, exectypes, isSide, isOrdtype, isTimeinforce, isStatus, isExectype, isName, within, isQty, isPrice, limit}
 use Rattle.format.specs.Format.{fields, size, range, inRange}
 use Rattle.records.specs.Record.{isMessage}
-use Rattle.records.specs.Right.{RightText, RightLong}
 use Rattle.store.specs.declared.Names.{Names}
 use Rattle.store.specs.declared.State.{State}
 use Rattle.store.specs.declared.Order.{Order}
 use Rattle.text.specs.Words.{noText}
-use Rattle.machine.specs.Codes.{limit}
 use Rattle.machine.specs.Orders.{isEmpty, leavesQty, pendingTerms}
 use Rattle.machine.specs.Messages.{bitIf, noLongText, termsBits, noteBits, report, cancelReject, toVenue, newOrder, cancelRequest, replaceRequest}
-use Rattle.machine.specs.Ranges.{isQty, isPrice, textWithin, nameRange}
+use Rattle.machine.specs.Ranges.{textWithin, nameRange}
 use Rattle.machine.specs.Rules.{forceRange, pricedRange, termsRange}
 use Rattle.machine.specs.declared.Note.{Note}
 use Rattle.machine.proofs.Kept.Laws.{both, or-else, name-within}
 use Rattle.machine.proofs.Kept.Local.{TermsKept, terms-kept}
 use Rattle.machine.proofs.Said.Maps.{Mapped, reportBits, report-mapped, rejectBits, reject-mapped, venueBits, new-mapped, cancel-mapped, replace-mapped}
 use Rattle.machine.proofs.Said.Rows.{Has, gone, there, maybe-there, Fine, fine-text, text-there, text-if, _&_, end, written-message}
+use Rattle.format.specs.Laws.Codes.{listed-small}
+use Rattle.records.specs.Laws.Right.{RightText, RightLong}
 
 -- ---- what messages are made of
 
@@ -54,25 +54,25 @@ pub record Noted (n : Note) : Type 0 where
   pub one : not (eqb (n .text .len) 0) && not (eqb (n .fixedtext) 0) ≡ false
 
 -- an order as messages tell it, and the terms of its pending replace
-pub record NamesTold (n : Names) : Type 0 where
+pub record NamesTellable (n : Names) : Type 0 where
   pub name : Named (n .name)
   pub clordid : Fine 1 32 (n .clordid)
   pub downstream : Fine 1 32 (n .downstream)
   pub symbol : Fine 1 16 (n .symbol)
   pub venueorderid : Fine 0 32 (n .venueorderid)
 
-pub record StateTold (s : State) : Type 0 where
+pub record StateTellable (s : State) : Type 0 where
   pub status : isStatus (s .status) ≡ true
   pub cumqty : isQty (s .cumqty) ≡ true
   pub avgpx : isPrice (s .avgpx) ≡ true
   pub execseq : s .execseq < 2 ^ 64
 
-pub record Told (o : Order) : Type 0 where
+pub record Tellable (o : Order) : Type 0 where
   pub client : o .client < 2 ^ 16
   pub venue : o .venue < 2 ^ 16
-  pub names : NamesTold (o .names)
+  pub names : NamesTellable (o .names)
   pub terms : termsRange (o .terms) ≡ true
-  pub state : StateTold (o .state)
+  pub state : StateTellable (o .state)
   pub amendments : o .links .amendments ≤ 65535
   pub pending : eqb (o .pending .request) 0 ≡ false → termsRange (pendingTerms o) ≡ true
 
@@ -113,11 +113,11 @@ status-there c e = there 13 c e (listed-small c statuses refl e)
 
 -- quantities and prices
 qty-at : (b v : ℕ) → range b ≡ 1 → size b ≡ 8 → isQty v ≡ true → Has true b v
-unfolding isQty inRange if_then_else_
+unfolding inRange if_then_else_
 qty-at b v r s e = there b v (rw r e) (rw s (let h : v ≤ 1000000000000 = leb-true v (10 ^ 12) e in omega arith))
 
 price-at : (b v : ℕ) → range b ≡ 2 → size b ≡ 8 → isPrice v ≡ true → Has true b v
-unfolding isPrice inRange if_then_else_
+unfolding inRange if_then_else_
 price-at b v r s e = there b v (rw r e) (rw s (let h : v ≤ 100000000000000 = leb-true v (10 ^ 14) e in omega arith))
 
 record TermsRows (t : Terms) : Type 0 where
@@ -180,13 +180,13 @@ name-there t e =
 -- ---- the messages
 
 leaves-range : (o : Order) → isQty (o .terms .qty) ≡ true → isQty (leavesQty o) ≡ true
-unfolding leavesQty isQty
+unfolding leavesQty
 leaves-range o e =
     let h : o .terms .qty ≤ 1000000000000 = leb-true (o .terms .qty) (10 ^ 12) e in
     split-if (λ (n : ℕ). leb n (10 ^ 12) ≡ true) _ (λ d. refl) (λ d. le-leb (o .terms .qty - o .state .cumqty) (10 ^ 12) (omega arith))
 
 pub report-right : (o : Order) (clordid origclordid : Text) (exectype lastqty : ℕ) (fillprice : List ℕ) (n : Note)
-    → Told o → Fine 1 32 clordid → Fine 0 32 origclordid → isExectype exectype ≡ true → isQty lastqty ≡ true → Words fillprice → Noted n
+    → Tellable o → Fine 1 32 clordid → Fine 0 32 origclordid → isExectype exectype ≡ true → isQty lastqty ≡ true → Words fillprice → Noted n
     → isMessage (report o clordid origclordid exectype lastqty fillprice n) ≡ true
 unfolding report termsBits noteBits range fields size inRange if_then_else_
 report-right o clordid origclordid exectype lastqty fillprice n k c d x q w m =
@@ -285,7 +285,7 @@ reject-right client name status clordid origclordid responseto n b t i s c d w m
       nothigh = λ e. refl;
     })
 
-module _ (o : Order) (k : Told o) (downstream : Text) (d : Fine 1 32 downstream) (terms : Terms) (t : termsRange terms ≡ true) where
+module _ (o : Order) (k : Tellable o) (downstream : Text) (d : Fine 1 32 downstream) (terms : Terms) (t : termsRange terms ≡ true) where
   venue-right : (kind bits : ℕ) (venueorderid origdownstream : Text) (v g : Bool) → 16 ≤ kind
       → Mapped kind (toVenue kind bits o downstream venueorderid origdownstream terms .map) (venueBits v g (eqb (terms .ordtype) limit) (not (eqb (terms .timeinforce) 0)))
       → RightText venueorderid → RightText origdownstream → Has v 18 (venueorderid .len) → Has g 30 (origdownstream .len)
@@ -343,7 +343,7 @@ module _ (o : Order) (k : Told o) (downstream : Text) (d : Fine 1 32 downstream)
   unfolding replaceRequest
   replace-right = amend-right 20 (omega arith) (unfold toVenue termsBits in replace-mapped (not (isEmpty (o .names .venueorderid))) (eqb (terms .ordtype) limit) (not (eqb (terms .timeinforce) 0)))
 
-module _ (o : Order) (k : Told o) (downstream : Text) (d : Fine 1 32 downstream) where
+module _ (o : Order) (k : Tellable o) (downstream : Text) (d : Fine 1 32 downstream) where
   pub new-right : isMessage (newOrder o downstream) ≡ true
   unfolding newOrder
   new-right =

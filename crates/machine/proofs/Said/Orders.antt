@@ -10,7 +10,7 @@ use borrow.Author.Tests.{eqb-false, leb-true, le-leb, ltb-true}
 use Rattle.prelude.specs.Cases.{if-false, split-if, clash, both-true}
 use Rattle.prelude.specs.Texts.{isText, contents}
 use Rattle.prelude.specs.declared.Text.{Text}
-use Rattle.format.specs.Codes.{isStatus}
+use Rattle.format.specs.Codes.{isStatus, isQty, isPrice}
 use Rattle.store.specs.declared.Pending.{Pending}
 use Rattle.store.specs.declared.GatewayCancel.{GatewayCancel}
 use Rattle.store.specs.declared.Order.{Order}
@@ -19,26 +19,26 @@ use Rattle.store.specs.Book.{Book, requestIn}
 use Rattle.store.specs.Orders.{WholeOrder}
 use Rattle.store.specs.Requests.{WholeRequest}
 use Rattle.text.specs.Numbered.{numberedText, decimal}
-use Rattle.text.specs.NameLaws.{numbered-fits, numbered-is-text, numbered-long, numbered-len}
 use Rattle.machine.specs.Orders.{oneMore, setStatus, keptOrderId, recordVenueOrderId, pendingTerms, applyReplace, nextSequence, nextExec, withState, withPending, withGateway}
 use Rattle.machine.specs.Changes.{isFirst, isGateway, nextNumber, nextDownstream, numberedOrder}
-use Rattle.machine.specs.Ranges.{isQty, isPrice, textWithin}
+use Rattle.machine.specs.Ranges.{textWithin}
 use Rattle.machine.specs.Rules.{termsRange, filledRule}
 use Rattle.machine.specs.Whole.{WholeBook}
-use Rattle.machine.specs.declared.Facts.{Facts}
+use Rattle.machine.specs.declared.Findings.{Findings}
 use Rattle.machine.proofs.Numbered.{numbered-laws}
 use Rattle.machine.proofs.Kept.Laws.{kept-text, name-short}
 use Rattle.machine.proofs.Kept.Local.{OrderKept, NamesKept, names-kept, TermsKept, terms-kept, pending-parts, status-coded}
 use Rattle.machine.proofs.Kept.Lift.{RangeKept, range-kept, BookKept}
 use Rattle.machine.proofs.Kept.Steps.{downstream-within}
 use Rattle.machine.proofs.Said.Rows.{Fine}
-use Rattle.machine.proofs.Said.Messages.{Told}
+use Rattle.machine.proofs.Said.Messages.{Tellable}
+use Rattle.text.specs.Laws.Names.{numbered-fits, numbered-is-text, numbered-long, numbered-len}
 
 -- ---- of a book
 
-pub order-told : (i : ℕ) (o : Order) (qs : List Request) → OrderKept i o qs → WholeOrder o → Told o
-unfolding filledRule isQty
-order-told i o qs l w =
+pub order-tellable : (i : ℕ) (o : Order) (qs : List Request) → OrderKept i o qs → WholeOrder o → Tellable o
+unfolding filledRule
+order-tellable i o qs l w =
     let n : NamesKept (o .names) = names-kept (o .names) (l .names) in
     let t : TermsKept (o .terms) = terms-kept (o .terms) (l .terms) in
     let cum : o .state .cumqty ≤ o .terms .qty = leb-true (o .state .cumqty) (o .terms .qty) (l .filled) in
@@ -83,9 +83,9 @@ request-asks b j good whole h =
 
 -- ---- the order's steps
 
-pub sequence-told : (o : Order) → Told o → Told (nextExec o)
+pub sequence-tellable : (o : Order) → Tellable o → Tellable (nextExec o)
 unfolding nextExec nextSequence pendingTerms
-sequence-told o k = record {
+sequence-tellable o k = record {
   client = k .client;
   venue = k .venue;
   names = k .names;
@@ -101,10 +101,10 @@ sequence-told o k = record {
 }
 
 -- quantities and a status; with its own quantities this is `setStatus` alone
-pub state-told : (s status cumqty avgpx execseq : ℕ) (o : Order) → isStatus s ≡ true → isQty cumqty ≡ true → isPrice avgpx ≡ true → execseq < 2 ^ 64 → Told o
-    → Told (setStatus s (withState (record { status = status; cumqty = cumqty; avgpx = avgpx; execseq = execseq }) o))
+pub state-tellable : (s status cumqty avgpx execseq : ℕ) (o : Order) → isStatus s ≡ true → isQty cumqty ≡ true → isPrice avgpx ≡ true → execseq < 2 ^ 64 → Tellable o
+    → Tellable (setStatus s (withState (record { status = status; cumqty = cumqty; avgpx = avgpx; execseq = execseq }) o))
 unfolding setStatus pendingTerms
-state-told s status cumqty avgpx execseq o e q p x k = record {
+state-tellable s status cumqty avgpx execseq o e q p x k = record {
   client = k .client;
   venue = k .venue;
   names = k .names;
@@ -115,12 +115,12 @@ state-told s status cumqty avgpx execseq o e q p x k = record {
       (λ d z. clash true refl z) (λ d. k .pending);
 }
 
-pub status-told : (s : ℕ) (o : Order) → isStatus s ≡ true → Told o → Told (setStatus s o)
-status-told s o e k = state-told s (o .state .status) (o .state .cumqty) (o .state .avgpx) (o .state .execseq) o e (k .state .cumqty) (k .state .avgpx) (k .state .execseq) k
+pub status-tellable : (s : ℕ) (o : Order) → isStatus s ≡ true → Tellable o → Tellable (setStatus s o)
+status-tellable s o e k = state-tellable s (o .state .status) (o .state .cumqty) (o .state .avgpx) (o .state .execseq) o e (k .state .cumqty) (k .state .avgpx) (k .state .execseq) k
 
-pub named-told : (given : Text) (r : Bool) (o : Order) → Fine 0 32 given → Told o → Told (recordVenueOrderId given r o)
+pub named-tellable : (given : Text) (r : Bool) (o : Order) → Fine 0 32 given → Tellable o → Tellable (recordVenueOrderId given r o)
 unfolding recordVenueOrderId keptOrderId pendingTerms
-named-told given r o g k = record {
+named-tellable given r o g k = record {
   client = k .client;
   venue = k .venue;
   names = record {
@@ -136,8 +136,8 @@ named-told given r o g k = record {
   pending = k .pending;
 }
 
-pub pending-told : (p : Pending) (o : Order) → (eqb (p .request) 0 ≡ false → termsRange (pendingTerms (withPending p o)) ≡ true) → Told o → Told (withPending p o)
-pending-told p o t k = record {
+pub pending-tellable : (p : Pending) (o : Order) → (eqb (p .request) 0 ≡ false → termsRange (pendingTerms (withPending p o)) ≡ true) → Tellable o → Tellable (withPending p o)
+pending-tellable p o t k = record {
   client = k .client;
   venue = k .venue;
   names = k .names;
@@ -147,9 +147,9 @@ pending-told p o t k = record {
   pending = t;
 }
 
-pub gateway-told : (g : GatewayCancel) (o : Order) → Told o → Told (withGateway g o)
+pub gateway-tellable : (g : GatewayCancel) (o : Order) → Tellable o → Tellable (withGateway g o)
 unfolding pendingTerms
-gateway-told g o k = record {
+gateway-tellable g o k = record {
   client = k .client;
   venue = k .venue;
   names = k .names;
@@ -163,9 +163,9 @@ one-more : (n : ℕ) → n ≤ 65535 → oneMore 65535 n ≤ 65535
 unfolding oneMore
 one-more n h = split-if (λ (k : ℕ). k ≤ 65535) _ (λ t. omega (arith, ltb-true n 65535 t)) (λ t. h)
 
-pub numbered-told : (f : Facts) (cancels : Bool) (o : Order) → Told o → Told (numberedOrder f cancels o)
+pub numbered-tellable : (f : Findings) (cancels : Bool) (o : Order) → Tellable o → Tellable (numberedOrder f cancels o)
 unfolding numberedOrder nextNumber pendingTerms
-numbered-told f cancels o k = record {
+numbered-tellable f cancels o k = record {
   client = k .client;
   venue = k .venue;
   names = k .names;
@@ -175,9 +175,9 @@ numbered-told f cancels o k = record {
   pending = k .pending;
 }
 
-pub replaced-told : (q : Request) (o : Order) → Fine 1 32 (q .clordid) → Fine 1 32 (q .downstream) → eqb (o .pending .request) 0 ≡ false → Told o → Told (applyReplace q o)
+pub replaced-tellable : (q : Request) (o : Order) → Fine 1 32 (q .clordid) → Fine 1 32 (q .downstream) → eqb (o .pending .request) 0 ≡ false → Tellable o → Tellable (applyReplace q o)
 unfolding applyReplace
-replaced-told q o c d some k = record {
+replaced-tellable q o c d some k = record {
   client = k .client;
   venue = k .venue;
   names = record { name = k .names .name; clordid = c; downstream = d; symbol = k .names .symbol; venueorderid = k .names .venueorderid };
@@ -188,7 +188,7 @@ replaced-told q o c d some k = record {
 }
 
 -- the next numbered downstream ClOrdID fits, whatever the counter says
-pub next-fine : (o : Order) → Told o → Fine 1 32 (nextDownstream o)
+pub next-fine : (o : Order) → Tellable o → Fine 1 32 (nextDownstream o)
 unfolding nextDownstream nextNumber isText
 next-fine o k =
     let name : Text = o .names .name in

@@ -14,22 +14,23 @@ use Rattle.prelude.specs.Number.{Bytes}
 use Rattle.prelude.specs.Texts.{textOf, WholeText}
 use Rattle.prelude.specs.Bytes.{bytes-span, bytes-drop, bytes-take, bytes-append, bytes-zeros}
 use Rattle.prelude.specs.declared.Text.{Text}
-use Rattle.format.specs.Codes.{within, isName, isOrdtype, isTimeinforce, isStatus, isExectype}
+use Rattle.format.specs.Codes.{within, isName, isOrdtype, isTimeinforce, isStatus, isExectype, isQty, isPrice}
 use Rattle.format.specs.Format.{fields, range, inRange, requiredBits, required, isKind, bitsRight}
 use Rattle.format.specs.Places.{start, strip, part, content, kindAt, mapAt, shaped}
 use Rattle.records.specs.declared.Ids.{Ids}
 use Rattle.records.specs.declared.Record.{Record}
 use Rattle.records.specs.Fields.{numbersOf}
-use Rattle.records.specs.Record.{recordAt, nameIn, ranged, refusalBy, isRecord, isEvent, eventRefusal, eventIn}
-use Rattle.records.specs.Right.{RightText, Right, right}
-use Rattle.records.specs.Ranges.{Ranges, ranges, stands, event-facts}
+use Rattle.records.specs.Record.{recordAt, isRecord, isEvent, eventIn}
 use Rattle.machine.specs.Changes.{Event}
 use Rattle.machine.specs.Amend.{has}
-use Rattle.machine.specs.Ranges.{isQty, isPrice, textWithin, nameRange}
+use Rattle.machine.specs.Ranges.{textWithin, nameRange}
 use Rattle.machine.specs.Rules.{forceRange}
 use Rattle.machine.specs.Events.{Booking, Amendment, Ranged}
 use Rattle.machine.specs.Reads.{EventRanged, EventWhole, EventKind}
 use Rattle.machine.proofs.Kept.Laws.{both, or-left, or-right, decide, kept-text}
+use Rattle.format.specs.Refusal.{nameIn, ranged, refusalBy, eventRefusal}
+use Rattle.records.specs.Laws.Right.{RightText, Right, right}
+use Rattle.records.specs.Laws.Ranges.{Ranges, ranges, stands, event-facts}
 
 -- ---- one field
 
@@ -73,7 +74,7 @@ module _ (e : Event) (h : Right e) where
   }
 
   pub right-ranged : Ranged e
-  unfolding required requiredBits isQty isPrice forceRange
+  unfolding required requiredBits forceRange
   right-ranged =
       let r : Ranges e = ranges e h in
       record {

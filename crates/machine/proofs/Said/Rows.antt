@@ -15,9 +15,10 @@ use Rattle.format.specs.Codes.{within, isName}
 use Rattle.format.specs.Format.{size, range, inRange}
 use Rattle.records.specs.declared.Record.{Record}
 use Rattle.records.specs.Fields.{numbersOf, highOf}
-use Rattle.records.specs.Record.{nameIn, isMessage}
-use Rattle.records.specs.Right.{RightText, RightLong}
-use Rattle.records.specs.Ranges.{test}
+use Rattle.format.specs.Refusal.{nameIn}
+use Rattle.records.specs.Record.{isMessage}
+use Rattle.records.specs.Laws.Right.{RightText, RightLong}
+use Rattle.records.specs.Laws.Ranges.{test}
 use Rattle.machine.specs.Orders.{isEmpty}
 use Rattle.machine.specs.Ranges.{textWithin}
 use Rattle.machine.proofs.Kept.Laws.{both, TextKept, text-kept}

@@ -8,27 +8,25 @@ use mathlib.Core.Option.{some}
 use mathlib.Core.List.{List}
 use lib.Dec.{eqb, leb}
 use lib.ListN.{length}
+use Rattle.prelude.specs.Span.{splice}
 use borrow.Author.Tests.{eqb-true, ne-eqb}
 use Rattle.prelude.specs.Below.{first-some}
 use Rattle.prelude.specs.Cases.{if_then_else_, split-if, split-maybe, both-true}
 use Rattle.records.specs.Record.{isMessage}
-use Rattle.records.specs.Right.{Right}
-use Rattle.records.specs.Writing.{answer-most}
-use Rattle.records.specs.AnswerBack.{areMessages, answer-messages}
+use Rattle.records.specs.Answer.{answerBytes, answerAlarm, chosen, areMessages}
 use Rattle.store.specs.declared.Order.{Order}
 use Rattle.store.specs.declared.Request.{Request}
 use Rattle.store.specs.Book.{Book, orderIn, requestIn}
 use Rattle.store.specs.Orders.{noOrder}
 use Rattle.machine.specs.Changes.{Event, Message, isReplace}
 use Rattle.store.specs.Finds.{findClordid, countClordids}
-use Rattle.machine.specs.Machine.{orderOf, orderAtLink, factsOf, bookOrder, Amending, amending, onRequest, nothing, unknownReport, onReport, onName, changeOf, stepOf}
+use Rattle.machine.specs.Machine.{orderOf, orderAtLink, bookOrder, Amending, amending, onRequest, nothing, unknownReport, onReport, onName, changeOf, stepOf, findingsOf}
 use Rattle.machine.specs.Amend.{cancel, replace}
 use Rattle.machine.specs.Rules.{pendingTest}
 use Rattle.machine.specs.Events.{Amendment, Ranged}
 use Rattle.machine.specs.Whole.{WholeBook}
-use Rattle.machine.specs.History.{spoken, messagesOf}
+use Rattle.machine.specs.History.{messagesOf}
 use Rattle.machine.specs.Said.{MessagesRight, MessagesFew, AnswerRead}
-use Rattle.machine.specs.declared.Facts.{Facts}
 use Rattle.machine.specs.declared.Change.{Change}
 use Rattle.machine.proofs.Kept.Laws.{both}
 use Rattle.machine.proofs.Kept.Tables.{at, at-link}
@@ -37,25 +35,28 @@ use Rattle.machine.proofs.Kept.Lift.{BookKept, book-kept}
 use Rattle.machine.proofs.Claim.Walk.{found-request, found-order}
 use Rattle.machine.proofs.Said.Reads.{event-right-facts, right-ranged}
 use Rattle.machine.proofs.Said.Rows.{Fine}
-use Rattle.machine.proofs.Said.Messages.{Told}
-use Rattle.machine.proofs.Said.Orders.{Asks, order-told, request-asks}
+use Rattle.machine.proofs.Said.Messages.{Tellable}
+use Rattle.machine.proofs.Said.Orders.{Asks, request-asks, order-tellable}
 use Rattle.machine.proofs.Said.Changes.{Says, unchanged-says, refusing-says, alarming-says, adding-says, text-noted, cancel-order-says, failed-speaks, unsent-speaks, reject-speaks, unknown-says, report-says, cancel-says, replace-says, cancel-none, replace-none}
+use Rattle.machine.specs.declared.Findings.{Findings}
+use Rattle.records.specs.Laws.Right.{Right}
+use Rattle.records.specs.Laws.Writing.{answer-most}
+use Rattle.records.specs.Laws.AnswerBack.{answer-messages, answer-accepted, answer-alarm}
 
 -- ---- from a change to its messages
 
-spoken-right : (count : ℕ) (first second : Message) → (eqb count 0 ≡ false → isMessage first ≡ true) → (eqb count 0 ≡ false → eqb count 1 ≡ false → isMessage second ≡ true)
-    → areMessages (spoken count first second) ≡ true
-unfolding spoken
-spoken-right count first second f g =
+chosen-right : (count : ℕ) (first second : Message) → (eqb count 0 ≡ false → isMessage first ≡ true) → (eqb count 0 ≡ false → eqb count 1 ≡ false → isMessage second ≡ true)
+    → areMessages (chosen count first second) ≡ true
+chosen-right count first second f g =
     split-if (λ (l : List Message). areMessages l ≡ true) (eqb count 0) (λ z. refl)
     (λ z. split-if (λ (l : List Message). areMessages l ≡ true) (eqb count 1) (λ y. both (f z) refl) (λ y. both (f z) (both (g z y) refl)))
 
 said : (c : Change) → Says c → areMessages (messagesOf c) ≡ true
 unfolding messagesOf
-said c s = split-if (λ (l : List Message). areMessages l ≡ true) _ (λ z. spoken-right _ _ _ (s .first) (s .second)) (λ z. refl)
+said c s = split-if (λ (l : List Message). areMessages l ≡ true) _ (λ z. chosen-right (c .output .count) _ _ (s .first) (s .second)) (λ z. refl)
 
 pub messages-few : MessagesFew
-unfolding messagesOf spoken
+unfolding messagesOf
 messages-few c =
     split-if (λ (l : List Message). length l ≤ 2) _
     (λ z. split-if (λ (l : List Message). length l ≤ 2) _ (λ z. omega arith) (λ z. split-if (λ (l : List Message). length l ≤ 2) _ (λ z. omega arith) (λ z. omega arith)))
@@ -64,8 +65,8 @@ messages-few c =
 -- ---- the events
 
 module _ (b : Book) (e : Event) (good : BookKept b) (whole : WholeBook b) (h : Right e) where
-  told-at : (i : ℕ) → i < length (b .orders) → Told (orderIn b i)
-  told-at i l = order-told i (orderIn b i) (b .requests) (good .order i l) (whole .order i l)
+  tellable-at : (i : ℕ) → i < length (b .orders) → Tellable (orderIn b i)
+  tellable-at i l = order-tellable i (orderIn b i) (b .requests) (good .order i l) (whole .order i l)
 
   -- pending terms that name the request are a replace's
   pending-replace : (j : ℕ) → j < length (b .requests) → eqb (orderIn b (requestIn b j .order) .pending .request) (j + 1) ≡ true → isReplace (requestIn b j) ≡ true
@@ -77,26 +78,26 @@ module _ (b : Book) (e : Event) (good : BookKept b) (whole : WholeBook b) (h : R
       pending-parts i o (b .requests) (ne-eqb (o .pending .request) 0 (λ y. omega arith)) (good .order i (good .request j l .order)) .link .passes in
       both-true (isReplace (requestIn b j)) _ (subst (λ (n : ℕ). pendingTest (at (b .requests) n) ≡ true) (omega arith) t) .0
 
-  on-request : (unknown : Change) (handle : Facts → ℕ → Request → Order → Change) → Says unknown
-      → ((f : Facts) (k : ℕ) (q : Request) (o : Order) → Told o → Asks q → eqb k 0 ≡ false → (eqb (o .pending .request) k ≡ true → isReplace q ≡ true) → Says (handle f k q o))
+  on-request : (unknown : Change) (handle : Findings → ℕ → Request → Order → Change) → Says unknown
+      → ((f : Findings) (k : ℕ) (q : Request) (o : Order) → Tellable o → Asks q → eqb k 0 ≡ false → (eqb (o .pending .request) k ≡ true → isReplace q ≡ true) → Says (handle f k q o))
       → Says (onRequest unknown handle b e)
   unfolding onRequest
   on-request unknown handle u s =
       split-maybe Says _ (λ z. u)
       (λ j z. let l : j < length (b .requests) = found-request b (e .ids .downstream) j z in
-      s _ _ _ _ (told-at (requestIn b j .order) (good .request j l .order)) (request-asks b j good whole l) (ne-eqb (j + 1) 0 (λ y. omega arith)) (pending-replace j l))
+      s _ _ _ _ (tellable-at (requestIn b j .order) (good .request j l .order)) (request-asks b j good whole l) (ne-eqb (j + 1) 0 (λ y. omega arith)) (pending-replace j l))
 
-  on-clordid : (handle : Amending) → ((f : Facts) (order : ℕ) (full : Bool) → f .place ≡ 0 → Says (handle f order full noOrder e))
-      → ((f : Facts) (order : ℕ) (full : Bool) (o : Order) → Told o → Says (handle f order full o e)) → Says (amending handle b e)
+  on-clordid : (handle : Amending) → ((f : Findings) (order : ℕ) (full : Bool) → f .place ≡ 0 → Says (handle f order full noOrder e))
+      → ((f : Findings) (order : ℕ) (full : Bool) (o : Order) → Tellable o → Says (handle f order full o e)) → Says (amending handle b e)
   unfolding amending orderOf
   on-clordid handle absent there =
       let order : ℕ = orderOf b (e .client) (e .ids .clordid) in
       let full : Bool = leb (b .setting) (countClordids b (e .client)) in
-      split-maybe (λ (p : ℕ). Says (handle (factsOf b p) order full (orderAtLink b p) e)) (findClordid b (e .client) (e .ids .origclordid))
-      (λ z. unfold orderAtLink factsOf if_then_else_ in absent (factsOf b 0) order full refl)
+      split-maybe (λ (p : ℕ). Says (handle (findingsOf b p) order full (orderAtLink b p) e)) (findClordid b (e .client) (e .ids .origclordid))
+      (λ z. unfold orderAtLink findingsOf if_then_else_ in absent (findingsOf b 0) order full refl)
       (λ j z.
       let i : ℕ = requestIn b j .order in
-      subst (λ (o : Order). Says (handle (factsOf b (i + 1)) order full o e)) (sym (at-link b i)) (there _ order full (orderIn b i) (told-at i (good .request j (found j z) .order))))
+      subst (λ (o : Order). Says (handle (findingsOf b (i + 1)) order full o e)) (sym (at-link b i)) (there _ order full (orderIn b i) (tellable-at i (good .request j (found j z) .order))))
     where
       found : (j : ℕ) → findClordid b (e .client) (e .ids .origclordid) ≡ some j → j < length (b .requests)
       found j z = unfold findClordid in first-some _ (length (b .requests)) j z .below
@@ -108,7 +109,7 @@ module _ (b : Book) (e : Event) (good : BookKept b) (whole : WholeBook b) (h : R
   unfolding changeOf bookOrder onName onReport
   change-says =
       let still : Says nothing = unchanged-says 0 noOrder in
-      let unknown : Says unknownReport = alarming-says _ _ still in
+      let unknown : Says unknownReport = alarming-says _ _ (omega arith) still in
       let ranged : Ranged e = right-ranged e h in
       split-if Says (eqb (e .kind) 1)
       (λ t. split-if Says _ (λ t. refusing-says 5) (λ t. split-if Says _ (λ t. refusing-says 6) (λ t. adding-says _ _ (unchanged-says _ _))))
@@ -124,7 +125,7 @@ module _ (b : Book) (e : Event) (good : BookKept b) (whole : WholeBook b) (h : R
       (λ t. split-if Says _ (λ t. on-request _ _ unknown (λ f k q o p a n mine. reject-speaks f o p k q a e h .says))
       (λ t. split-if Says _ (λ t. on-request _ _ still (λ f k q o p a n mine. failed-speaks f o p k q a _ _ (text-noted e h) .says))
       (λ t. split-if Says _ (λ t. on-request _ _ still (λ f k q o p a n mine. unsent-speaks f o p k q a _ n .says))
-      (λ t. split-maybe Says _ (λ z. still) (λ i z. cancel-order-says _ _ (told-at i (found-order b (e .ids .name) i z)))))))))))
+      (λ t. split-maybe Says _ (λ z. still) (λ i z. cancel-order-says _ _ (tellable-at i (found-order b (e .ids .name) i z)))))))))))
 
   step-says : Says (stepOf b e)
   unfolding stepOf
@@ -134,7 +135,17 @@ pub messages-right : MessagesRight
 messages-right b e k whole ok = said (stepOf b e) (step-says b e (book-kept b k) whole (event-right-facts e ok))
 
 pub answer-read : AnswerRead
-answer-read b e buf alarm k whole ok room =
-    let ms : List Message = messagesOf (stepOf b e) in
-    let few : length ms ≤ 2 = messages-few (stepOf b e) in
-    answer-messages buf alarm ms (messages-right b e k whole ok) few (omega (arith, answer-most alarm ms few))
+answer-read b e buf k whole ok room =
+    let c : Change = stepOf b e in
+    let ms : List Message = messagesOf c in
+    let a : ℕ = c .output .alarm in
+    let few : length ms ≤ 2 = messages-few c in
+    let fits : length (answerBytes a ms) ≤ length buf = omega (arith, answer-most a ms few) in
+    let right : areMessages ms ≡ true = messages-right b e k whole ok in
+    let heard : answerAlarm (splice buf 0 (answerBytes a ms)) ≡ a = answer-alarm buf a ms right few fits in
+    record {
+      taken = answer-accepted buf a ms right few fits;
+      messages = answer-messages buf a ms right few fits;
+      alarm = heard;
+      listed = omega (arith, heard, step-says b e (book-kept b k) whole (event-right-facts e ok) .alarm);
+    }

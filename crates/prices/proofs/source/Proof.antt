@@ -16,19 +16,19 @@ tested l = l .less .ensures ∙ ap (ltb 0) (value-of _ _ (l .before .implied .en
 
 returns : tie.Need-returns
 unfolding sourceOf if_then_else_
-returns c = rw (sym (c .before .told .ensures) ∙ c .if1 .taken)
+returns c = rw (sym (c .before .by-last-px .ensures) ∙ c .if1 .taken)
 
 returns-2 : tie.Need-returns-2
 unfolding sourceOf if_then_else_
 returns-2 c =
     let o = c .before .before .before in
-    rw (sym (o .before .told .ensures) ∙ o .if1 .left, sym (tested (c .before)) ∙ c .if2 .taken)
+    rw (sym (o .before .by-last-px .ensures) ∙ o .if1 .left, sym (tested (c .before)) ∙ c .if2 .taken)
 
 returns-3 : tie.Need-returns-3
 unfolding sourceOf if_then_else_
 returns-3 c =
     let o = c .before .before .before in
-    rw (sym (o .before .told .ensures) ∙ o .if1 .left, sym (tested (c .before)) ∙ c .if2 .left)
+    rw (sym (o .before .by-last-px .ensures) ∙ o .if1 .left, sym (tested (c .before)) ∙ c .if2 .left)
 
 pub source-spec : {M : Type 1} → statement M
 source-spec =

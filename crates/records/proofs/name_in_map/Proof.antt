@@ -2,7 +2,7 @@
 use borrow.Author.Needs.{needs}
 use mathlib.Core.Path.{refl, sym, _∙_}
 use Rattle.prelude.specs.Cases.{if_then_else_}
-use Rattle.records.specs.Record.{nameIn}
+use Rattle.format.specs.Refusal.{nameIn}
 use Rattle.records.proofs.name_in_map.Statement.{statement}
 use Rattle.records.proofs.name_in_map.Tie as tie
 

@@ -8,7 +8,7 @@ use lib.ListN.{length, length-set}
 use Rattle.format.specs.Wire.{body}
 use Rattle.records.specs.Fields.{heldBy, held}
 use Rattle.records.specs.Record.{recordBytes}
-use Rattle.records.specs.Writing.{length-record, three}
+use Rattle.records.specs.Laws.Writing.{length-record, three}
 use Rattle.records.proofs.put_record.Statement.{statement}
 use Rattle.records.proofs.put_record.Tie as tie
 

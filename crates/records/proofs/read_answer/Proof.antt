@@ -10,8 +10,8 @@ use native.Mathlib.Omega.{arith}
 use lib.ListN.{length, getD, take, length-take}
 use Rattle.prelude.specs.Span.{span}
 use Rattle.prelude.specs.Number.{word16}
-use Rattle.records.specs.Answer.{headRight}
-use Rattle.records.specs.ReadingAnswer.{answer-no, answer-yes, head-short, head-small, head-cut, head-count, head-good}
+use Rattle.records.specs.Answer.{headSize, headRight}
+use Rattle.records.specs.Laws.ReadingAnswer.{answer-no, answer-yes, head-short, head-small, head-cut, head-count, head-good}
 use Rattle.records.proofs.read_answer.Statement.{statement}
 use Rattle.records.proofs.read_answer.Tie as tie
 
@@ -22,7 +22,7 @@ src s = now (s .args .s)
 said : (c : tie.After-half) → c .half .result ≡ word16 (src (c .before .before .before)) 0
 said c = c .half .ensures .0
 
-some : (c : tie.Else2) → 4 ≤ word16 (src (c .before .before .before .before)) 0
+some : (c : tie.Else2) → headSize ≤ word16 (src (c .before .before .before .before)) 0
 some c = omega (arith, said (c .before))
 
 fits : (c : tie.Else3) → word16 (src (c .before .before .before .before .before)) 0 ≤ length (src (c .before .before .before .before .before))
@@ -40,7 +40,7 @@ returns-2 : tie.Need-returns-2
 returns-2 c =
     let s = c .before .before .before .before .before in
     let k = c .no-answer2 .ensures in
-    let h : word16 (src s) 0 < 4 = omega (arith, said (c .before .before)) in
+    let h : word16 (src s) 0 < headSize = omega (arith, said (c .before .before)) in
     answer-no (src s) (c .no-answer2 .result) (head-small (src s) (c .before .before .before .if1 .left) h) (k .0) (k .1) (k .2)
 
 returns-3 : tie.Need-returns-3

@@ -7,7 +7,7 @@ use mathlib.Core.List.{List}
 use Prim.Native.Nat.{ℕ}
 use native.Mathlib.Omega.{arith}
 use Rattle.format.specs.Places.{shaped}
-use Rattle.records.specs.Reading.{whole-of, read-shape, read-end, read-none, event-shape, event-kind, event-over, event-taken}
+use Rattle.records.specs.Laws.Reading.{whole-of, read-shape, read-end, read-none, event-shape, event-kind, event-over, event-taken}
 use Rattle.records.proofs.read_event.Statement.{statement}
 use Rattle.records.proofs.read_event.Tie as tie
 

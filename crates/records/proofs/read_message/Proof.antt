@@ -7,8 +7,8 @@ use mathlib.Core.List.{List}
 use Prim.Native.Nat.{ℕ}
 use native.Mathlib.Omega.{arith}
 use Rattle.format.specs.Places.{shaped}
-use Rattle.records.specs.Reading.{whole-of, read-shape, read-none}
-use Rattle.records.specs.ReadingAnswer.{message-no, unshaped, no-message, message-yes}
+use Rattle.records.specs.Laws.Reading.{whole-of, read-shape, read-none}
+use Rattle.records.specs.Laws.ReadingAnswer.{message-no, unshaped, no-message, message-yes}
 use Rattle.records.proofs.read_message.Statement.{statement}
 use Rattle.records.proofs.read_message.Tie as tie
 

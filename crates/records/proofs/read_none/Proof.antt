@@ -5,7 +5,7 @@ use denote.Ref.{now}
 use mathlib.Core.Path.{_≡_, refl, sym}
 use mathlib.Core.Bool.{true, false}
 use Rattle.records.specs.Answer.{shapedFrom, rangedFrom, messagesFrom}
-use Rattle.records.specs.ReadingAnswer.{from-3, from-0}
+use Rattle.records.specs.Laws.ReadingAnswer.{from-3, from-0}
 use Rattle.records.proofs.read_none.Statement.{statement}
 use Rattle.records.proofs.read_none.Tie as tie
 

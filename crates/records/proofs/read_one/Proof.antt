@@ -8,22 +8,22 @@ use mathlib.Core.List.{List}
 use Prim.Native.Nat.{ℕ}
 use lib.ListN.{length}
 use Rattle.format.specs.Places.{endOf}
-use Rattle.records.specs.Record.{messageShaped, ranged}
-use Rattle.records.specs.Answer.{shapedFrom, rangedFrom, messagesFrom}
-use Rattle.records.specs.ReadingAnswer.{said-3, said-shape, said-end, said-4, said-range, said-record, from-3, from-4, from-0}
+use Rattle.format.specs.Refusal.{messageShaped, ranged}
+use Rattle.records.specs.Answer.{headSize, shapedFrom, rangedFrom, messagesFrom}
+use Rattle.records.specs.Laws.ReadingAnswer.{said-3, said-shape, said-end, said-4, said-range, said-record, from-3, from-4, from-0}
 use Rattle.records.proofs.read_one.Statement.{statement}
 use Rattle.records.proofs.read_one.Tie as tie
 
 abbrev src : tie.Start → List ℕ
 src s = now (s .args .s)
 
-shape : (c : tie.Else1) → messageShaped (src (c .before .before .before .before)) 4 ≡ true
-shape c = let g = c .before .before .read-message in said-shape (src (c .before .before .before .before)) 4 (g .result) (g .ensures) (c .if1 .left)
+shape : (c : tie.Else1) → messageShaped (src (c .before .before .before .before)) headSize ≡ true
+shape c = let g = c .before .before .read-message in said-shape (src (c .before .before .before .before)) headSize (g .result) (g .ensures) (c .if1 .left)
 
-ends : (c : tie.Else1) → c .before .before .read-message .result .end ≡ endOf (src (c .before .before .before .before)) 4
-ends c = let g = c .before .before .read-message in said-end (src (c .before .before .before .before)) 4 (g .result) (g .ensures) (shape c)
+ends : (c : tie.Else1) → c .before .before .read-message .result .end ≡ endOf (src (c .before .before .before .before)) headSize
+ends c = let g = c .before .before .read-message in said-end (src (c .before .before .before .before)) headSize (g .result) (g .ensures) (shape c)
 
-all : (c : tie.Else2) → shapedFrom (src (c .before .before .before .before .before .before)) 4 1 ≡ true
+all : (c : tie.Else2) → shapedFrom (src (c .before .before .before .before .before .before)) headSize 1 ≡ true
 unfolding shapedFrom
 all c = let l = c .before .before in rw (shape l) (eq-eqb _ _ (sym (ends l) ∙ c .if2 .left))
 
@@ -33,7 +33,7 @@ returns c =
     let s = c .before .before .before .before .before in
     let g = c .before .before .before .read-message in
     let k = c .no-answer .ensures in
-    from-3 (src s) 1 (s .args .alarm) (c .no-answer .result) (rw (said-3 (src s) 4 (g .result) (g .ensures) (c .before .if1 .taken)) refl) (k .0) (k .1) (k .2)
+    from-3 (src s) 1 (s .args .alarm) (c .no-answer .result) (rw (said-3 (src s) headSize (g .result) (g .ensures) (c .before .if1 .taken)) refl) (k .0) (k .1) (k .2)
 
 returns-2 : tie.Need-returns-2
 unfolding shapedFrom
@@ -51,7 +51,7 @@ returns-3 c =
     let s = l .before .before .before .before in
     let g = l .before .before .read-message in
     let k = c .no-answer3 .ensures in
-    from-4 (src s) 1 (s .args .alarm) (c .no-answer3 .result) (all m) (rw (said-4 (src s) 4 (g .result) (g .ensures) (shape l) (c .before .if3 .taken)) refl) (k .0) (k .1) (k .2)
+    from-4 (src s) 1 (s .args .alarm) (c .no-answer3 .result) (all m) (rw (said-4 (src s) headSize (g .result) (g .ensures) (shape l) (c .before .if3 .taken)) refl) (k .0) (k .1) (k .2)
 
 returns-4 : tie.Need-returns-4
 unfolding rangedFrom messagesFrom
@@ -60,9 +60,9 @@ returns-4 c =
     let l = m .before .before in
     let s = l .before .before .before .before in
     let g = l .before .before .read-message in
-    let q : ranged (src s) 4 ≡ true = said-range (src s) 4 (g .result) (g .ensures) (shape l) (c .before .before .if3 .left) in
+    let q : ranged (src s) headSize ≡ true = said-range (src s) headSize (g .result) (g .ensures) (shape l) (c .before .before .if3 .left) in
     from-0 (src s) 1 (s .args .alarm) _ (all m) (rw q refl) refl refl
-    (record { count = refl; first = said-record (src s) 4 (g .result) (g .ensures) (shape l) q; second = c .no-record .ensures })
+    (record { count = refl; first = said-record (src s) headSize (g .result) (g .ensures) (shape l) q; second = c .no-record .ensures })
 
 pub read-one-spec : {M : Type 1} → statement M
 read-one-spec =

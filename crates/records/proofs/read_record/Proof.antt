@@ -13,10 +13,11 @@ use Rattle.prelude.specs.Cases.{both-false}
 use Rattle.prelude.specs.Below.{allBelow}
 use Rattle.prelude.specs.Texts.{textOf}
 use Rattle.format.specs.Places.{start, content, value, kindAt, mapAt, endOf, shaped, rightAt}
-use Rattle.format.specs.Laws.{rising}
-use Rattle.records.specs.Scan.{Scanned}
-use Rattle.records.specs.Record.{nameIn, ranged, recordAt}
-use Rattle.records.specs.Reading.{Whole, whole-of, short-of, narrow-of, built-record, scan-right, scan-numbers, reads-3, reads-4, reads-0}
+use Rattle.format.specs.Laws.Seen.{rising}
+use Rattle.records.specs.Laws.Seen.{Scanned}
+use Rattle.format.specs.Refusal.{nameIn, ranged}
+use Rattle.records.specs.Record.{recordAt}
+use Rattle.records.specs.Laws.Reading.{Whole, whole-of, short-of, narrow-of, built-record, scan-right, scan-numbers, reads-3, reads-4, reads-0}
 use Rattle.records.proofs.read_record.Statement.{statement}
 use Rattle.records.proofs.read_record.Tie as tie
 

@@ -10,9 +10,11 @@ use native.Mathlib.Omega.{arith}
 use lib.ListN.{length}
 use Rattle.prelude.specs.Cases.{both-false}
 use Rattle.format.specs.Places.{endOf}
-use Rattle.records.specs.Record.{messageShaped, ranged, recordAt}
-use Rattle.records.specs.Answer.{shapedFrom, rangedFrom, messagesFrom, ReadsMessage}
-use Rattle.records.specs.ReadingAnswer.{said-3, said-shape, said-end, said-4, said-range, said-record, message-inside, from-3, from-4, from-0}
+use Rattle.format.specs.Refusal.{messageShaped, ranged}
+use Rattle.records.specs.Record.{recordAt}
+use Rattle.records.specs.Answer.{headSize, shapedFrom, rangedFrom, messagesFrom}
+use Rattle.records.specs.Laws.Seen.{ReadsMessage}
+use Rattle.records.specs.Laws.ReadingAnswer.{said-3, said-shape, said-end, said-4, said-range, said-record, message-inside, from-3, from-4, from-0}
 use Rattle.records.proofs.read_two.Statement.{statement}
 use Rattle.records.proofs.read_two.Tie as tie
 
@@ -20,23 +22,23 @@ abbrev src : tie.Start → List ℕ
 src s = now (s .args .s)
 
 -- the first message
-shape : (c : tie.Else1) → messageShaped (src (c .before .before .before .before)) 4 ≡ true
-shape c = let g = c .before .before .read-message in said-shape (src (c .before .before .before .before)) 4 (g .result) (g .ensures) (c .if1 .left)
+shape : (c : tie.Else1) → messageShaped (src (c .before .before .before .before)) headSize ≡ true
+shape c = let g = c .before .before .read-message in said-shape (src (c .before .before .before .before)) headSize (g .result) (g .ensures) (c .if1 .left)
 
-ends : (c : tie.Else1) → c .before .before .read-message .result .end ≡ endOf (src (c .before .before .before .before)) 4
-ends c = let g = c .before .before .read-message in said-end (src (c .before .before .before .before)) 4 (g .result) (g .ensures) (shape c)
+ends : (c : tie.Else1) → c .before .before .read-message .result .end ≡ endOf (src (c .before .before .before .before)) headSize
+ends c = let g = c .before .before .read-message in said-end (src (c .before .before .before .before)) headSize (g .result) (g .ensures) (shape c)
 
 -- the second
-second : (c : tie.After-read-message2) → let s = c .before .before .before .before .before in ReadsMessage (src s) (endOf (src s) 4) (c .read-message2 .result)
+second : (c : tie.After-read-message2) → let s = c .before .before .before .before .before in ReadsMessage (src s) (endOf (src s) headSize) (c .read-message2 .result)
 second c = rw (ends (c .before)) at (c .read-message2 .ensures)
 
-shape-2 : (c : tie.Else2) → let s = c .before .before .before .before .before .before .before in messageShaped (src s) (endOf (src s) 4) ≡ true
-shape-2 c = let g = c .before .before in said-shape (src (c .before .before .before .before .before .before .before)) (endOf (src (c .before .before .before .before .before .before .before)) 4) (g .read-message2 .result) (second g) (c .if2 .left)
+shape-2 : (c : tie.Else2) → let s = c .before .before .before .before .before .before .before in messageShaped (src s) (endOf (src s) headSize) ≡ true
+shape-2 c = let g = c .before .before in said-shape (src (c .before .before .before .before .before .before .before)) (endOf (src (c .before .before .before .before .before .before .before)) headSize) (g .read-message2 .result) (second g) (c .if2 .left)
 
-ends-2 : (c : tie.Else2) → let s = c .before .before .before .before .before .before .before in c .before .before .read-message2 .result .end ≡ endOf (src s) (endOf (src s) 4)
-ends-2 c = let g = c .before .before in said-end (src (c .before .before .before .before .before .before .before)) (endOf (src (c .before .before .before .before .before .before .before)) 4) (g .read-message2 .result) (second g) (shape-2 c)
+ends-2 : (c : tie.Else2) → let s = c .before .before .before .before .before .before .before in c .before .before .read-message2 .result .end ≡ endOf (src s) (endOf (src s) headSize)
+ends-2 c = let g = c .before .before in said-end (src (c .before .before .before .before .before .before .before)) (endOf (src (c .before .before .before .before .before .before .before)) headSize) (g .read-message2 .result) (second g) (shape-2 c)
 
-all : (c : tie.Else3) → shapedFrom (src (c .before .before .before .before .before .before .before .before .before)) 4 2 ≡ true
+all : (c : tie.Else3) → shapedFrom (src (c .before .before .before .before .before .before .before .before .before)) headSize 2 ≡ true
 unfolding shapedFrom
 all c = let l = c .before .before in rw (shape (l .before .before .before), shape-2 l) (eq-eqb _ _ (sym (ends-2 l) ∙ c .if3 .left))
 
@@ -46,12 +48,12 @@ returns c =
     let s = c .before .before .before .before .before in
     let g = c .before .before .before .read-message in
     let k = c .no-answer .ensures in
-    from-3 (src s) 2 (s .args .alarm) (c .no-answer .result) (rw (said-3 (src s) 4 (g .result) (g .ensures) (c .before .if1 .taken)) refl) (k .0) (k .1) (k .2)
+    from-3 (src s) 2 (s .args .alarm) (c .no-answer .result) (rw (said-3 (src s) headSize (g .result) (g .ensures) (c .before .if1 .taken)) refl) (k .0) (k .1) (k .2)
 
 read-message-requires-2 : tie.Need-read-message-requires-2
 read-message-requires-2 c κs =
     let s = c .before .before .before .before in
-    omega (arith, ends c, message-inside (src s) 4 (c .before .before .read-message .result) (shape c))
+    omega (arith, ends c, message-inside (src s) headSize (c .before .before .read-message .result) (shape c))
 
 returns-2 : tie.Need-returns-2
 unfolding shapedFrom
@@ -60,7 +62,7 @@ returns-2 c =
     let s = g .before .before .before .before .before in
     let k = c .no-answer2 .ensures in
     from-3 (src s) 2 (s .args .alarm) (c .no-answer2 .result)
-    (rw (shape (g .before), said-3 (src s) (endOf (src s) 4) (g .read-message2 .result) (second g) (c .before .if2 .taken)) refl) (k .0) (k .1) (k .2)
+    (rw (shape (g .before), said-3 (src s) (endOf (src s) headSize) (g .read-message2 .result) (second g) (c .before .if2 .taken)) refl) (k .0) (k .1) (k .2)
 
 returns-3 : tie.Need-returns-3
 unfolding shapedFrom
@@ -71,11 +73,11 @@ returns-3 c =
     from-3 (src s) 2 (s .args .alarm) (c .no-answer3 .result) (rw (shape (l .before .before .before), shape-2 l) (ne-eqb _ _ (λ e. c .before .if3 .taken (ends-2 l ∙ e)))) (k .0) (k .1) (k .2)
 
 -- the first's range
-range : (c : tie.Else4) → ranged (src (c .before .before .before .before .before .before .before .before .before .before .before)) 4 ≡ true
+range : (c : tie.Else4) → ranged (src (c .before .before .before .before .before .before .before .before .before .before .before)) headSize ≡ true
 range c =
     let l = c .before .before .before .before .before .before .before in
     let g = l .before .before .read-message in
-    said-range (src (l .before .before .before .before)) 4 (g .result) (g .ensures) (shape l) (c .if4 .left)
+    said-range (src (l .before .before .before .before)) headSize (g .result) (g .ensures) (shape l) (c .if4 .left)
 
 returns-4 : tie.Need-returns-4
 unfolding rangedFrom
@@ -85,7 +87,7 @@ returns-4 c =
     let s = l .before .before .before .before in
     let g = l .before .before .read-message in
     let k = c .no-answer4 .ensures in
-    from-4 (src s) 2 (s .args .alarm) (c .no-answer4 .result) (all m) (rw (said-4 (src s) 4 (g .result) (g .ensures) (shape l) (c .before .if4 .taken)) refl) (k .0) (k .1) (k .2)
+    from-4 (src s) 2 (s .args .alarm) (c .no-answer4 .result) (all m) (rw (said-4 (src s) headSize (g .result) (g .ensures) (shape l) (c .before .if4 .taken)) refl) (k .0) (k .1) (k .2)
 
 returns-5 : tie.Need-returns-5
 unfolding rangedFrom
@@ -97,7 +99,7 @@ returns-5 c =
     let s = l .before .before .before .before .before .before .before in
     let k = c .no-answer5 .ensures in
     from-4 (src s) 2 (s .args .alarm) (c .no-answer5 .result) (all m)
-    (rw (range n, said-4 (src s) (endOf (src s) 4) (g .read-message2 .result) (second g) (shape-2 l) (c .before .if5 .taken)) refl) (k .0) (k .1) (k .2)
+    (rw (range n, said-4 (src s) (endOf (src s) headSize) (g .read-message2 .result) (second g) (shape-2 l) (c .before .if5 .taken)) refl) (k .0) (k .1) (k .2)
 
 returns-6 : tie.Need-returns-6
 unfolding rangedFrom messagesFrom
@@ -108,12 +110,12 @@ returns-6 c =
     let g = l .before .before in
     let s = l .before .before .before .before .before .before .before in
     let f = l .before .before .before in
-    let e = endOf (src s) 4 in
+    let e = endOf (src s) headSize in
     let q : ranged (src s) e ≡ true = said-range (src s) e (g .read-message2 .result) (second g) (shape-2 l) (c .before .before .if5 .left) in
     from-0 (src s) 2 (s .args .alarm) _ (all m) (rw (range n, q) refl) refl refl
     (record {
       count = refl;
-      first = said-record (src s) 4 (f .before .before .read-message .result) (f .before .before .read-message .ensures) (shape f) (range n);
+      first = said-record (src s) headSize (f .before .before .read-message .result) (f .before .before .read-message .ensures) (shape f) (range n);
       second = said-record (src s) e (g .read-message2 .result) (second g) (shape-2 l) q;
     })
 

@@ -1,15 +1,16 @@
 -- `records::shape_at` tests in the definition's order. Assumes nothing.
 use borrow.Author.Needs.{needs}
-use borrow.Author.Tests.{not-true, not-false, le-leb, lt-leb}
+use borrow.Author.Tests.{not-true, not-false, le-leb, lt-leb, lt-ltb}
 use denote.Ref.{now}
 use mathlib.Core.Path.{_≡_, refl, sym, ap, _∙_}
 use mathlib.Core.Bool.{true, false}
 use mathlib.Core.List.{List}
 use Prim.Native.Nat.{ℕ, _+_, _≤_}
 use native.Mathlib.Omega.{arith}
-use lib.Dec.{leb, lit≤}
+use lib.Dec.{leb, ltb, lit≤}
 use lib.ListN.{length, getD}
-use Rattle.prelude.specs.Cases.{clash}
+use Rattle.prelude.specs.Cases.{clash, if-true}
+use Rattle.places.specs.Starts.{startFrom}
 use Rattle.format.specs.Format.{bitsRight}
 use Rattle.format.specs.Places.{kindAt, mapAt, endOf, shaped, start}
 use Rattle.records.proofs.shape_at.Statement.{statement}
@@ -35,7 +36,10 @@ right c = rw (← c .before .before .word .ensures) (c .bits-right .ensures)
 
 ends : (c : tie.After-starts) → let s = c .before .before .before .before .before .before .before .before in
     (k : ℕ) → k ≤ 32 → getD (c .starts .result) k 0 ≡ start (src s) (s .args .o) (mapAt (src s) (s .args .o)) k
-ends c = rw (← c .before .before .before .before .word .ensures) (c .starts .ensures)
+unfolding startFrom
+ends c =
+    let s = c .before .before .before .before .before .before .before .before in
+    λ k h. rw (← c .before .before .before .before .word .ensures) (c .starts .ensures k h ∙ if-true (ltb (s .args .o) 65536) _ _ (lt-ltb (s .args .o) 65536 (s .pre)))
 
 returns : tie.Need-returns
 unfolding shaped

@@ -9,7 +9,7 @@ use native.Mathlib.Omega.{arith}
 use lib.ListN.{length}
 use Rattle.prelude.specs.Cases.{if_then_else_}
 use Rattle.records.specs.Record.{recordBytes}
-use Rattle.records.specs.Writing.{record-most, length-answer, none-splice, one-length, one-splice, two-length, two-splice}
+use Rattle.records.specs.Laws.Writing.{record-most, length-answer, none-splice, one-length, one-splice, two-length, two-splice}
 use Rattle.records.proofs.write_answer.Statement.{statement}
 use Rattle.records.proofs.write_answer.Tie as tie
 
@@ -31,8 +31,8 @@ returns-2 c =
 put-record-requires : tie.Need-put-record-requires
 put-record-requires c κs = omega (arith, record-most (c .before .before .before .before .args .first))
 
-cast-result : tie.Need-cast-result
-cast-result c = omega (arith, record-most (c .before .before .before .before .before .before .before .before .before .before .before .before .args .first), c .before .before .before .before .before .before .before .put-record .ensures .0)
+cast-result-2 : tie.Need-cast-result-2
+cast-result-2 c = omega (arith, record-most (c .before .before .before .before .before .before .before .before .before .before .before .before .args .first), c .before .before .before .before .before .before .before .put-record .ensures .0)
 
 returns-3 : tie.Need-returns-3
 unfolding if_then_else_
@@ -51,8 +51,8 @@ put-record-requires-2 c κs =
     let r = c .before .before .before .before .put-record in
     omega (arith, record-most (c .before .before .before .before .before .before .before .before .before .args .first), record-most (c .before .before .before .before .before .before .before .before .before .args .second), r .ensures .0, r .kept .0)
 
-cast-result-2 : tie.Need-cast-result-2
-cast-result-2 c =
+cast-result-3 : tie.Need-cast-result-3
+cast-result-3 c =
     omega (
       arith,
       record-most (c .before .before .before .before .before .before .before .before .before .before .before .before .before .before .before .before .args .first),
@@ -84,14 +84,15 @@ write-answer-spec =
     returns
     (λ c κs. search needs)
     (λ c. search needs)
+    (λ c. search needs)
     returns-2
     put-record-requires
     (λ c κs. search needs)
-    cast-result
+    cast-result-2
     (λ c. search needs)
     returns-3
     put-record-requires-2
     (λ c κs. search needs)
-    cast-result-2
+    cast-result-3
     (λ c. search needs)
     returns-4)

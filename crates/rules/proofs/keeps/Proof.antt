@@ -1,7 +1,8 @@
 -- `keeps` meets its contract: the length, the counts, then the rules. Rests on Keeps.
 use mathlib.Core.Path.{sym, _∙_}
 use borrow.Author.Tests.{eq-eqb, ne-eqb, le-leb, lt-leb}
-use Rattle.rules.specs.Keeps.{keepsOf, kept}
+use Rattle.rules.specs.Keeps.{keepsOf}
+use Rattle.rules.specs.Laws.Keeps.{kept}
 use borrow.Author.Needs.{needs}
 use Rattle.rules.proofs.keeps.Statement.{statement}
 use Rattle.rules.proofs.keeps.Tie as tie

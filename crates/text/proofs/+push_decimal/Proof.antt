@@ -7,7 +7,8 @@ use borrow.Fn.Kinds.{In}
 use borrow.Fn.PlainCycle.{Measures, is, falls, and}
 use Rattle.prelude.specs.declared.Text.{Text}
 use Rattle.text.specs.Words.{pushText, pushAll}
-use Rattle.text.specs.Numbered.{decimal, decimal-digit, decimal-more, push-all-more}
+use Rattle.text.specs.Numbered.{decimal}
+use Rattle.text.specs.Laws.Numbered.{decimal-digit, decimal-more, push-all-more}
 use Rattle.text.proofs.push_decimal.Reads as push-decimal
 use Rattle.text.proofs.push_decimal.Kinds as push-decimal-kinds
 use Rattle.text.proofs.+push_decimal.Lts-push_decimal as push-decimal-lts

@@ -1,7 +1,7 @@
 -- `decimal_len` meets its contract: one case of `widthOf` at each return. Rests on Numbered.
 use borrow.Author.Tests.{lt-ltb, le-ltb}
 use Rattle.prelude.specs.Cases.{if_then_else_}
-use Rattle.text.specs.Numbered.{length-decimal}
+use Rattle.text.specs.Laws.Numbered.{length-decimal}
 use borrow.Author.Needs.{needs}
 use Rattle.text.proofs.decimal_len.Statement.{statement}
 use Rattle.text.proofs.decimal_len.Tie as tie

@@ -8,7 +8,7 @@ use lib.ListN.{getD}
 use Rattle.prelude.specs.Below.{allBelow}
 use Rattle.prelude.specs.Span.{get-span}
 use Rattle.prelude.specs.Texts.{textAt, filledAt, isText}
-use Rattle.text.specs.InPlace.{fill-none, fill-more}
+use Rattle.text.specs.Laws.InPlace.{fill-none, fill-more}
 use borrow.Author.Needs.{needs}
 use Rattle.text.proofs.fine_here.Statement.{statement}
 use Rattle.text.proofs.fine_here.Tie as tie

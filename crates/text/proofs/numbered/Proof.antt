@@ -9,7 +9,8 @@ use Rattle.prelude.specs.Cases.{if_then_else_}
 use Rattle.prelude.specs.Texts.{contents}
 use Rattle.prelude.specs.declared.Text.{Text}
 use Rattle.text.specs.Words.{pushText, pushAll}
-use Rattle.text.specs.Numbered.{decimal, numberedBytes, numberedText, length-numbered-bytes, length-contents, push-all-text}
+use Rattle.text.specs.Numbered.{decimal, numberedBytes, numberedText}
+use Rattle.text.specs.Laws.Numbered.{length-numbered-bytes, length-contents, push-all-text}
 use borrow.Author.Needs.{needs}
 use Rattle.text.proofs.numbered.Statement.{statement}
 use Rattle.text.proofs.numbered.Tie as tie

@@ -6,7 +6,7 @@ use borrow.Author.Tests.{eq-eqb, ne-eqb}
 use Rattle.prelude.specs.Below.{allBelow, all-none, all-more, all-done}
 use Rattle.prelude.specs.Span.{span, get-span}
 use Rattle.prelude.specs.Texts.{agreeAt, sameText}
-use Rattle.text.specs.InPlace.{text-differs, text-agrees}
+use Rattle.text.specs.Laws.InPlace.{text-differs, text-agrees}
 use borrow.Author.Needs.{needs}
 use Rattle.text.proofs.same_here.Statement.{statement}
 use Rattle.text.proofs.same_here.Tie as tie

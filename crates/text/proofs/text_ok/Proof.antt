@@ -6,7 +6,7 @@ use borrow.Author.Tests.{le-leb, lt-leb}
 use lib.Dec.{eqb}
 use Rattle.prelude.specs.Below.{allBelow}
 use Rattle.prelude.specs.Texts.{filledAt, isText}
-use Rattle.text.specs.InPlace.{fill-none, fill-more}
+use Rattle.text.specs.Laws.InPlace.{fill-none, fill-more}
 use borrow.Author.Needs.{needs}
 use Rattle.text.proofs.text_ok.Statement.{statement}
 use Rattle.text.proofs.text_ok.Tie as tie

@@ -8,7 +8,7 @@ use lib.Seq.{take-suc, length-take-le}
 use Rattle.prelude.specs.declared.Text.{Text}
 use Rattle.prelude.specs.Texts.{contents, textOf}
 use Rattle.text.specs.Words.{pushText}
-use Rattle.text.specs.Numbered.{push-text}
+use Rattle.text.specs.Laws.Numbered.{push-text}
 use borrow.Author.Needs.{needs}
 use Rattle.text.proofs.trimmed.Statement.{statement}
 use Rattle.text.proofs.trimmed.Tie as tie

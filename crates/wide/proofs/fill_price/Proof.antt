@@ -17,20 +17,20 @@ returns : tie.Need-returns
 unfolding fillPrice if_then_else_
 returns c =
     let s = c .before .before in
-    rw (sym (c .before .told .ensures) ∙ c .if1 .taken) (one-word (s .args .lastpx) (s .fits .lastpx .fits))
+    rw (sym (c .before .by-last-px .ensures) ∙ c .if1 .taken) (one-word (s .args .lastpx) (s .fits .lastpx .fits))
 
 returns-2 : tie.Need-returns-2
 unfolding fillPrice if_then_else_
 returns-2 c =
     let o = c .before .before .before in
-    rw (sym (o .before .told .ensures) ∙ o .if1 .left, sym (tested (c .before)) ∙ c .if2 .taken) (c .before .before .implied .ensures)
+    rw (sym (o .before .by-last-px .ensures) ∙ o .if1 .left, sym (tested (c .before)) ∙ c .if2 .taken) (c .before .before .implied .ensures)
 
 returns-3 : tie.Need-returns-3
 unfolding fillPrice if_then_else_
 returns-3 c =
     let o = c .before .before .before in
     let s = o .before .before in
-    rw (sym (o .before .told .ensures) ∙ o .if1 .left, sym (tested (c .before)) ∙ c .if2 .left) (one-word (s .args .avgpx) (s .fits .avgpx .fits))
+    rw (sym (o .before .by-last-px .ensures) ∙ o .if1 .left, sym (tested (c .before)) ∙ c .if2 .left) (one-word (s .args .avgpx) (s .fits .avgpx .fits))
 
 pub fill-price-spec : {M : Type 1} → statement M
 fill-price-spec =

@@ -130,7 +130,7 @@ impl Built {
 }
 
 /// Runs the events on a built book through both. Demand 3 is counted from a start, and the Rust's
-/// own `check()` asks more than document 01's rules: here the second decision of these stands alone.
+/// own `check()` asks more than docs/SCOPE.md, Rules: here the second decision of these stands alone.
 pub fn compare_built(
     entries: &Entries,
     built: &Built,

@@ -321,7 +321,7 @@ fn places(fields: &'static [Field], start: usize) -> impl Iterator<Item = usize>
 const NAMES: [&[u8]; 7] =
     [b"NONE", b"NONEx", b"a-1", b"a b", b"\xc4", b"aaaaaaaaaaaaaaaaaaaa", b"aaaaaaaaaaaaaaaaaaaaa"];
 
-/// Texts at and past the limits that document 01 names for any text.
+/// Texts at and past the limits that docs/SCOPE.md, Records, names for any text.
 fn texts() -> Vec<Vec<u8>> {
     let mut texts: Vec<Vec<u8>> =
         [0, 1, 15, 16, 17, 19, 20, 21, 31, 32].map(|length| text(&vec![b'q'; length])).into();

@@ -1,5 +1,5 @@
-//! Faults that can be planted in the stand-in, each of which the comparison must find: document
-//! 01's "Ways to be half right" and some of their kin.
+//! Faults that can be planted in the stand-in, each of which the comparison must find:
+//! docs/SCOPE.md, Wrong answers, and some of their kin.
 
 use gateway::book::Order;
 use model::Machine;

@@ -1,5 +1,7 @@
-//! The rules of the book decided a second time, on its bytes: document 01's paragraph "A book keeps
-//! its rules when .." over docs/LAYOUT.md, by plain loops. It shares nothing with the port.
+//! The rules of the book decided a second time, on its bytes: docs/SCOPE.md, Rules, over
+//! docs/LAYOUT.md, by plain loops. It shares no code with the port. Three parts of its ranges it took
+//! from the port's definitions (machine's Rules.antt): that a market order has no price, and that
+//! absent pending terms and an absent gateway cancel are all zero.
 
 use model::codes::{ORD_TYPES, SIDES, STATUSES, TIMES_IN_FORCE, is_done};
 use model::machine::{BOOK_BYTES, MOST_ORDERS, MOST_REQUESTS};
@@ -15,7 +17,7 @@ const MARKET: u64 = b'1' as u64;
 
 type Rule = (&'static str, fn(&Book) -> bool);
 
-/// The rules in the order in which document 01 names them; each holds up by itself on any book.
+/// The rules in the order in which docs/SCOPE.md, Rules, names them; each holds up by itself on any book.
 pub const RULES: [Rule; 19] = [
     ("counts are within their tables", counts_fit),
     ("every field of an order is in its range", orders_in_range),

@@ -38,15 +38,15 @@ impl Tally {
     }
 }
 
-/// Functions with log sites that no event of document 01 reaches, how many, and why.
+/// Functions with log sites that no event of docs/SCOPE.md reaches, how many, and why.
 const UNREACHABLE: [(&str, usize, &str); 8] = [
     ("set_unavailable", 2, "admission is left out"),
-    ("venue_status_request", 3, "not an event of document 01"),
+    ("venue_status_request", 3, "not an event of docs/SCOPE.md"),
     ("roll", 1, "days are left out"),
     ("adopt_orphaned_replace", 2, "orphans are left out"),
     ("orphan", 8, "orphans are left out"),
     ("make_orphan_pending", 1, "orphans are left out"),
-    ("resolve", 2, "not an event of document 01"),
+    ("resolve", 2, "not an event of docs/SCOPE.md"),
     ("refuse_request", 2, "a gateway replace does not exist; an open gateway cancel is the latest cancel"),
 ];
 

@@ -1,9 +1,9 @@
-//! Child module of the gateway's book: what document 01's harness needs of its private parts.
-//! Booking stands here since document 01 adds it; all else is the book's own.
+//! Child module of the gateway's book: what the harness of docs/SCOPE.md, Comparison, needs of its private parts.
+//! Booking stands here since docs/SCOPE.md adds it; all else is the book's own.
 
 use super::*;
 
-/// The book's tables, copied whole: all that an event of document 01 can change.
+/// The book's tables, copied whole: all that an event of docs/SCOPE.md can change.
 #[derive(Debug, Clone)]
 pub struct Tables {
     orders: HashMap<OrderId, Order>,

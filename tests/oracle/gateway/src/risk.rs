@@ -1,4 +1,4 @@
-//! Stand-in for the gateway's `risk` module, which document 01 leaves out. A replace event brings
+//! Stand-in for the gateway's `risk` module, which docs/SCOPE.md leaves out. A replace event brings
 //! its verdict; the book finds it here where it would have asked.
 
 use std::collections::{BTreeMap, HashMap};

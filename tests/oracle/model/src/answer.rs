@@ -18,7 +18,7 @@ pub fn alarm_code(kind: AlarmKind) -> u8 {
         AlarmKind::UnknownOrder => 3,
         AlarmKind::UnknownAtVenue => 4,
         AlarmKind::FillOnDoneOrder => 5,
-        kind => panic!("{kind:?} has no event in document 01"),
+        kind => panic!("{kind:?} has no event in docs/SCOPE.md"),
     }
 }
 
@@ -62,7 +62,7 @@ fn message(output: &Output, told: Option<&[u8]>) -> Draft {
                 .text(ORIG_DOWNSTREAM, bytes(orig_downstream))
                 .maybe(venue_order_id.as_ref(), |draft, id| draft.text(VENUE_ORDER_ID, bytes(id)))
         }
-        Output::StatusRequest { .. } => panic!("document 01 has no such message"),
+        Output::StatusRequest { .. } => panic!("docs/SCOPE.md has no such message"),
     }
 }
 

@@ -1,4 +1,4 @@
-//! Document 01's machine over the gateway's own book: written from document 01 alone, it shares
+//! The machine of docs/SCOPE.md over the gateway's own book: written from the desk's paper alone, it shares
 //! no code with the port.
 
 pub mod answer;

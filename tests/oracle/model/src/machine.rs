@@ -1,5 +1,5 @@
-//! The machine of document 01: questions 2 to 7 in their order, the nine kinds of event, and the
-//! answer. The handling is the gateway's own book's; document 01's rule that the report sequence
+//! The machine of docs/SCOPE.md: questions 2 to 7 in their order, the nine kinds of event, and the
+//! answer. The handling is the gateway's own book's; the rule of docs/SCOPE.md that the report sequence
 //! goes on at 0 stands over it here. The other rules that stand over the Rust are asserted by
 //! `watch`: the Rust keeps them.
 

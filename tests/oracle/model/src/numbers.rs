@@ -1,4 +1,4 @@
-//! Document 01's counts and the book's `Decimal`: a quantity is a count of 1/10,000, a price a
+//! The counts of docs/SCOPE.md, The book, and the book's `Decimal`: a quantity is a count of 1/10,000, a price a
 //! count of 10^-8.
 
 use gateway::Decimal;
@@ -33,7 +33,7 @@ fn count(decimal: Decimal, places: u32) -> u128 {
     count.try_into().unwrap_or_else(|_| panic!("{decimal} is negative"))
 }
 
-/// What document 01 says a fill's price is, by exact integers: the numbers that decide it.
+/// What docs/SCOPE.md, Fill price, says, by exact integers: the numbers that decide it.
 #[derive(Debug, Clone, Copy, PartialEq, Eq)]
 pub struct Fill {
     pub last_qty: u64,
@@ -49,7 +49,7 @@ impl Fill {
         self.cum_qty.saturating_sub(self.old_cum_qty)
     }
 
-    /// The exact fraction of document 01, rounded to eight places, a half to the even one.
+    /// The exact fraction of docs/SCOPE.md, Fill price, rounded to eight places, a half to the even one.
     pub fn price(&self) -> u128 {
         let rise = self.rise();
         if rise == 0 {
@@ -86,7 +86,7 @@ mod tests {
     }
 
     #[test]
-    fn document_01s_prices() {
+    fn the_scopes_prices() {
         let missed = Fill {
             last_qty: 100_000,
             last_px: 1_100_000_000,

@@ -1,4 +1,4 @@
-//! The rules that a book keeps, as document 01 lists them, over the Rust's orders and requests.
+//! The rules that a book keeps, as docs/SCOPE.md, Rules, lists them, over the Rust's orders and requests.
 
 use std::collections::HashSet;
 

@@ -1,5 +1,5 @@
-//! A machine under watch: after every event the Rust's own `check()`, document 01's rules, demand
-//! 3, and the rules of document 01 that stand over the Rust are asserted. The Rust keeps the last
+//! A machine under watch: after every event the Rust's own `check()`, the book's rules, demand
+//! 3, and the rules of docs/SCOPE.md, Over the Rust, are asserted. The Rust keeps the last
 //! by itself in all that is run; a run where it does not ends in an error that names the rule.
 
 use std::panic::{AssertUnwindSafe, catch_unwind};

@@ -1,4 +1,4 @@
-//! Document 01's "Days in small", line by line, and what it states in passing, through the model.
+//! docs/SCOPE.md, Days in small, line by line, and what it states in passing, through the model.
 
 use model::answer::messages;
 use model::day::*;

@@ -1,4 +1,4 @@
-//! How the open places of document 01 are read, each by a short list.
+//! What was decided where the desk's paper was open, as docs/SCOPE.md has it, each by a short list.
 
 use model::answer::messages;
 use model::day::*;

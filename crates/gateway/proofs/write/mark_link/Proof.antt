@@ -1,7 +1,7 @@
 -- `gateway::write::mark_link` is `markLink`. Assumes nothing.
 use borrow.Author.Needs.{needs}
 use borrow.Author.Tests.{eq-eqb, ne-eqb}
-use Rattle.gateway.specs.Entries.{markLink}
+use Rattle.step.specs.Entries.{markLink}
 use Rattle.prelude.specs.Cases.{if_then_else_}
 use Rattle.gateway.proofs.write.mark_link.Statement.{statement}
 use Rattle.gateway.proofs.write.mark_link.Tie as tie

@@ -1,7 +1,7 @@
 -- `gateway::write::place_order` is `placeOrder`. Assumes nothing.
 use borrow.Author.Needs.{needs}
 use borrow.Author.Tests.{eq-eqb, ne-eqb, le-leb, lt-leb}
-use Rattle.gateway.specs.Entries.{placeOrder}
+use Rattle.step.specs.Entries.{placeOrder}
 use Rattle.prelude.specs.Cases.{if_then_else_}
 use Rattle.gateway.proofs.write.place_order.Statement.{statement}
 use Rattle.gateway.proofs.write.place_order.Tie as tie

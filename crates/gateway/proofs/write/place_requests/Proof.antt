@@ -1,7 +1,7 @@
 -- `gateway::write::place_requests` is `placeRequests`. Assumes nothing.
 use borrow.Author.Needs.{needs}
 use borrow.Author.Tests.{eq-eqb, ne-eqb}
-use Rattle.gateway.specs.Entries.{placeRequests}
+use Rattle.step.specs.Entries.{placeRequests}
 use Rattle.prelude.specs.Cases.{if_then_else_}
 use Rattle.gateway.proofs.write.place_requests.Statement.{statement}
 use Rattle.gateway.proofs.write.place_requests.Tie as tie

@@ -1,14 +1,17 @@
 -- `orders::message::cancel_request` is `cancelRequest`. Assumes nothing.
 use borrow.Author.Needs.{needs}
-use Rattle.machine.specs.Messages.{cancelRequest}
+use mathlib.Core.Path.{refl}
+use mathlib.Core.Logic.{inl, inr}
+use Rattle.prelude.specs.Cases.{if_then_else_}
+use Rattle.format.specs.Format.{required, requiredBits}
+use Rattle.machine.specs.Messages.{cancelRequest, bitIf}
+use Rattle.orders.specs.Laws.Maps.{extraBits}
 use Rattle.orders.proofs.message.cancel_request.Statement.{statement}
 use Rattle.orders.proofs.message.cancel_request.Tie as tie
 
 returns : tie.Need-returns
-unfolding cancelRequest
-returns c =
-    let c1 = c .before in
-    rw (← c1 .amend-bits .ensures .same, ← c .to-venue .ensures)
+unfolding cancelRequest extraBits required requiredBits bitIf if_then_else_
+returns c = c .to-venue .ensures
 
 pub cancel-request-spec : {M : Type 1} → statement M
-cancel-request-spec = tie.close (tie.spec (λ c κs. search needs) (λ c κs. search needs) returns)
+cancel-request-spec = tie.close (tie.spec (λ c κs. inr (inl refl)) returns)

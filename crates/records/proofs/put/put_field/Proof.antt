@@ -14,7 +14,7 @@ use Rattle.bits.specs.Map.{bit}
 use Rattle.format.specs.Format.{size, isTextBit}
 use Rattle.format.specs.Wire.{fieldBytes}
 use Rattle.records.specs.Fields.{textBy, shortBytes, longBytes, heldBy}
-use Rattle.records.specs.Writing.{field-off, field-long, field-short, field-number, field-words}
+use Rattle.records.specs.Laws.Writing.{field-off, field-long, field-short, field-number, field-words}
 use Rattle.records.proofs.put.put_field.Statement.{statement}
 use Rattle.records.proofs.put.put_field.Tie as tie
 

@@ -8,7 +8,7 @@ use native.Mathlib.Omega.{arith}
 use lib.ListN.{length, length-append}
 use Rattle.prelude.specs.Span.{splice, splice-nil, splice-append}
 use Rattle.format.specs.Wire.{fieldBytes, body}
-use Rattle.format.specs.Trip.{body-room}
+use Rattle.format.specs.Laws.Trip.{body-room}
 use Rattle.records.specs.Fields.{heldBy}
 use Rattle.records.proofs.put.put_fields.Statement.{statement}
 use Rattle.records.proofs.put.put_fields.Tie as tie

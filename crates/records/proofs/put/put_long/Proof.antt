@@ -6,7 +6,7 @@ use Prim.Native.Nat.{ℕ}
 use native.Mathlib.Omega.{arith}
 use lib.ListN.{length, take}
 use Rattle.records.specs.Fields.{longBytes}
-use Rattle.records.specs.Writing.{Cut, cut-fits, cut-over}
+use Rattle.records.specs.Laws.Writing.{Cut, cut-fits, cut-over}
 use Rattle.records.proofs.put.put_long.Statement.{statement}
 use Rattle.records.proofs.put.put_long.Tie as tie
 

@@ -7,7 +7,7 @@ use native.Mathlib.Omega.{arith}
 use lib.ListN.{length, take}
 use Rattle.prelude.specs.Texts.{contents}
 use Rattle.records.specs.Fields.{shortBytes}
-use Rattle.records.specs.Writing.{Cut, cut-fits, cut-over}
+use Rattle.records.specs.Laws.Writing.{Cut, cut-fits, cut-over}
 use Rattle.records.proofs.put.put_short.Statement.{statement}
 use Rattle.records.proofs.put.put_short.Tie as tie
 

@@ -13,18 +13,8 @@ returns c = rw (sym (c .before .has .ensures) ∙ not-true _ (c .if1 .taken)) (r
 returns-2 : tie.Need-returns-2
 unfolding if_then_else_
 returns-2 c =
-    let v = c .before .before .value-at in
-    rw (sym (c .before .before .before .before .has .ensures) ∙ not-false _ (c .before .before .before .if1 .left), ← v .ensures, ← c .before .range-of .ensures .0)
-    (c .in-range .ensures, refl)
+    let v = c .before .value-at in
+    rw (sym (c .before .before .before .has .ensures) ∙ not-false _ (c .before .before .if1 .left), ← v .ensures) (c .may-hold .ensures, refl)
 
 pub checked-spec : {M : Type 1} → statement M
-checked-spec =
-    tie.close
-    (tie.spec
-    (λ c. search needs)
-    (λ c κs. search needs)
-    returns
-    (λ c κs. search needs)
-    (λ c κs. search needs)
-    (λ c κs. search needs)
-    returns-2)
+checked-spec = tie.close (tie.spec (λ c. search needs) (λ c κs. search needs) returns (λ c κs. search needs) (λ c κs. search needs) returns-2)

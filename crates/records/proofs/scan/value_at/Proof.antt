@@ -12,7 +12,7 @@ use lib.Seq.{take-all, take-take}
 use Rattle.prelude.specs.Span.{span, length-span}
 use Rattle.prelude.specs.Number.{number}
 use Rattle.format.specs.Format.{size, isTextBit}
-use Rattle.records.specs.Scan.{value-text, value-number}
+use Rattle.format.specs.Laws.Places.{value-text, value-number}
 use Rattle.records.proofs.scan.value_at.Statement.{statement}
 use Rattle.records.proofs.scan.value_at.Tie as tie
 

@@ -11,7 +11,7 @@ use lib.ListN.{length, getD, length-set}
 use Rattle.prelude.specs.Cases.{clash}
 use Rattle.prelude.specs.Below.{allBelow, all-none, all-more, all-miss, all-done}
 use Rattle.prelude.specs.Lists.{fill}
-use Rattle.format.specs.Places.{heldAt, rightIn}
+use Rattle.format.specs.Laws.Seen.{heldAt, rightIn}
 use Rattle.records.proofs.scan.values.Statement.{statement}
 use Rattle.records.proofs.scan.values.Tie as tie
 

@@ -1,6 +1,6 @@
 -- `cell_of` meets its contract: the text in place, and the client. Rests on Things.
 use native.Mathlib.Omega.{arith}
-use Rattle.rules.specs.Things.{cellOf, place-fits, text-in}
+use Rattle.rules.specs.Laws.Things.{cellOf, place-fits, text-in}
 use borrow.Author.Needs.{needs}
 use Rattle.rules.proofs.distinct.cell_of.Statement.{statement}
 use Rattle.rules.proofs.distinct.cell_of.Tie as tie

@@ -6,7 +6,7 @@ use Prim.Native.Nat.{_≤_, _<_, _-_}
 use native.Mathlib.Omega.{arith}
 use Rattle.prelude.specs.Below.{allBelow, all-none, all-more, all-miss, all-done}
 use Rattle.prelude.specs.Texts.{textAt}
-use Rattle.rules.specs.Things.{apartAt, clearAt, same-with, placed-at, place-fits, text-in, other-cell}
+use Rattle.rules.specs.Laws.Things.{apartAt, clearAt, same-with, placed-at, place-fits, text-in, other-cell}
 use borrow.Author.Needs.{needs}
 use Rattle.rules.proofs.distinct.clear_in.Statement.{statement}
 use Rattle.rules.proofs.distinct.clear_in.Tie as tie

@@ -2,7 +2,7 @@
 use mathlib.Core.Path.{sym, _∙_}
 use borrow.Author.Tests.{not-true}
 use Rattle.prelude.specs.Cases.{clash}
-use Rattle.rules.specs.Things.{clear-fresh, clear-lone}
+use Rattle.rules.specs.Laws.Things.{clear-fresh, clear-lone}
 use borrow.Author.Needs.{needs}
 use Rattle.rules.proofs.distinct.clear_of.Statement.{statement}
 use Rattle.rules.proofs.distinct.clear_of.Tie as tie

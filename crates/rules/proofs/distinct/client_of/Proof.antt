@@ -6,9 +6,9 @@ use native.Mathlib.Omega.{arith}
 use borrow.Author.Tests.{not-true, not-false}
 use Rattle.prelude.specs.Cases.{if_then_else_, if-true}
 use Rattle.store.specs.Book.{orderAt}
-use Rattle.store.specs.Fields.{order-client, request-order}
-use Rattle.rules.specs.Here.{clientAt}
-use Rattle.rules.specs.Things.{placed, clientIn, placed-key}
+use Rattle.store.specs.Laws.Fields.{order-client, request-order}
+use Rattle.rules.specs.Laws.Here.{clientAt}
+use Rattle.rules.specs.Laws.Things.{placed, clientIn, placed-key}
 use borrow.Author.Needs.{needs}
 use Rattle.rules.proofs.distinct.client_of.Statement.{statement}
 use Rattle.rules.proofs.distinct.client_of.Tie as tie
@@ -41,7 +41,9 @@ client-of-spec =
     returns
     (λ c. search needs)
     (λ c. search needs)
+    (λ c. search needs)
     (λ c κs. search needs)
+    (λ c. search needs)
     (λ c. search needs)
     (λ c. search needs)
     (λ c. search needs)

@@ -7,8 +7,8 @@ use native.Mathlib.Omega.{arith}
 use lib.ListN.{length, getD, length-set}
 use borrow.Author.Tests.{not-true, not-false}
 use Rattle.prelude.specs.Below.{allBelow, all-none, all-more, all-miss, all-done, all-elim, all-intro}
-use Rattle.rules.specs.Spread.{stands, Marks, marks-more, cells-more}
-use Rattle.rules.specs.Things.{placed, cellOf, clearAt}
+use Rattle.rules.specs.Laws.Spread.{stands, Marks, marks-more, cells-more}
+use Rattle.rules.specs.Laws.Things.{placed, cellOf, clearAt}
 use borrow.Author.Needs.{needs}
 use Rattle.rules.proofs.distinct.distinct.Statement.{statement}
 use Rattle.rules.proofs.distinct.distinct.Tie as tie

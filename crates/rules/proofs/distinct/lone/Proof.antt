@@ -1,7 +1,7 @@
 -- `lone` meets its contract: the length in place. Rests on store's Fields.
 use borrow.Author.Tests.{not-true, not-false}
-use Rattle.store.specs.Fields.{request-clordid-len}
-use Rattle.rules.specs.Things.{loneAt}
+use Rattle.store.specs.Laws.Fields.{request-clordid-len}
+use Rattle.rules.specs.Laws.Things.{loneAt}
 use borrow.Author.Needs.{needs}
 use Rattle.rules.proofs.distinct.lone.Statement.{statement}
 use Rattle.rules.proofs.distinct.lone.Tie as tie

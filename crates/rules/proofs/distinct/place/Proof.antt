@@ -1,6 +1,6 @@
 -- `place` meets its contract, by its mark. Assumes nothing.
 use Rattle.prelude.specs.Cases.{if_then_else_}
-use Rattle.rules.specs.Things.{placeOf}
+use Rattle.rules.specs.Laws.Things.{placeOf}
 use borrow.Author.Needs.{needs}
 use Rattle.rules.proofs.distinct.place.Statement.{statement}
 use Rattle.rules.proofs.distinct.place.Tie as tie

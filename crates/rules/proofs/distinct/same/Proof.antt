@@ -6,8 +6,8 @@ use native.Mathlib.Omega.{arith}
 use lib.Dec.{eqb}
 use lib.ListN.{length}
 use borrow.Author.Tests.{not-true, not-false}
-use Rattle.rules.specs.Places.{other-word}
-use Rattle.rules.specs.Things.{clientIn, sameWith, place-fits, text-in}
+use Rattle.rules.specs.Laws.Places.{other-word}
+use Rattle.rules.specs.Laws.Things.{clientIn, sameWith, place-fits, text-in}
 use borrow.Author.Needs.{needs}
 use Rattle.rules.proofs.distinct.same.Statement.{statement}
 use Rattle.rules.proofs.distinct.same.Tie as tie

@@ -4,9 +4,9 @@ use mathlib.Core.Bool.{true}
 use Prim.Native.Nat.{_-_}
 use native.Mathlib.Omega.{arith}
 use borrow.Author.Tests.{eq-eqb, ne-eqb, not-true, not-false}
-use Rattle.store.specs.Fields.{request-kind}
+use Rattle.store.specs.Laws.Fields.{request-kind}
 use Rattle.machine.specs.Changes.{isFirst, isReplace, isCancel}
-use Rattle.rules.specs.Here.{ownAt, linkedAt, optionalAt, own-link}
+use Rattle.rules.specs.Laws.Here.{ownAt, linkedAt, optionalAt, own-link}
 use borrow.Author.Needs.{needs}
 use Rattle.rules.proofs.links.cancel_ok.Statement.{statement}
 use Rattle.rules.proofs.links.cancel_ok.Tie as tie

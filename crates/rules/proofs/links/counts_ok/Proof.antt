@@ -2,10 +2,10 @@
 use mathlib.Core.Bool.{Bool·not-not}
 use lib.Dec.{eqb}
 use Rattle.store.specs.Book.{orderAt}
-use Rattle.store.specs.Fields.{terms-qty, state-status, state-cumqty, links-amendments, pending-request, gateway-unsent, gateway-tries, gateway-origdownstream}
+use Rattle.store.specs.Laws.Fields.{terms-qty, state-status, state-cumqty, links-amendments, pending-request, gateway-unsent, gateway-tries, gateway-origdownstream}
 use Rattle.machine.specs.Orders.{hasPending, hasGateway}
 use Rattle.machine.specs.Rules.{filledRule, doneRule, triesRule}
-use Rattle.rules.specs.Here.{countsAt}
+use Rattle.rules.specs.Laws.Here.{countsAt}
 use borrow.Author.Needs.{needs}
 use Rattle.rules.proofs.links.counts_ok.Statement.{statement}
 use Rattle.rules.proofs.links.counts_ok.Tie as tie

@@ -4,9 +4,9 @@ use mathlib.Core.Bool.{true}
 use Prim.Native.Nat.{_-_}
 use native.Mathlib.Omega.{arith}
 use borrow.Author.Tests.{not-true, not-false}
-use Rattle.store.specs.Fields.{names-downstream, request-kind, request-downstream}
+use Rattle.store.specs.Laws.Fields.{names-downstream, request-kind, request-downstream}
 use Rattle.machine.specs.Changes.{isFirst, isReplace, isCancel}
-use Rattle.rules.specs.Here.{ownAt, linkedAt, own-link}
+use Rattle.rules.specs.Laws.Here.{ownAt, linkedAt, own-link}
 use borrow.Author.Needs.{needs}
 use Rattle.rules.proofs.links.current_ok.Statement.{statement}
 use Rattle.rules.proofs.links.current_ok.Tie as tie

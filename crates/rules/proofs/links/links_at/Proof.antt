@@ -1,6 +1,6 @@
 -- `links_at` meets its contract, link by link. Rests on store's Fields.
-use Rattle.store.specs.Fields.{links-current, links-cancel, pending-request}
-use Rattle.rules.specs.Here.{linksAt}
+use Rattle.store.specs.Laws.Fields.{links-current, links-cancel, pending-request}
+use Rattle.rules.specs.Laws.Here.{linksAt}
 use borrow.Author.Needs.{needs}
 use Rattle.rules.proofs.links.links_at.Statement.{statement}
 use Rattle.rules.proofs.links.links_at.Tie as tie

@@ -5,7 +5,8 @@ use Prim.Native.Nat.{_≤_, _<_, _-_}
 use native.Mathlib.Omega.{arith}
 use borrow.Author.Tests.{not-true, not-false}
 use Rattle.prelude.specs.Below.{allBelow, all-none, all-more, all-miss, all-done}
-use Rattle.rules.specs.Here.{linksOf}
+use Rattle.store.specs.Layout.{mostOrders}
+use Rattle.rules.specs.Laws.Here.{linksOf}
 use borrow.Author.Needs.{needs}
 use Rattle.rules.proofs.links.links_ok.Statement.{statement}
 use Rattle.rules.proofs.links.links_ok.Tie as tie
@@ -23,14 +24,14 @@ returns : tie.Need-returns Inv-loop μ-loop
 unfolding linksOf
 returns c = let l = c .before .before .before .before .loop in
     let s = c .before .before .before .before .before .before in
-    let h : l .i < 64 = omega (arith, s .pre) in
+    let h : l .i < mostOrders = omega (arith, s .pre) in
     sym (all-miss _ _ (l .i) (search needs) (rw (← s .pre .3 (l .i) h, ← c .before .links-at .ensures) (not-true _ (c .if1 .taken))))
 
 loop-again : tie.Need-loop-again Inv-loop μ-loop
 unfolding linksOf
 loop-again c = let l = c .before .before .before .before .loop in
     let s = c .before .before .before .before .before .before in
-    let h : l .i < 64 = omega (arith, s .pre) in
+    let h : l .i < mostOrders = omega (arith, s .pre) in
     (search needs, all-more _ _ (l .inv .1) (rw (← s .pre .3 (l .i) h, ← c .before .links-at .ensures) (not-false _ (c .if1 .left))))
 
 returns-2 : tie.Need-returns-2 Inv-loop μ-loop

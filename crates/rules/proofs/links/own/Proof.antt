@@ -2,8 +2,8 @@
 use Prim.Native.Nat.{_-_, _<_, _≤_}
 use native.Mathlib.Omega.{arith}
 use borrow.Author.Tests.{lt-ltb, le-ltb, le-leb, lt-leb}
-use Rattle.store.specs.Fields.{request-order}
-use Rattle.rules.specs.Here.{ownAt}
+use Rattle.store.specs.Laws.Fields.{request-order}
+use Rattle.rules.specs.Laws.Here.{ownAt}
 use borrow.Author.Needs.{needs}
 use Rattle.rules.proofs.links.own.Statement.{statement}
 use Rattle.rules.proofs.links.own.Tie as tie
@@ -37,6 +37,7 @@ own-spec =
     (tie.spec
     returns
     returns-2
+    (λ c. search needs)
     (λ c. search needs)
     (λ c. search needs)
     (λ c. search needs)

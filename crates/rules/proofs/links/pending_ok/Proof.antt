@@ -6,9 +6,9 @@ use native.Mathlib.Omega.{arith}
 use lib.Dec.{eqb}
 use borrow.Author.Tests.{eq-eqb, ne-eqb, not-true, not-false}
 use Rattle.store.specs.Book.{requestAt}
-use Rattle.store.specs.Fields.{request-kind, request-answered}
+use Rattle.store.specs.Laws.Fields.{request-kind, request-answered}
 use Rattle.machine.specs.Changes.{isReplace, isAnswered}
-use Rattle.rules.specs.Here.{ownAt, linkedAt, optionalAt, own-link}
+use Rattle.rules.specs.Laws.Here.{ownAt, linkedAt, optionalAt, own-link}
 use borrow.Author.Needs.{needs}
 use Rattle.rules.proofs.links.pending_ok.Statement.{statement}
 use Rattle.rules.proofs.links.pending_ok.Tie as tie

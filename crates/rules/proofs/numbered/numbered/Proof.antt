@@ -3,7 +3,7 @@ use mathlib.Core.Path.{refl, sym}
 use Prim.Native.Nat.{_+_}
 use native.Mathlib.Omega.{arith}
 use Rattle.prelude.specs.Texts.{textAt}
-use Rattle.rules.specs.Suffix.{name-short, numbered-other, numbered-here}
+use Rattle.rules.specs.Laws.Suffix.{name-short, numbered-other, numbered-here}
 use borrow.Author.Needs.{needs}
 use Rattle.rules.proofs.numbered.numbered.Statement.{statement}
 use Rattle.rules.proofs.numbered.numbered.Tie as tie

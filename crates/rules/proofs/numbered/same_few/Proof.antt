@@ -4,7 +4,7 @@ use mathlib.Core.Bool.{true}
 use Prim.Native.Nat.{_≤_, _-_}
 use borrow.Author.Tests.{eq-eqb, ne-eqb}
 use Rattle.prelude.specs.Below.{allBelow, all-none, all-more, all-miss, all-done}
-use Rattle.rules.specs.Suffix.{alikeAt}
+use Rattle.rules.specs.Laws.Suffix.{alikeAt}
 use borrow.Author.Needs.{needs}
 use Rattle.rules.proofs.numbered.same_few.Statement.{statement}
 use Rattle.rules.proofs.numbered.same_few.Tie as tie

@@ -1,5 +1,5 @@
 -- `same_start` meets its contract: a few bytes one by one, more by three words. Rests on Suffix.
-use Rattle.rules.specs.Suffix.{start-words}
+use Rattle.rules.specs.Laws.Suffix.{start-words}
 use borrow.Author.Needs.{needs}
 use Rattle.rules.proofs.numbered.same_start.Statement.{statement}
 use Rattle.rules.proofs.numbered.same_start.Tie as tie

@@ -1,5 +1,5 @@
 -- `suffix_of` meets its contract, by the number's digits. Rests on Suffix.
-use Rattle.rules.specs.Suffix.{suffix-1, suffix-2, suffix-3}
+use Rattle.rules.specs.Laws.Suffix.{suffix-1, suffix-2, suffix-3}
 use borrow.Author.Needs.{needs}
 use Rattle.rules.proofs.numbered.suffix_of.Statement.{statement}
 use Rattle.rules.proofs.numbered.suffix_of.Tie as tie

@@ -1,5 +1,5 @@
 -- `fields_ok` meets its contract: each field in place. Rests on store's Fields.
-use Rattle.store.specs.Fields.{request-kind, request-answered, request-clordid, request-origclordid}
+use Rattle.store.specs.Laws.Fields.{request-kind, request-answered, request-clordid, request-origclordid}
 use Rattle.machine.specs.Changes.{isFirst, isGateway}
 use Rattle.machine.specs.Rules.{requestRange}
 use borrow.Author.Needs.{needs}

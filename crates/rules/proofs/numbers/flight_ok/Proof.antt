@@ -1,9 +1,9 @@
 -- `flight_ok` meets its contract: what is no gateway cancel, or answered, passes. Rests on store's Fields.
 use borrow.Author.Tests.{eq-eqb, ne-eqb}
-use Rattle.store.specs.Fields.{request-kind, request-answered}
+use Rattle.store.specs.Laws.Fields.{request-kind, request-answered}
 use Rattle.machine.specs.Changes.{isGateway, isAnswered}
 use Rattle.machine.specs.Rules.{inFlightRule}
-use Rattle.rules.specs.Here.{sentRule}
+use Rattle.rules.specs.Laws.Here.{sentRule}
 use borrow.Author.Needs.{needs}
 use Rattle.rules.proofs.numbers.flight_ok.Statement.{statement}
 use Rattle.rules.proofs.numbers.flight_ok.Tie as tie

@@ -2,7 +2,7 @@
 use native.Mathlib.Omega.{arith}
 use borrow.Author.Tests.{eq-eqb, ne-eqb}
 use Rattle.prelude.specs.Cases.{if_then_else_}
-use Rattle.store.specs.Fields.{names-name, request-downstream}
+use Rattle.store.specs.Laws.Fields.{names-name, request-downstream}
 use Rattle.machine.specs.Rules.{nameNumber}
 use borrow.Author.Needs.{needs}
 use Rattle.rules.proofs.numbers.named.Statement.{statement}

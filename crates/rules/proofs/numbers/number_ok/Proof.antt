@@ -1,7 +1,7 @@
 -- `number_ok` meets its contract, by the request's kind. Rests on store's Fields.
 use borrow.Author.Tests.{eq-eqb, ne-eqb}
 use Rattle.prelude.specs.Cases.{if_then_else_}
-use Rattle.store.specs.Fields.{request-kind}
+use Rattle.store.specs.Laws.Fields.{request-kind}
 use Rattle.machine.specs.Changes.{isFirst}
 use Rattle.machine.specs.Rules.{numberRule}
 use borrow.Author.Needs.{needs}

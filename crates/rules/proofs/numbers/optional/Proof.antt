@@ -1,6 +1,6 @@
 -- `optional` meets its contract: the length, and the zeros after it. Rests on Here.
 use Rattle.prelude.specs.Texts.{textAt}
-use Rattle.rules.specs.Here.{optional-text}
+use Rattle.rules.specs.Laws.Here.{optional-text}
 use borrow.Author.Needs.{needs}
 use Rattle.rules.proofs.numbers.optional.Statement.{statement}
 use Rattle.rules.proofs.numbers.optional.Tie as tie

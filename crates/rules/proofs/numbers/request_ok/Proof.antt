@@ -1,5 +1,5 @@
 -- `request_ok` meets its contract, rule by rule. Assumes nothing.
-use Rattle.rules.specs.Here.{requestHere}
+use Rattle.rules.specs.Laws.Here.{requestHere}
 use borrow.Author.Needs.{needs}
 use Rattle.rules.proofs.numbers.request_ok.Statement.{statement}
 use Rattle.rules.proofs.numbers.request_ok.Tie as tie

@@ -9,9 +9,10 @@ use borrow.Author.Tests.{not-true, not-false}
 use Rattle.prelude.specs.Below.{allBelow, countBelow, all-none, all-more, all-miss, all-done, all-elim, count-none, count-le, count-next}
 use Rattle.prelude.specs.Bytes.{get-zeros}
 use Rattle.prelude.specs.Cases.{clash}
+use Rattle.store.specs.Layout.{mostOrders}
 use Rattle.store.specs.Book.{requestAt}
-use Rattle.store.specs.Fields.{request-order}
-use Rattle.rules.specs.Here.{rangeAt, ofOrderAt, requestRuleAt, IsPass, range-name, rule-unbooked, rule-booked}
+use Rattle.store.specs.Laws.Fields.{request-order}
+use Rattle.rules.specs.Laws.Here.{rangeAt, ofOrderAt, requestRuleAt, IsPass, range-name, rule-unbooked, rule-booked}
 use borrow.Author.Needs.{needs}
 use Rattle.rules.proofs.numbers.requests_ok.Statement.{statement}
 use Rattle.rules.proofs.numbers.requests_ok.Tie as tie
@@ -22,7 +23,7 @@ failed b n m j next h e = record { right = sym (all-miss (requestRuleAt b n) m j
 
 abbrev Inv-loop : tie.InvT-loop
 Inv-loop book n m next₀ j₀ next j =
-    (j ≤ m) × (length next ≡ 64) × (allBelow (requestRuleAt book n) j ≡ true) × ((o : ℕ) → o < 64 → getD next o 0 ≡ countBelow (ofOrderAt book o) j)
+    (j ≤ m) × (length next ≡ 64) × (allBelow (requestRuleAt book n) j ≡ true) × ((o : ℕ) → o < mostOrders → getD next o 0 ≡ countBelow (ofOrderAt book o) j)
 
 abbrev μ-loop : tie.MeasureT-loop
 μ-loop book n m next₀ j₀ next j = m - j
@@ -103,6 +104,7 @@ requests-ok-spec =
     Inv-loop
     μ-loop
     loop-holds
+    (λ c. search needs)
     (λ c. search needs)
     (λ c. search needs)
     (λ c κs. search needs)

@@ -1,6 +1,6 @@
 -- `sent_ok` meets its contract: each field in place. Rests on store's Fields.
-use Rattle.store.specs.Fields.{state-status, links-cancel, gateway-tries, gateway-unsent, gateway-stuck}
-use Rattle.rules.specs.Here.{sentRule}
+use Rattle.store.specs.Laws.Fields.{state-status, links-cancel, gateway-tries, gateway-unsent, gateway-stuck}
+use Rattle.rules.specs.Laws.Here.{sentRule}
 use borrow.Author.Needs.{needs}
 use Rattle.rules.proofs.numbers.sent_ok.Statement.{statement}
 use Rattle.rules.proofs.numbers.sent_ok.Tie as tie

@@ -1,5 +1,5 @@
 -- `gateway_ok` meets its contract: each field in place. Rests on store's Fields.
-use Rattle.store.specs.Fields.{gateway-unsent, gateway-stuck, gateway-tries, gateway-origdownstream, gateway-refusedsends}
+use Rattle.store.specs.Laws.Fields.{gateway-unsent, gateway-stuck, gateway-tries, gateway-origdownstream, gateway-refusedsends}
 use Rattle.machine.specs.Rules.{gatewayRange}
 use borrow.Author.Needs.{needs}
 use Rattle.rules.proofs.ranges.gateway_ok.Statement.{statement}

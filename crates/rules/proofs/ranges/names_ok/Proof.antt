@@ -1,5 +1,5 @@
 -- `names_ok` meets its contract: each text in place. Rests on store's Fields.
-use Rattle.store.specs.Fields.{names-name, names-clordid, names-downstream, names-symbol, names-venueorderid}
+use Rattle.store.specs.Laws.Fields.{names-name, names-clordid, names-downstream, names-symbol, names-venueorderid}
 use Rattle.machine.specs.Ranges.{nameRange}
 use Rattle.machine.specs.Rules.{namesRange}
 use borrow.Author.Needs.{needs}

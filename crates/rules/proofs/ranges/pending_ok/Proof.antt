@@ -2,11 +2,11 @@
 use mathlib.Core.Path.{sym, _∙_}
 use borrow.Author.Tests.{eq-eqb, ne-eqb}
 use Rattle.prelude.specs.Cases.{if_then_else_}
-use Rattle.store.specs.Fields.{pending-request, pending-qty, pending-price, pending-ordtype, pending-timeinforce}
-use Rattle.machine.specs.Ranges.{isQty}
+use Rattle.format.specs.Codes.{isQty}
 use Rattle.machine.specs.Rules.{pendingRange}
 use borrow.Author.Needs.{needs}
 use Rattle.rules.proofs.ranges.pending_ok.Statement.{statement}
+use Rattle.store.specs.Laws.Fields.{pending-request, pending-qty, pending-price, pending-ordtype, pending-timeinforce}
 use Rattle.rules.proofs.ranges.pending_ok.Tie as tie
 
 returns : tie.Need-returns
@@ -28,7 +28,7 @@ returns c = let g = c .before .before .before in
     )
 
 returns-2 : tie.Need-returns-2
-unfolding pendingRange if_then_else_ isQty
+unfolding pendingRange if_then_else_
 returns-2 c = let t = c .before .before in
     let g = t .before .before .before in
     let k = g .before .before in

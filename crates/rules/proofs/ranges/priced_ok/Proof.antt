@@ -1,12 +1,12 @@
 -- `priced_ok` meets its contract, test by test. Assumes nothing.
-use Rattle.machine.specs.Ranges.{isPrice}
+use Rattle.format.specs.Codes.{isPrice}
 use Rattle.machine.specs.Rules.{pricedRange}
 use borrow.Author.Needs.{needs}
 use Rattle.rules.proofs.ranges.priced_ok.Statement.{statement}
 use Rattle.rules.proofs.ranges.priced_ok.Tie as tie
 
 returns : tie.Need-returns
-unfolding pricedRange isPrice
+unfolding pricedRange
 returns c = rw (c .is-ordtype .ensures)
 
 pub priced-ok-spec : {M : Type 1} → statement M

@@ -1,14 +1,14 @@
 -- `range_ok` meets its contract, group by group. Rests on store's Fields.
-use Rattle.store.specs.Fields.{state-status, state-avgpx}
-use Rattle.machine.specs.Ranges.{isPrice}
+use Rattle.format.specs.Codes.{isPrice}
 use Rattle.machine.specs.Rules.{orderRange}
-use Rattle.rules.specs.Here.{rangeAt}
 use borrow.Author.Needs.{needs}
 use Rattle.rules.proofs.ranges.range_ok.Statement.{statement}
+use Rattle.store.specs.Laws.Fields.{state-status, state-avgpx}
+use Rattle.rules.specs.Laws.Here.{rangeAt}
 use Rattle.rules.proofs.ranges.range_ok.Tie as tie
 
 returns : tie.Need-returns
-unfolding rangeAt orderRange isPrice
+unfolding rangeAt orderRange
 returns c = let g = c .before .before in
     let t = g .before .before .before in
     let a = t .before .before .before .args in

@@ -4,7 +4,7 @@ use mathlib.Core.Bool.{true}
 use Prim.Native.Nat.{_≤_, _-_}
 use borrow.Author.Tests.{not-true, not-false}
 use Rattle.prelude.specs.Below.{allBelow, all-none, all-more, all-miss, all-done}
-use Rattle.rules.specs.Here.{rangeAt}
+use Rattle.rules.specs.Laws.Here.{rangeAt}
 use borrow.Author.Needs.{needs}
 use Rattle.rules.proofs.ranges.ranges_ok.Statement.{statement}
 use Rattle.rules.proofs.ranges.ranges_ok.Tie as tie

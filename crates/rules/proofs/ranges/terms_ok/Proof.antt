@@ -1,13 +1,13 @@
 -- `terms_ok` meets its contract: each field in place. Rests on store's Fields.
-use Rattle.store.specs.Fields.{terms-side, terms-ordtype, terms-timeinforce, terms-qty, terms-price}
-use Rattle.machine.specs.Ranges.{isQty}
+use Rattle.format.specs.Codes.{isQty}
 use Rattle.machine.specs.Rules.{termsRange}
 use borrow.Author.Needs.{needs}
 use Rattle.rules.proofs.ranges.terms_ok.Statement.{statement}
+use Rattle.store.specs.Laws.Fields.{terms-side, terms-ordtype, terms-timeinforce, terms-qty, terms-price}
 use Rattle.rules.proofs.ranges.terms_ok.Tie as tie
 
 returns : tie.Need-returns
-unfolding termsRange isQty
+unfolding termsRange
 returns c = let f = c .before in
     let p = f .before .before in
     let g = p .before .before in

@@ -3,9 +3,10 @@ use mathlib.Core.Path.{_≡_, sym, ap, _∙_}
 use Prim.Native.Nat.{ℕ, _≤_, _<_, _-_}
 use native.Mathlib.Omega.{arith}
 use Rattle.prelude.specs.Below.{countBelow, count-none}
+use Rattle.store.specs.Layout.{header·orders, header·requests, mostOrders, mostRequests}
 use Rattle.store.specs.Book.{orderCount, requestCount}
-use Rattle.store.specs.Laws.{count-book, count-most}
-use Rattle.store.specs.Finds.{usedAt, count-step, count-clordids-bytes}
+use Rattle.store.specs.Laws.Stored.{count-book, count-most}
+use Rattle.store.specs.Laws.Finds.{usedAt, count-step, count-clordids-bytes}
 use borrow.Author.Needs.{needs}
 use Rattle.store.proofs.finds.count_clordids.Statement.{statement}
 use Rattle.store.proofs.finds.count_clordids.Tie as tie
@@ -23,7 +24,7 @@ used-requires : tie.Need-used-requires Inv-loop μ-loop
 used-requires c κs = let l = c .before .loop in
     let b = c .before .before .before .before .before .args .book .now in
     let h : l .i < requestCount b = omega (arith, l .inv .1) in
-    (count-book 2 256 b (l .i) h, omega (arith, count-most 2 256 b), omega (arith, l .inv .2, count-most 0 64 b))
+    (count-book header·requests mostRequests b (l .i) h, omega (arith, count-most header·requests mostRequests b), omega (arith, l .inv .2, count-most header·orders mostOrders b))
 
 loop-again : tie.Need-loop-again Inv-loop μ-loop
 loop-again c = let l = c .before .before .loop in

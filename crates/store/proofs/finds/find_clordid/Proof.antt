@@ -4,9 +4,11 @@ use mathlib.Core.Option.{none}
 use Prim.Native.Nat.{ℕ, _≤_, _<_, _-_}
 use native.Mathlib.Omega.{arith}
 use Rattle.prelude.specs.Below.{firstBelow, first-none, first-more, first-hit, first-done}
+use Rattle.store.specs.Layout.{header·orders, header·requests, mostOrders, mostRequests}
 use Rattle.store.specs.Book.{orderCount, requestCount}
-use Rattle.store.specs.Laws.{count-book, count-most}
-use Rattle.store.specs.Finds.{usedAsAt, foundOf, find-clordid-bytes}
+use Rattle.store.specs.Laws.Stored.{count-book, count-most}
+use Rattle.store.specs.Laws.Finds.{usedAsAt, find-clordid-bytes}
+use Rattle.store.specs.Finds.{foundOf}
 use borrow.Author.Needs.{needs}
 use Rattle.store.proofs.finds.find_clordid.Statement.{statement}
 use Rattle.store.proofs.finds.find_clordid.Tie as tie
@@ -24,7 +26,7 @@ used-as-requires : tie.Need-used-as-requires Inv-loop μ-loop
 used-as-requires c κs = let l = c .before .loop in
     let b = c .before .before .before .before .before .args .book .now in
     let h : l .j < requestCount b = omega (arith, l .inv .1) in
-    (count-book 2 256 b (l .j) h, omega (arith, count-most 2 256 b), omega (arith, l .inv .2, count-most 0 64 b))
+    (count-book header·requests mostRequests b (l .j) h, omega (arith, count-most header·requests mostRequests b), omega (arith, l .inv .2, count-most header·orders mostOrders b))
 
 returns : tie.Need-returns Inv-loop μ-loop
 returns c = let l = c .before .before .before .loop in

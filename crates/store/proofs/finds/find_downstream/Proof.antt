@@ -4,9 +4,11 @@ use mathlib.Core.Option.{none}
 use Prim.Native.Nat.{_≤_, _<_, _-_}
 use native.Mathlib.Omega.{arith}
 use Rattle.prelude.specs.Below.{firstBelow, first-none, first-more, first-hit, first-done}
+use Rattle.store.specs.Layout.{header·requests, mostRequests}
 use Rattle.store.specs.Book.{requestCount}
-use Rattle.store.specs.Laws.{count-book, count-most}
-use Rattle.store.specs.Finds.{bearsAt, foundOf, find-downstream-bytes}
+use Rattle.store.specs.Laws.Stored.{count-book, count-most}
+use Rattle.store.specs.Laws.Finds.{bearsAt, find-downstream-bytes}
+use Rattle.store.specs.Finds.{foundOf}
 use borrow.Author.Needs.{needs}
 use Rattle.store.proofs.finds.find_downstream.Statement.{statement}
 use Rattle.store.proofs.finds.find_downstream.Tie as tie
@@ -21,7 +23,7 @@ bears-requires : tie.Need-bears-requires Inv-loop μ-loop
 bears-requires c κs = let l = c .before .loop in
     let b = c .before .before .before .before .args .book .now in
     let h : l .i < requestCount b = omega (arith, l .inv .1) in
-    (count-book 2 256 b (l .i) h, omega (arith, count-most 2 256 b))
+    (count-book header·requests mostRequests b (l .i) h, omega (arith, count-most header·requests mostRequests b))
 
 returns : tie.Need-returns Inv-loop μ-loop
 returns c = let l = c .before .before .before .loop in

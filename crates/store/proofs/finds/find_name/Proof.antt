@@ -4,9 +4,11 @@ use mathlib.Core.Option.{none}
 use Prim.Native.Nat.{_≤_, _<_, _-_}
 use native.Mathlib.Omega.{arith}
 use Rattle.prelude.specs.Below.{firstBelow, first-none, first-more, first-hit, first-done}
+use Rattle.store.specs.Layout.{header·orders, mostOrders}
 use Rattle.store.specs.Book.{orderCount}
-use Rattle.store.specs.Laws.{count-book, count-most}
-use Rattle.store.specs.Finds.{namedAt, foundOf, find-name-bytes}
+use Rattle.store.specs.Laws.Stored.{count-book, count-most}
+use Rattle.store.specs.Laws.Finds.{namedAt, find-name-bytes}
+use Rattle.store.specs.Finds.{foundOf}
 use borrow.Author.Needs.{needs}
 use Rattle.store.proofs.finds.find_name.Statement.{statement}
 use Rattle.store.proofs.finds.find_name.Tie as tie
@@ -21,7 +23,7 @@ named-requires : tie.Need-named-requires Inv-loop μ-loop
 named-requires c κs = let l = c .before .loop in
     let b = c .before .before .before .before .args .book .now in
     let h : l .i < orderCount b = omega (arith, l .inv .1) in
-    (count-book 0 64 b (l .i) h, omega (arith, count-most 0 64 b))
+    (count-book header·orders mostOrders b (l .i) h, omega (arith, count-most header·orders mostOrders b))
 
 returns : tie.Need-returns Inv-loop μ-loop
 returns c = let l = c .before .before .before .loop in

@@ -4,9 +4,9 @@ use Prim.Native.Nat.{_+_}
 use native.Mathlib.Omega.{arith}
 use Rattle.prelude.specs.Texts.{sameText}
 use Rattle.prelude.specs.declared.Text.{Text}
-use Rattle.text.specs.InPlace.{text-is-here}
+use Rattle.text.specs.Laws.InPlace.{text-is-here}
 use Rattle.store.specs.Layout.{orderBase, names·name}
-use Rattle.store.specs.Fields.{names-name}
+use Rattle.store.specs.Laws.Fields.{names-name}
 use borrow.Author.Needs.{needs}
 use Rattle.store.proofs.finds.named.Statement.{statement}
 use Rattle.store.proofs.finds.named.Tie as tie

@@ -1,7 +1,7 @@
 -- `of_client` meets its contract: the request's order and that order's client, in place. Rests on Fields.
 use borrow.Author.Tests.{lt-ltb, le-ltb}
-use Rattle.store.specs.Fields.{order-client, request-order}
-use Rattle.store.specs.Finds.{ofClientAt}
+use Rattle.store.specs.Laws.Fields.{order-client, request-order}
+use Rattle.store.specs.Laws.Finds.{ofClientAt}
 use borrow.Author.Needs.{needs}
 use Rattle.store.proofs.finds.of_client.Statement.{statement}
 use Rattle.store.proofs.finds.of_client.Tie as tie
@@ -23,9 +23,11 @@ of-client-spec =
     (tie.spec
     (λ c. search needs)
     (λ c. search needs)
+    (λ c. search needs)
     (λ c κs. search needs)
     (λ c. search needs)
     returns
+    (λ c. search needs)
     (λ c. search needs)
     (λ c. search needs)
     (λ c κs. search needs)

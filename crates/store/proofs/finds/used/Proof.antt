@@ -1,7 +1,7 @@
 -- `used` meets its contract: the length in place, then the client. Rests on Fields.
 use borrow.Author.Tests.{eq-eqb, ne-eqb}
 use Rattle.prelude.specs.Cases.{if_then_else_}
-use Rattle.store.specs.Fields.{request-clordid-len}
+use Rattle.store.specs.Laws.Fields.{request-clordid-len}
 use borrow.Author.Needs.{needs}
 use Rattle.store.proofs.finds.used.Statement.{statement}
 use Rattle.store.proofs.finds.used.Tie as tie

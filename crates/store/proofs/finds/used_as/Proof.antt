@@ -7,12 +7,13 @@ use borrow.Author.Tests.{not-true, not-false}
 use Rattle.prelude.specs.Cases.{both-false}
 use Rattle.prelude.specs.Texts.{sameText}
 use Rattle.prelude.specs.declared.Text.{Text}
-use Rattle.text.specs.InPlace.{text-is-here}
+use Rattle.text.specs.Laws.InPlace.{text-is-here}
 use Rattle.text.specs.Words.{textIs}
 use Rattle.store.specs.Layout.{requestBase, request·clordid}
 use Rattle.store.specs.Book.{requestAt}
-use Rattle.store.specs.Fields.{request-clordid}
-use Rattle.store.specs.Finds.{hasClordid, has-clordid, no-clordid}
+use Rattle.store.specs.Laws.Fields.{request-clordid}
+use Rattle.store.specs.Finds.{hasClordid}
+use Rattle.store.specs.Laws.Finds.{has-clordid, no-clordid}
 use borrow.Author.Needs.{needs}
 use Rattle.store.proofs.finds.used_as.Statement.{statement}
 use Rattle.store.proofs.finds.used_as.Tie as tie

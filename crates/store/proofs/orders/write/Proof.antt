@@ -4,9 +4,9 @@ use Prim.Native.Nat.{_+_, _-_}
 use native.Mathlib.Omega.{arith}
 use lib.ListN.{length, take, drop, length-take, length-drop}
 use Rattle.prelude.specs.Span.{part-splice}
-use Rattle.store.specs.Layout.{orderBase}
+use Rattle.store.specs.Layout.{orderSize, orderBase}
 use Rattle.store.specs.Orders.{encodeOrder}
-use Rattle.store.specs.OrderLaws.{write-order, length-order}
+use Rattle.store.specs.Laws.Orders.{write-order, length-order}
 use Rattle.store.specs.Book.{putOrder}
 use borrow.Author.Needs.{needs}
 use Rattle.store.proofs.orders.write.Statement.{statement}
@@ -17,8 +17,8 @@ unfolding putOrder
 returns c = let a = c .before .before .before .before .before .args in
     let e = c .before .before .encode .ensures in
     let at = orderBase (a .i) in
-    let l : length (take ((at + 256) - at) (drop at (a .book .now))) ≡ 256 = simp (length-take, length-drop) (omega arith) in
-    rw (e .0 ∙ write-order (a .o) (e .1) _ l) (part-splice (a .book .now) (encodeOrder (a .o)) at 256 (length-order (a .o) (e .1)))
+    let l : length (take ((at + orderSize) - at) (drop at (a .book .now))) ≡ orderSize = simp (length-take, length-drop) (omega arith) in
+    rw (e .0 ∙ write-order (a .o) (e .1) _ l) (part-splice (a .book .now) (encodeOrder (a .o)) at orderSize (length-order (a .o) (e .1)))
 
 pub write-spec : {M : Type 1} → statement M
 write-spec =

@@ -4,9 +4,9 @@ use Prim.Native.Nat.{_+_, _-_}
 use native.Mathlib.Omega.{arith}
 use lib.ListN.{length, take, drop, length-take, length-drop}
 use Rattle.prelude.specs.Span.{part-splice}
-use Rattle.store.specs.Layout.{requestBase}
+use Rattle.store.specs.Layout.{requestSize, requestBase}
 use Rattle.store.specs.Requests.{encodeRequest}
-use Rattle.store.specs.Requests.{write-request, length-request}
+use Rattle.store.specs.Laws.Requests.{write-request, length-request}
 use Rattle.store.specs.Book.{putRequest}
 use borrow.Author.Needs.{needs}
 use Rattle.store.proofs.requests.write.Statement.{statement}
@@ -17,8 +17,8 @@ unfolding putRequest
 returns c = let a = c .before .before .before .before .before .args in
     let e = c .before .before .encode .ensures in
     let at = requestBase (a .i) in
-    let l : length (take ((at + 128) - at) (drop at (a .book .now))) ≡ 128 = simp (length-take, length-drop) (omega arith) in
-    rw (e .0 ∙ write-request (a .r) (e .1) _ l) (part-splice (a .book .now) (encodeRequest (a .r)) at 128 (length-request (a .r) (e .1)))
+    let l : length (take ((at + requestSize) - at) (drop at (a .book .now))) ≡ requestSize = simp (length-take, length-drop) (omega arith) in
+    rw (e .0 ∙ write-request (a .r) (e .1) _ l) (part-splice (a .book .now) (encodeRequest (a .r)) at requestSize (length-request (a .r) (e .1)))
 
 pub write-spec : {M : Type 1} → statement M
 write-spec =

@@ -137,7 +137,7 @@ fn little(list: &List) -> Vec<(&'static str, Draft)> {
     little
 }
 
-/// The events of the list that are taken: the Rust alone would go on where document 01 refuses.
+/// The events of the list that are taken: the Rust alone would go on where docs/SCOPE.md, Questions, refuses.
 fn taken(list: &List) -> List {
     let mut machine = Machine::start(list.setting);
     let items = list.items.iter().filter(|item| machine.event(&item.record, item.answer_buffer).is_ok());

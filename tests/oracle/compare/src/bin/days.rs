@@ -1,4 +1,4 @@
-//! Writes days for document 01's day program: `days DIR` makes, for each, `NAME.stdin`, the records
+//! Writes days for the day program: `days DIR` makes, for each, `NAME.stdin`, the records
 //! each after a 2-byte length, and `NAME.stdout`, what the program must print on it. The book starts
 //! with the setting 10,000, the answer buffer has 1,024 bytes. `days --check STDIN STDOUT` fails
 //! where the model would print something else on a stored input.
@@ -61,7 +61,7 @@ fn check(input: &str, output: &str) -> ExitCode {
     if same { ExitCode::SUCCESS } else { ExitCode::FAILURE }
 }
 
-/// Document 01's: booking 100, New, then cum 101.
+/// docs/SCOPE.md, Day program: booking 100, New, then cum 101.
 fn example() -> Day {
     let book = events::book(VENUE_1, &named(), b"A", b"c1", 100 * SHARE, Some(10 * UNIT));
     let new = report(b'0', b'0', fill(0, 0, 0, 0));

@@ -1,6 +1,6 @@
 //! Calls the entries of the library, or of the stand-in where none is linked, with whatever a user
 //! may pass: books of any length, random and damaged books, records that are cut, spoiled or random,
-//! answer buffers of any length. Each call must give what document 01's questions say, in their
+//! answer buffers of any length. Each call must give what docs/SCOPE.md, Questions, says, in their
 //! order; a refused one has written nothing, and no call writes beside what it was lent.
 //! `garbage [CALLS [SEED]]`, `garbage --faults`.
 

@@ -1,5 +1,5 @@
-//! Runs generated lists through the model: after every event the Rust's own `check()`, document
-//! 01's rules, demand 3 and exact prices. `lists [LISTS [EVENTS [FIRST_SEED]]]`; a failing list is
+//! Runs generated lists through the model: after every event the Rust's own `check()`, the
+//! book's rules, demand 3 and exact prices. `lists [LISTS [EVENTS [FIRST_SEED]]]`; a failing list is
 //! printed as short as it can be made.
 
 use std::process::ExitCode;

@@ -1,4 +1,4 @@
-//! Stand-in for `chrono`: the two types that the book names. Times are left out of document 01,
+//! Stand-in for `chrono`: the two types that the book names. Times are left out (docs/SCOPE.md, The book),
 //! so every time here is the same one.
 
 use std::marker::PhantomData;

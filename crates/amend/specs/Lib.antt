@@ -1,0 +1,4 @@
+pub mod Booking
+pub mod Early
+pub mod Laws
+pub mod Prices

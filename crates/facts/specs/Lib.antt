@@ -1,0 +1,7 @@
+pub mod Play
+pub mod Days
+pub mod Pinned
+pub mod Handled
+pub mod Counted
+pub mod Broken
+pub mod ExchangeDay

@@ -1,0 +1,10 @@
+pub mod Seen
+pub mod Reading
+pub mod Writing
+pub mod Right
+pub mod Back
+pub mod AnswerBack
+pub mod ReadingAnswer
+pub mod Accepted
+pub mod Ranges
+pub mod RoundTrip

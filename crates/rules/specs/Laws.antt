@@ -1,0 +1,7 @@
+-- Proof text: the rules on bytes, as they are decided, and that they are the rules of the book.
+pub mod Places
+pub mod Here
+pub mod Spread
+pub mod Suffix
+pub mod Things
+pub mod Keeps

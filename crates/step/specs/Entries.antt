@@ -1,0 +1,78 @@
+-- What the three entries of gateway do, on bytes: what each returns and what it leaves in each buffer that it is lent.
+-- Rests on rules (`keepsOf`), records (`eventIn`, `answerBytes`), machine (`stepOf`) and store (the book in its bytes).
+use Prim.Native.Nat.{ℕ, _-_}
+use mathlib.Core.Bool.{not}
+use mathlib.Core.List.{List}
+use lib.Dec.{eqb, leb, ltb}
+use lib.ListN.{length}
+use Rattle.prelude.specs.Cases.{if_then_else_}
+use Rattle.prelude.specs.Span.{splice}
+use Rattle.records.specs.Record.{eventIn}
+use Rattle.records.specs.Answer.{answerBytes}
+use Rattle.store.specs.declared.Order.{Order}
+use Rattle.store.specs.Book.{isBook, orderCount, bookOf, storeOrder, addOrder, addRequest, markAnswered, blank}
+use Rattle.machine.specs.declared.Requests.{Requests}
+use Rattle.machine.specs.declared.Change.{Change}
+use Rattle.machine.specs.Changes.{refusing}
+use Rattle.machine.specs.Machine.{stepOf}
+use Rattle.machine.specs.History.{messagesOf}
+use Rattle.rules.specs.Keeps.{keepsOf}
+use Rattle.format.specs.Refusal.{eventRefusal}
+
+-- ---- a change written into the bytes of a book
+
+-- the order goes to the place of its link: 0 is none, one past those in use is a new order
+unfoldable pub placeOrder : List ℕ → (place : ℕ) → Order → List ℕ
+placeOrder b place o =
+    if eqb place 0 then b
+    else if leb place (orderCount b) then storeOrder b (place - 1) o
+    else addOrder b o
+
+-- the request of this link is marked answered
+unfoldable pub markLink : List ℕ → ℕ → List ℕ
+markLink b link = if eqb link 0 then b else markAnswered b (link - 1)
+
+unfoldable pub placeRequests : List ℕ → Requests → List ℕ
+placeRequests b r =
+    let marked : List ℕ = markLink (markLink b (r .answered)) (r .superseded) in
+    if eqb (r .added) 0 then marked else addRequest marked (r .request)
+
+unfoldable pub bookWith : List ℕ → Change → List ℕ
+bookWith b c = placeRequests (placeOrder b (c .place) (c .order)) (c .requests)
+
+-- ---- the entries
+
+-- what a call returns, and what its buffers are then
+pub record Outcome : Type 0 where
+  pub returned : ℕ
+  pub book : List ℕ
+  pub answer : List ℕ
+
+abbrev pub outcome : (returned : ℕ) (book answer : List ℕ) → Outcome
+outcome n b a = record { returned = n; book = b; answer = a }
+
+-- the questions in their order, of a book, a record and the answer buffer's length: the first no gives its number. `stepOf` asks 5, 6 and 7.
+unfoldable pub callOf : (book event : List ℕ) (room : ℕ) → Change
+callOf b r room =
+    if not (keepsOf b) then refusing 1
+    else if ltb room 1024 then refusing 2
+    else if not (eqb (eventRefusal r) 0) then refusing (eventRefusal r)
+    else stepOf (bookOf b) (eventIn r)
+
+-- `event`: a refused one has written nothing anywhere
+unfoldable pub eventOf : (book event answer : List ℕ) → Outcome
+eventOf b r a =
+    let c = callOf b r (length a) in
+    if eqb (c .refusal) 0 then outcome 0 (bookWith b c) (splice a 0 (answerBytes (c .output .alarm) (messagesOf c)))
+    else outcome (c .refusal) b a
+
+-- `start`: zeros but for the setting, or nothing where the length is another
+unfoldable pub startRefusal : List ℕ → ℕ
+startRefusal b = if isBook b then 0 else 1
+
+unfoldable pub startOf : List ℕ → (setting : ℕ) → List ℕ
+startOf b setting = if isBook b then blank setting else b
+
+-- `check`
+unfoldable pub checkOf : List ℕ → ℕ
+checkOf b = if keepsOf b then 0 else 1

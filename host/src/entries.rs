@@ -1,0 +1,59 @@
+//! The static library's functions, and the one place with unsafe code. Rests on include/gateway.h (docs/SCOPE.md, Entries).
+//!
+//! A further call of the library is three things: its C function in `c`, a safe function under it, and a method of `Book`.
+
+use crate::error::Refusal;
+
+/// The bytes of a book.
+pub const BOOK_BYTES: usize = 65_536;
+
+/// The bytes that an answer buffer must have at least.
+pub const ANSWER_BYTES: usize = 1_024;
+
+/// A book's bytes: the type holds their number.
+pub(crate) type BookBytes = [u8; BOOK_BYTES];
+
+mod c {
+    extern "C" {
+        pub fn start(book: *mut u8, book_len: usize, setting: u32) -> u32;
+        pub fn event(
+            book: *mut u8,
+            book_len: usize,
+            record: *const u8,
+            record_len: usize,
+            answer: *mut u8,
+            answer_len: usize,
+        ) -> u32;
+        pub fn check(book: *const u8, book_len: usize) -> u32;
+    }
+}
+
+/// Makes an empty book.
+#[allow(unsafe_code)]
+pub(crate) fn start(book: &mut BookBytes, setting: u32) -> Result<(), Refusal> {
+    // SAFETY: the pointer and the length are those of one slice, lent for the call alone.
+    Refusal::of(unsafe { c::start(book.as_mut_ptr(), book.len(), setting) })
+}
+
+/// Takes a record and writes the answer to the front of its buffer; a refused one has changed neither book nor buffer.
+#[allow(unsafe_code)]
+pub(crate) fn event(book: &mut BookBytes, record: &[u8], answer: &mut [u8]) -> Result<(), Refusal> {
+    // SAFETY: three slices that do not overlap, since two of them are lent as `&mut`; each with its own length.
+    Refusal::of(unsafe {
+        c::event(
+            book.as_mut_ptr(),
+            book.len(),
+            record.as_ptr(),
+            record.len(),
+            answer.as_mut_ptr(),
+            answer.len(),
+        )
+    })
+}
+
+/// Whether a book keeps its rules.
+#[allow(unsafe_code)]
+pub(crate) fn check(book: &BookBytes) -> Result<(), Refusal> {
+    // SAFETY: the pointer and the length are those of one slice, which the function only reads.
+    Refusal::of(unsafe { c::check(book.as_ptr(), book.len()) })
+}

@@ -1,0 +1,75 @@
+//! The numbers of include/gateway.h against those of this crate; the fields' bits are compared in src/record.rs.
+
+use jubafiye::{Alarm, Event, Refusal, ANSWER_BYTES, BOOK_BYTES};
+
+const HEADER: &str = include_str!("../include/gateway.h");
+
+/// What stands behind a name where it is defined.
+fn defined(line: &str) -> Option<&str> {
+    let line = line.trim();
+    line.strip_prefix("#define ").unwrap_or(line).strip_prefix("JUBAFIYE_")
+}
+
+/// The number of a name.
+fn number(name: &str) -> Option<usize> {
+    let after =
+        HEADER.lines().filter_map(defined).find_map(|line| line.strip_prefix(name)?.strip_prefix(' '))?;
+    after.trim_start_matches("= ").split([',', ' ']).next()?.parse().ok()
+}
+
+/// How many names begin so.
+fn names(start: &str) -> usize {
+    HEADER.lines().filter_map(defined).filter(|line| line.starts_with(start) && line.contains('=')).count()
+}
+
+#[test]
+fn lengths() {
+    assert_eq!((number("BOOK_BYTES"), number("ANSWER_BYTES")), (Some(BOOK_BYTES), Some(ANSWER_BYTES)));
+}
+
+#[test]
+fn refusals_and_alarms() {
+    let refusals = [
+        ("BOOK", Refusal::Book),
+        ("ANSWER_BUFFER", Refusal::AnswerBuffer),
+        ("RECORD", Refusal::Record),
+        ("RANGE", Refusal::Range),
+        ("IN_USE", Refusal::InUse),
+        ("PRICE", Refusal::Price),
+        ("FULL", Refusal::Full),
+    ];
+    for (name, refusal) in refusals {
+        assert_eq!(number(&format!("REFUSED_{name}")), Some(refusal.number() as usize), "{name}");
+    }
+    assert_eq!(names("REFUSED_"), refusals.len());
+    let alarms = [
+        ("STUCK_CANCEL", Alarm::StuckCancel),
+        ("OVERFILL", Alarm::Overfill),
+        ("UNKNOWN_ORDER", Alarm::UnknownOrder),
+        ("UNKNOWN_AT_VENUE", Alarm::UnknownAtVenue),
+        ("FILL_ON_DONE_ORDER", Alarm::FillOnDoneOrder),
+    ];
+    for (name, alarm) in alarms {
+        assert_eq!(number(&format!("ALARM_{name}")), Some(alarm.number().into()), "{name}");
+    }
+    assert_eq!((number("ALARM_NONE"), names("ALARM_")), (Some(0), alarms.len() + 1));
+}
+
+#[test]
+fn kinds() {
+    let (venue, downstream) = (3, &b"G1"[..]);
+    let events = [
+        ("UNKNOWN_AT_VENUE", Event::UnknownAtVenue { venue, downstream }),
+        ("SEND_FAILED", Event::SendFailed { venue, downstream, text: b"down" }),
+        ("SEND_AGAIN", Event::SendAgain { venue, downstream }),
+        ("GATEWAY_CANCEL", Event::GatewayCancel { name: b"G1" }),
+    ];
+    for (name, event) in events {
+        assert_eq!(number(&format!("EVENT_{name}")), Some(event.record()[0].into()), "{name}");
+    }
+    let rest = ["BOOK", "CANCEL", "REPLACE", "VENUE_REPORT"].map(|name| number(&format!("EVENT_{name}")));
+    assert_eq!((rest, names("EVENT_")), ([Some(1), Some(2), Some(3), Some(4)], 9));
+    let messages = ["REPORT", "CANCEL_REJECT", "NEW_ORDER", "CANCEL", "REPLACE"];
+    let numbers = messages.map(|name| number(&format!("MESSAGE_{name}")));
+    assert_eq!((numbers, names("MESSAGE_")), ([16, 17, 18, 19, 20].map(Some), 5));
+}
