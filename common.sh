@@ -3,7 +3,7 @@
 # Says what is missing where the toolchain is not there.
 need_rt() {
     if ! command -v rt >/dev/null; then
-        echo "$(basename "$0"): needs 'rt' of the Rattle toolchain on the path (README.md, \"What it needs\")" >&2
+        echo "$(basename "$0"): needs 'rt' of the Rattle toolchain on the path: README.md says where it comes from" >&2
         exit 1
     fi
 }

@@ -1,8 +1,8 @@
-/* The proved order book: three functions over lent byte slices, each a pointer and then a length. What they do stands in
+/* The proved order book: four functions over lent byte slices, each a pointer and then a length. What they do stands in
  * docs/SCOPE.md, the book's bytes in docs/LAYOUT.md.
  *
  * Each pointer must be valid for its length, and the slices of one call must not overlap. Any bytes may be passed. A call
- * that returns another number than 0 has written nothing. The library keeps nothing between calls and allocates nothing, so
+ * that returns a refusal other than 0 has written nothing. The library keeps nothing between calls and allocates nothing, so
  * that books may be used side by side, each by one thread at a time. It is for x86-64 Linux and needs memcpy and memset. */
 #ifndef JUBAFIYE_GATEWAY_H
 #define JUBAFIYE_GATEWAY_H
@@ -16,6 +16,8 @@ extern "C" {
 
 #define JUBAFIYE_BOOK_BYTES 65536
 #define JUBAFIYE_ANSWER_BYTES 1024
+#define JUBAFIYE_PAGE_LINE 81
+#define JUBAFIYE_PAGE_BYTES 5184 /* what the page of any book has at most: 64 lines */
 
 /* Makes an empty book. setting: the most ClOrdIDs that a client may use, the reserve included.
  * 0, or 1 where the book has another length. */
@@ -30,6 +32,19 @@ uint32_t event(uint8_t *book, size_t book_len, const uint8_t *record, size_t rec
 /* 0 where the book has its length and keeps its rules, else 1. */
 uint32_t check(const uint8_t *book, size_t book_len);
 
+/* A refusal, or 0 and the number that was asked for. With a refusal the number is 0. */
+typedef struct {
+    uint32_t refusal;
+    uint32_t number;
+} Counted;
+
+/* Prints the evening page to the front of out, of which the bytes behind the page stay as they are: for each order, done or
+ * not, in booking order, 80 columns and a line feed. Columns 1 to 20 have the name and 21 to 36 the symbol, from the left and
+ * filled with blanks, a byte below 32 as a blank; 37 has the status; 38 to 79 have ordered, cumulative and leaves quantity,
+ * each right-aligned in 14 columns with four decimals; 80 is a blank. The number is the page's length. Refused with
+ * JUBAFIYE_REFUSED_BOOK, then with JUBAFIYE_REFUSED_PAGE_BUFFER where out is shorter than 81 bytes for each order. */
+Counted page(const uint8_t *book, size_t book_len, uint8_t *out, size_t out_len);
+
 /* What the functions return. */
 enum {
     JUBAFIYE_TAKEN = 0,
@@ -39,7 +54,8 @@ enum {
     JUBAFIYE_REFUSED_RANGE = 4,         /* a field is out of its range, or a code in no list */
     JUBAFIYE_REFUSED_IN_USE = 5,        /* a booking's order name or ClOrdID is in use */
     JUBAFIYE_REFUSED_PRICE = 6,         /* a price without a limit, or a limit without a price */
-    JUBAFIYE_REFUSED_FULL = 7           /* no free order or request record */
+    JUBAFIYE_REFUSED_FULL = 7,          /* no free order or request record */
+    JUBAFIYE_REFUSED_PAGE_BUFFER = 8    /* the page's buffer is shorter than JUBAFIYE_PAGE_LINE bytes for each order */
 };
 
 /* A record: a kind (1 byte), a map of 32 bits (4 bytes), then the fields whose bit stands, in bit order. All numbers are

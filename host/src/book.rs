@@ -94,6 +94,10 @@ impl Book {
         bytes.into_vec()
     }
 
+    pub(crate) fn bytes(&self) -> &BookBytes {
+        &self.bytes
+    }
+
     /// Whether the book keeps its rules, which it always does.
     ///
     /// ```

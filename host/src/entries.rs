@@ -10,10 +10,23 @@ pub const BOOK_BYTES: usize = 65_536;
 /// The bytes that an answer buffer must have at least.
 pub const ANSWER_BYTES: usize = 1_024;
 
+/// The most orders of a book.
+pub(crate) const ORDERS: usize = 64;
+
+/// A line of the evening page, with its line feed.
+pub(crate) const PAGE_LINE: usize = 81;
+
 /// A book's bytes: the type holds their number.
 pub(crate) type BookBytes = [u8; BOOK_BYTES];
 
 mod c {
+    /// A refusal, or 0 and the number that was asked for.
+    #[repr(C)]
+    pub struct Counted {
+        pub refusal: u32,
+        pub number: u32,
+    }
+
     extern "C" {
         pub fn start(book: *mut u8, book_len: usize, setting: u32) -> u32;
         pub fn event(
@@ -25,6 +38,7 @@ mod c {
             answer_len: usize,
         ) -> u32;
         pub fn check(book: *const u8, book_len: usize) -> u32;
+        pub fn page(book: *const u8, book_len: usize, out: *mut u8, out_len: usize) -> Counted;
     }
 }
 
@@ -56,4 +70,14 @@ pub(crate) fn event(book: &mut BookBytes, record: &[u8], answer: &mut [u8]) -> R
 pub(crate) fn check(book: &BookBytes) -> Result<(), Refusal> {
     // SAFETY: the pointer and the length are those of one slice, which the function only reads.
     Refusal::of(unsafe { c::check(book.as_ptr(), book.len()) })
+}
+
+/// Prints the evening page to the front of its buffer and gives its length; a refused call has changed nothing.
+#[allow(unsafe_code)]
+pub(crate) fn page(book: &BookBytes, out: &mut [u8]) -> Result<usize, Refusal> {
+    // SAFETY: two slices that do not overlap, since one of them is lent as `&mut`; each with its own length.
+    let counted = unsafe { c::page(book.as_ptr(), book.len(), out.as_mut_ptr(), out.len()) };
+    Refusal::of(counted.refusal)?;
+    // A number that is past the address space is past any buffer.
+    Ok(usize::try_from(counted.number).unwrap_or(usize::MAX))
 }

@@ -32,6 +32,8 @@ pub enum Refusal {
     Price,
     /// 7: no free order or request record.
     Full,
+    /// 8: the page's buffer is shorter than 81 bytes for each order.
+    PageBuffer,
     /// Another number, which this crate does not know: the library is of another version.
     Other(u32),
 }
@@ -47,6 +49,7 @@ impl Refusal {
             Self::InUse => 5,
             Self::Price => 6,
             Self::Full => 7,
+            Self::PageBuffer => 8,
             Self::Other(number) => number,
         }
     }
@@ -68,6 +71,7 @@ impl Refusal {
             5 => Self::InUse,
             6 => Self::Price,
             7 => Self::Full,
+            8 => Self::PageBuffer,
             _ => Self::Other(number),
         })
     }
@@ -88,6 +92,7 @@ impl fmt::Display for Refusal {
             Self::InUse => "the order name or ClOrdID is in use",
             Self::Price => "a price goes exactly with a limit order",
             Self::Full => "no free order or request record",
+            Self::PageBuffer => "the page's buffer is too short",
             Self::Other(_) => "a number that is not known here",
         };
         write!(f, "refused with {}: {why}", self.number())

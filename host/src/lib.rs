@@ -50,6 +50,7 @@ mod event;
 mod fields;
 mod list;
 mod message;
+mod page;
 mod record;
 mod words;
 
@@ -61,4 +62,5 @@ pub use error::{BadAnswer, Error, Fault, Refusal};
 pub use event::{Amend, Booking, Event, RejectedRequest, Replace, VenueReport};
 pub use fields::{ExecType, OrdStatus, OrdType, Side, TimeInForce};
 pub use message::{CancelReject, Message, Report, RequestKind, ToVenue};
+pub use page::{Page, PAGE_BYTES};
 pub use words::{FixedText, Reason, RiskReject, Words};

@@ -1,6 +1,6 @@
 //! The numbers of include/gateway.h against those of this crate; the fields' bits are compared in src/record.rs.
 
-use jubafiye::{Alarm, Event, Refusal, ANSWER_BYTES, BOOK_BYTES};
+use jubafiye::{Alarm, Event, Refusal, ANSWER_BYTES, BOOK_BYTES, PAGE_BYTES};
 
 const HEADER: &str = include_str!("../include/gateway.h");
 
@@ -25,6 +25,7 @@ fn names(start: &str) -> usize {
 #[test]
 fn lengths() {
     assert_eq!((number("BOOK_BYTES"), number("ANSWER_BYTES")), (Some(BOOK_BYTES), Some(ANSWER_BYTES)));
+    assert_eq!((number("PAGE_LINE"), number("PAGE_BYTES")), (Some(PAGE_BYTES / 64), Some(PAGE_BYTES)));
 }
 
 #[test]
@@ -37,6 +38,7 @@ fn refusals_and_alarms() {
         ("IN_USE", Refusal::InUse),
         ("PRICE", Refusal::Price),
         ("FULL", Refusal::Full),
+        ("PAGE_BUFFER", Refusal::PageBuffer),
     ];
     for (name, refusal) in refusals {
         assert_eq!(number(&format!("REFUSED_{name}")), Some(refusal.number() as usize), "{name}");

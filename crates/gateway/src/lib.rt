@@ -1,9 +1,11 @@
 // The entries of the gateway's book, for a host that calls them as C functions on byte slices:
 // `start` makes an empty book, `event` takes one record and writes the answer, `check` says whether a
-// book keeps its rules. Each is total: whatever the bytes, it returns docs/SCOPE.md's number, and a
-// refused call has written nothing. Rests on step, rules, records and store.
+// book keeps its rules, `page` prints the evening page. Each is total: whatever the bytes, it returns
+// its number, and a refused call has written nothing. Rests on step, rules, records, store and page.
 ghost use mathlib.Core.Path.{_≡_};
 ghost use Rattle.step.specs.Entries.{startOf, startRefusal, checkOf, outcome, eventOf};
+ghost use Rattle.page.specs.Page.{paged, pageCall};
+use counted::Counted;
 use store::layout;
 
 mod write; // a change written into the book
@@ -45,4 +47,12 @@ pub extern "C" fn check(book: &[u8]) -> u32
         return 0;
     }
     1
+}
+
+// Prints the evening page of the book to the front of `out`; the number is the page's length.
+#[no_mangle]
+pub extern "C" fn page(book: &[u8], out: &mut [u8]) -> Counted
+    ensures { λ r. ⌜ paged r (now (out .exit)) ≡ pageCall (now (book .entry)) (now (out .entry)) ⌝ }
+{
+    page::page(book, out)
 }

@@ -1,7 +1,7 @@
-//! A library's `start`, `event` and `check` against the model: refusal, answer bytes, bytes past
+//! A library's `start`, `event`, `check` and `page` against the model: refusal, answer bytes, bytes past
 //! the length, nothing written by a refused event, every field of the book by docs/LAYOUT.md and
-//! no other byte of it, `check` 0 after each event, events on copies of the book, and demand 3
-//! counted from the messages.
+//! no other byte of it, `check` 0 and the evening page after each event, events on copies of the
+//! book, and demand 3 counted from the messages.
 
 use std::panic::{AssertUnwindSafe, catch_unwind};
 
@@ -18,6 +18,7 @@ use crate::keeps::broken;
 use crate::layout::{Book, Header};
 use crate::minimize::minimize;
 use crate::mirror::{self, Sending};
+use crate::page;
 use crate::probes;
 use crate::show;
 use crate::tally::Tally;
@@ -69,7 +70,7 @@ impl Caller<'_> {
         let right = model.clone().map(|answer| (answer, mirror::book(machine, &self.sending)));
         expected::holds(&right, refusal, (&before, &self.book), (&filled, &answer))?;
         match self.entries.check(&self.book) {
-            0 => Ok(()),
+            0 => page::holds(self.entries, &self.book, Some(machine)),
             check => Err(format!("check gives {check} after the event")),
         }
     }
@@ -202,6 +203,7 @@ fn lengths(entries: &Entries, setting: u32) -> Result<(), String> {
         if given != [1, 1, 1] || book.iter().chain(&answer).any(|&byte| byte != 0x5A) {
             return Err(format!("a book of {length} bytes: start, event, check give {given:?}, or write"));
         }
+        page::holds(entries, &book, None)?;
     }
     Ok(())
 }
@@ -222,6 +224,7 @@ fn damaged(caller: &Caller<'_>, record: &[u8], random: &mut Random) -> Result<()
         if check != u32::from(!lent.keeps()) {
             return Err(found(format!("check gives {check}: {:?}", broken(&lent.bytes))));
         }
+        page::holds(entries, &lent.bytes, lent.machine()).map_err(found)?;
         let right = lent.event(record, 1_024).map_err(found)?;
         let filled = vec![0; 1_024];
         expected::holds(&right, refusal, (&lent.bytes, &book), (&filled, &answer)).map_err(found)?;

@@ -1,14 +1,25 @@
-//! The three C entries: a library's, where one is linked, else the stand-in's.
+//! The C entries: a library's, where one is linked, else the stand-in's.
 
 pub type Start = unsafe extern "C" fn(*mut u8, usize, u32) -> u32;
 pub type Event = unsafe extern "C" fn(*mut u8, usize, *const u8, usize, *mut u8, usize) -> u32;
 pub type Check = unsafe extern "C" fn(*const u8, usize) -> u32;
+
+pub type Page = unsafe extern "C" fn(*const u8, usize, *mut u8, usize) -> Counted;
+
+/// A refusal, or 0 and the number that was asked for.
+#[repr(C)]
+#[derive(Debug, Clone, Copy, PartialEq, Eq)]
+pub struct Counted {
+    pub refusal: u32,
+    pub number: u32,
+}
 
 #[derive(Debug, Clone, Copy)]
 pub struct Entries {
     pub start: Start,
     pub event: Event,
     pub check: Check,
+    pub page: Page,
 }
 
 // Each call lends whole slices for its time, which is all that an entry may touch.
@@ -27,10 +38,16 @@ impl Entries {
     pub fn check(&self, book: &[u8]) -> u32 {
         unsafe { (self.check)(book.as_ptr(), book.len()) }
     }
+
+    pub fn page(&self, book: &[u8], out: &mut [u8]) -> Counted {
+        unsafe { (self.page)(book.as_ptr(), book.len(), out.as_mut_ptr(), out.len()) }
+    }
 }
 
 #[cfg(library)]
 mod linked {
+    use super::Counted;
+
     unsafe extern "C" {
         pub fn start(book: *mut u8, book_len: usize, setting: u32) -> u32;
         pub fn event(
@@ -42,13 +59,14 @@ mod linked {
             answer_len: usize,
         ) -> u32;
         pub fn check(book: *const u8, book_len: usize) -> u32;
+        pub fn page(book: *const u8, book_len: usize, out: *mut u8, out_len: usize) -> Counted;
     }
 }
 
 /// The entries of the static library that this program was built with.
 #[cfg(library)]
 pub fn library() -> Option<Entries> {
-    Some(Entries { start: linked::start, event: linked::event, check: linked::check })
+    Some(Entries { start: linked::start, event: linked::event, check: linked::check, page: linked::page })
 }
 
 #[cfg(not(library))]

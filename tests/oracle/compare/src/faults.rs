@@ -9,6 +9,7 @@ use model::numbers::qty_count;
 use model::record::*;
 
 use crate::layout::{self, Book, Header};
+use crate::page::LINE;
 use crate::stand_in::names;
 
 #[derive(Debug, Clone, Copy, PartialEq, Eq)]
@@ -73,6 +74,16 @@ pub enum Fault {
     HeaderWritten,
     /// A symbol has a byte behind its end.
     TextNotFilled,
+    /// The page's last digit of a quantity is one higher.
+    PageDigitOff,
+    /// The page's leaves of a done order are ordered less cumulative.
+    PageLeavesOfDone,
+    /// The page has the last booked order first.
+    PageReversed,
+    /// The page is refused with 8 where its buffer is exactly long enough.
+    EightAtJustEnough,
+    /// A byte behind the page is changed.
+    PagePastItsEnd,
     /// Question 2 is asked before question 1.
     TwoBeforeOne,
     /// Question 4 is asked before question 3, of records that are a byte too long.
@@ -85,7 +96,7 @@ pub enum Fault {
 
 impl Fault {
     /// Faults that the comparison finds.
-    pub const COMPARED: [Self; 30] = [
+    pub const COMPARED: [Self; 35] = [
         Self::AddsLastQty,
         Self::AcknowledgesLater,
         Self::SevenEarly,
@@ -116,6 +127,11 @@ impl Fault {
         Self::UnusedWritten,
         Self::HeaderWritten,
         Self::TextNotFilled,
+        Self::PageDigitOff,
+        Self::PageLeavesOfDone,
+        Self::PageReversed,
+        Self::EightAtJustEnough,
+        Self::PagePastItsEnd,
     ];
 
     /// Faults that calls with bad input find.
@@ -267,6 +283,30 @@ pub fn write(fault: Fault, before: &Book, after: &mut Book) {
     if let (Fault::OtherOrderTouched, Some(first)) = (fault, after.orders.first_mut()) {
         first.exec_seq += 1;
     }
+}
+
+/// Faults that alter the printed page.
+pub fn page(fault: Option<Fault>, machine: &Machine, mut page: Vec<u8>) -> Vec<u8> {
+    let mut lines: Vec<&mut [u8]> = page.chunks_mut(LINE).collect();
+    match fault {
+        Some(Fault::PageDigitOff) => {
+            lines.iter_mut().for_each(|line| line[50] = if line[50] == b'9' { b'0' } else { line[50] + 1 });
+        }
+        Some(Fault::PageLeavesOfDone) => {
+            for (line, name) in lines.iter_mut().zip(names(machine)) {
+                let mut machine = machine.clone();
+                let order = machine.order_mut(&name).expect("a booked order");
+                let leaves = format!("{:>14.4}", order.request.qty - order.cum_qty);
+                line[65..79].copy_from_slice(leaves.as_bytes());
+            }
+        }
+        Some(Fault::PageReversed) => {
+            lines.reverse();
+            return lines.concat();
+        }
+        _ => {}
+    }
+    page
 }
 
 fn write_order(fault: Fault, was: &layout::Order, order: &mut layout::Order) {

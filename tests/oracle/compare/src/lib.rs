@@ -12,6 +12,7 @@ pub mod keeps;
 pub mod layout;
 pub mod minimize;
 pub mod mirror;
+pub mod page;
 pub mod probes;
 pub mod show;
 pub mod stand_in;

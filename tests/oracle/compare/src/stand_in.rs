@@ -1,4 +1,4 @@
-//! Stands in for the ported library: the model behind the three C entries, its book written by
+//! Stands in for the ported library: the model behind the C entries, its book written by
 //! docs/LAYOUT.md, with faults that can be planted in it. Each call reads the Rust's book from the
 //! bytes and writes it back, so that nothing is kept between calls.
 
@@ -8,13 +8,14 @@ use model::Machine;
 use model::answer::bytes;
 use model::machine::{ANSWER_BYTES, BOOK_BYTES};
 
-use crate::entries::Entries;
+use crate::entries::{Counted, Entries};
 use crate::faults::{self, Fault};
 use crate::keeps::broken_but;
 use crate::layout::Book;
 use crate::mirror;
+use crate::page;
 
-pub const STAND_IN: Entries = Entries { start, event, check };
+pub const STAND_IN: Entries = Entries { start, event, check, page: print };
 
 thread_local! {
     static FAULT: Cell<Option<Fault>> = const { Cell::new(None) };
@@ -48,6 +49,26 @@ unsafe extern "C" fn check(book: *const u8, book_len: usize) -> u32 {
     // SAFETY: what the caller lends, and it is only read.
     let book = unsafe { lent(book.cast_mut(), book_len) };
     (!keeps(book)).into()
+}
+
+unsafe extern "C" fn print(book: *const u8, book_len: usize, out: *mut u8, out_len: usize) -> Counted {
+    // SAFETY: what the caller lends, twice; the book is only read.
+    let (book, out) = unsafe { (lent(book.cast_mut(), book_len), lent(out, out_len)) };
+    let refused = |refusal: u32| Counted { refusal, number: 0 };
+    if !keeps(book) {
+        return refused(1);
+    }
+    let (machine, _) = mirror::machine(&Book::read(book));
+    let page = faults::page(FAULT.get(), &machine, page::page(&machine));
+    let room = if FAULT.get() == Some(Fault::EightAtJustEnough) { page.len() + 1 } else { page.len() };
+    if out.len() < room {
+        return refused(8);
+    }
+    out[..page.len()].copy_from_slice(&page);
+    if FAULT.get() == Some(Fault::PagePastItsEnd) && out.len() > page.len() {
+        out[page.len()] ^= 1;
+    }
+    Counted { refusal: 0, number: page.len() as u32 }
 }
 
 /// Question 1, as the planted fault asks it.

@@ -131,6 +131,13 @@ impl Book {
     }
 }
 
+impl Order {
+    /// The order's own `leaves_qty`.
+    pub fn leaves(&self) -> Decimal {
+        self.leaves_qty()
+    }
+}
+
 fn first_request(order: OrderId, request: &OrderRequest, sent_at: DateTime<Utc>) -> Sent {
     Sent {
         order,

@@ -12,7 +12,7 @@ use compare::expected::{self, Lent};
 use compare::faults::Fault;
 use compare::layout::Header;
 use compare::stand_in::{STAND_IN, plant};
-use compare::{books, show};
+use compare::{books, page, show};
 use lists::damage::damage;
 use lists::random::Random;
 use lists::{Generator, PROFILES, Profile};
@@ -110,6 +110,7 @@ impl<'a> User<'a> {
                 (entries.start)(null, 0, 1),
                 (entries.check)(null, 0),
                 (entries.event)(null, 0, null, 0, null, 0),
+                (entries.page)(null, 0, null, 0).refusal,
             ]
         };
         let mut book = self.full.clone();
@@ -119,9 +120,9 @@ impl<'a> User<'a> {
         let (start, length) = (answer.as_mut_ptr(), answer.len());
         // SAFETY: a whole book and an answer buffer are lent.
         let no_record = unsafe { (entries.event)(book.as_mut_ptr(), book.len(), null, 0, start, length) };
-        self.calls += 5;
+        self.calls += 6;
         match (given, on_book, no_record) {
-            ([1, 1, 1], 2, 3) => Ok(()),
+            ([1, 1, 1, 1], 2, 3) => Ok(()),
             given => Err(format!("on slices of no length: {given:?}")),
         }
     }
@@ -263,6 +264,7 @@ impl<'a> User<'a> {
         if check != u32::from(!lent.keeps()) || book.back()? != lent.bytes {
             return Err(format!("check gives {check} on {} bytes, or writes", lent.bytes.len()));
         }
+        page::holds(self.entries, book.lend(), lent.machine())?;
         let setting = self.random.next() as u32;
         let started = self.entries.start(book.lend(), setting);
         let after = book.back()?;
@@ -276,7 +278,7 @@ impl<'a> User<'a> {
             ));
         }
         book.lend().copy_from_slice(&lent.bytes);
-        self.calls += 2;
+        self.calls += 3;
         Ok(())
     }
 }

@@ -1,0 +1,4 @@
+pub mod Page
+pub mod Promise
+pub mod Laws
+pub mod Sample
