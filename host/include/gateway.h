@@ -76,7 +76,7 @@ enum {
 
 /* Kinds of messages: the bits that the record has; those that it may have. */
 enum {
-    JUBAFIYE_MESSAGE_REPORT = 16,        /* 0 2 3 6 7 8 9 12 13 14 16 17 24 25 26; 4 10 11, 20 or 27, 19 with 28 */
+    JUBAFIYE_MESSAGE_REPORT = 16,        /* 0 2 3 6 7 8 9 12 13 14 16 17 24 25 26 31; 4 10 11, 20 or 27, 19 with 28 */
     JUBAFIYE_MESSAGE_CANCEL_REJECT = 17, /* 0 3 4 13 19 28 29, 20 or 27; 2 */
     JUBAFIYE_MESSAGE_NEW_ORDER = 18,     /* 1 5 6 7 8 9; 10 11 */
     JUBAFIYE_MESSAGE_CANCEL = 19,        /* 1 5 6 7 8 9 30; 10 11 18 */
@@ -126,7 +126,9 @@ enum {
     JUBAFIYE_FIXED_TEXT = 27,      /* 1: 1 to 18 */
     JUBAFIYE_ORIGIN = 28,          /* 1: whose the reason is, 1 ours, 2 the venue's */
     JUBAFIYE_RESPONSE_TO = 29,     /* 1: 1 cancel, 2 replace */
-    JUBAFIYE_ORIG_DOWNSTREAM = 30  /* text 1 to 32 */
+    JUBAFIYE_ORIG_DOWNSTREAM = 30, /* text 1 to 32 */
+    JUBAFIYE_PRICE_SOURCE = 31     /* 1: FILL_PRICE is 1 the venue's LastPx, 2 the implied quotient, 3 the average;
+                                    * 0 where no venue's report set it */
 };
 
 #ifdef __cplusplus

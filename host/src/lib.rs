@@ -61,6 +61,6 @@ pub use entries::{ANSWER_BYTES, BOOK_BYTES};
 pub use error::{BadAnswer, Error, Fault, Refusal};
 pub use event::{Amend, Booking, Event, RejectedRequest, Replace, VenueReport};
 pub use fields::{ExecType, OrdStatus, OrdType, Side, TimeInForce};
-pub use message::{CancelReject, Message, Report, RequestKind, ToVenue};
+pub use message::{CancelReject, Message, PriceSource, Report, RequestKind, ToVenue};
 pub use page::{Page, PAGE_BYTES};
 pub use words::{FixedText, Reason, RiskReject, Words};

@@ -39,8 +39,10 @@ pub struct Report {
     pub status: OrdStatus,
     /// LastQty(32): the rise of the cumulative quantity.
     pub last_qty: Qty,
-    /// LastPx(31).
+    /// LastPx(31): the price of the rise, in a report without one the venue's LastPx or else its AvgPx.
     pub last_px: Price,
+    /// Where `last_px` comes from: none in a report that answers no venue's report, where it is 0.
+    pub price_source: Option<PriceSource>,
     /// CumQty(14).
     pub cum_qty: Qty,
     /// AvgPx(6).
@@ -58,6 +60,24 @@ pub struct Report {
 listed! {
     /// Which request an answer is for: CxlRejResponseTo(434).
     RequestKind: number, from_number { Cancel = 1 "cancel", Replace = 2 "replace" }
+}
+
+listed! {
+    /// Where the LastPx(31) of a report comes from. It follows the rule that gave the price: an implied price that happens to
+    /// be the venue's LastPx is still implied.
+    ///
+    /// ```
+    /// # use jubafiye::PriceSource;
+    /// assert_eq!(PriceSource::from_number(2), Some(PriceSource::Implied));
+    /// assert_eq!(PriceSource::LastPx.number(), 1);
+    /// assert_eq!(PriceSource::Average.to_string(), "average");
+    /// ```
+    #[non_exhaustive]
+    PriceSource: number, from_number {
+        LastPx = 1 "the venue's LastPx",
+        Implied = 2 "implied",
+        Average = 3 "average",
+    }
 }
 
 /// An OrderCancelReject for a client.
@@ -185,7 +205,11 @@ impl fmt::Display for Report {
     fn fmt(&self, f: &mut fmt::Formatter<'_>) -> fmt::Result {
         let Self { client, exec_type, status, last_qty, last_px, cum_qty, leaves_qty, .. } = self;
         write!(f, "to client {client}: {}, {exec_type}, {status}, ", line(&self.cl_ord_id))?;
-        write!(f, "last {last_qty} at {last_px}, cum {cum_qty}, leaves {leaves_qty}")?;
+        write!(f, "last {last_qty} at {last_px}")?;
+        if let Some(source) = self.price_source {
+            write!(f, " ({source})")?;
+        }
+        write!(f, ", cum {cum_qty}, leaves {leaves_qty}")?;
         if let Some(reason) = self.reason {
             write!(f, ", {reason}")?;
         }
@@ -244,6 +268,19 @@ listed_fields! {
     FixedText, from_number;
     RequestKind, from_number;
     Origin, from_number;
+    MaybeSource, from_number;
+}
+
+/// A byte for a price source or, as 0, for none.
+struct MaybeSource(Option<PriceSource>);
+
+impl MaybeSource {
+    fn from_number(number: u8) -> Option<Self> {
+        match number {
+            0 => Some(Self(None)),
+            number => PriceSource::from_number(number).map(|source| Self(Some(source))),
+        }
+    }
 }
 
 /// Whose a reason is.
@@ -306,6 +343,7 @@ impl Report {
             leaves_qty: Qty::default(),
             exec_seq: 0,
             last_px: Price::default(),
+            price_source: None,
             reason: None,
             text: None,
         };
@@ -314,6 +352,8 @@ impl Report {
         report.exec_seq = r.field(Bit::EXEC_SEQ)?;
         report.last_px = Price(r.field(Bit::FILL_PRICE)?);
         (report.reason, report.text) = why.whole(r)?;
+        let MaybeSource(source) = r.field(Bit::PRICE_SOURCE)?;
+        report.price_source = source;
         Ok(report)
     }
 }

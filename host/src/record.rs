@@ -52,6 +52,7 @@ fields! {
     ORIGIN = 28,
     RESPONSE_TO = 29,
     ORIG_DOWNSTREAM = 30,
+    PRICE_SOURCE = 31,
 }
 
 impl Bit {

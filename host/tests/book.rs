@@ -2,8 +2,8 @@
 
 use jubafiye::{
     Alarm, Amend, Answer, Book, Booking, CancelReject, Error, Event, ExecType, FixedText, Message, OrdStatus,
-    OrdType, Price, Qty, Reason, Refusal, RejectedRequest, Replace, Report, RequestKind, RiskReject, Side,
-    TimeInForce, VenueReport, Words, ANSWER_BYTES, BOOK_BYTES,
+    OrdType, Price, PriceSource, Qty, Reason, Refusal, RejectedRequest, Replace, Report, RequestKind,
+    RiskReject, Side, TimeInForce, VenueReport, Words, ANSWER_BYTES, BOOK_BYTES,
 };
 
 fn booking<'a>(name: &'a [u8], cl_ord_id: &'a [u8]) -> Booking<'a> {
@@ -93,10 +93,37 @@ fn a_fill_is_told_as_the_rise_at_its_price() {
     // A report was missed: 30 more at (70 * 10.3 - 40 * 10) / 30.
     let told = reported(&mut book, &report(b"A", 70, 10, 1_030_000_000));
     assert_eq!((told.last_qty, told.last_px.to_string()), (Qty::units(30), "10.7".into()));
+    assert_eq!(told.price_source, Some(PriceSource::Implied));
     assert_eq!((told.exec_seq, told.status), (3, OrdStatus::PartiallyFilled));
     let over = book.take(&report(b"A", 101, 31, 1_030_000_000)).unwrap();
     assert_eq!((over.messages, over.alarms), (vec![], vec![Alarm::Overfill]));
     assert!(book.keeps_rules());
+}
+
+#[test]
+fn a_price_has_the_source_of_its_rule() {
+    let mut book = Book::new(10_000);
+    book.take(&Event::Book(booking(b"A", b"C1"))).unwrap();
+    let told = |book: &mut Book, event: &Event<'_>| {
+        let told = reported(book, event);
+        (told.last_px, told.price_source)
+    };
+    let at_11 = Price::units(11);
+    // Nothing filled: LastPx is told all the same.
+    assert_eq!(told(&mut book, &report(b"A", 0, 0, 0)), (at_11, Some(PriceSource::LastPx)));
+    assert_eq!(told(&mut book, &report(b"A", 1, 1, at_11.0)), (at_11, Some(PriceSource::LastPx)));
+    // A fill was missed: implied, though it is LastPx again.
+    assert_eq!(told(&mut book, &report(b"A", 3, 1, at_11.0)), (at_11, Some(PriceSource::Implied)));
+    // No price above 0 is implied.
+    assert_eq!(told(&mut book, &report(b"A", 4, 2, 0)), (Price(0), Some(PriceSource::Average)));
+    // No venue reported: a request that comes again, and a first send that fails.
+    let again = Amend { redelivered: true, ..amend(b"C1") };
+    assert_eq!(told(&mut book, &Event::Cancel(again)), (Price(0), None));
+    let again = Replace { amend: again, ..replace(b"C1", 50) };
+    assert_eq!(told(&mut book, &Event::Replace(again)), (Price(0), None));
+    book.take(&Event::Book(booking(b"B", b"C2"))).unwrap();
+    let failed = Event::SendFailed { venue: 3, downstream: b"B", text: b"down" };
+    assert_eq!(told(&mut book, &failed), (Price(0), None));
 }
 
 #[test]
@@ -280,7 +307,15 @@ fn a_message_is_shown_as_one_line() {
     let mut book = live();
     let line = |book: &mut Book, event: Event<'_>| one(book, &event).to_string();
     let told = line(&mut book, report(b"A", 40, 40, 1_000_000_000));
-    assert_eq!(told, "report to client 7: C1, trade, partially filled, last 40 at 11, cum 40, leaves 60");
+    assert_eq!(
+        told,
+        "report to client 7: C1, trade, partially filled, last 40 at 11 (the venue's LastPx), cum 40, leaves 60"
+    );
+    let again = Event::Cancel(Amend { redelivered: true, ..amend(b"C1") });
+    assert_eq!(
+        line(&mut book, again),
+        "report to client 7: C1, order status, partially filled, last 0 at 0, cum 40, leaves 60"
+    );
     let below = line(&mut book, Event::Replace(replace(b"C2", 39)));
     assert_eq!(
         below,

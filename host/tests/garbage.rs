@@ -1,8 +1,8 @@
 //! Bytes that are no answer, no record or no book: nothing panics, and what does not read comes back whole.
 
 use jubafiye::{
-    Amend, Answer, Book, Booking, Event, ExecType, Message, OrdStatus, OrdType, Price, Qty, RejectedRequest,
-    Replace, Side, TimeInForce, VenueReport, ANSWER_BYTES, BOOK_BYTES,
+    Amend, Answer, Book, Booking, Event, ExecType, Fault, Message, OrdStatus, OrdType, Price, PriceSource,
+    Qty, RejectedRequest, Replace, Side, TimeInForce, VenueReport, ANSWER_BYTES, BOOK_BYTES,
 };
 
 /// Numbers that are the same each time (splitmix64).
@@ -166,6 +166,41 @@ fn an_answer_with_one_byte_changed() {
         }
     }
     assert!(read_still > 0);
+}
+
+#[test]
+fn a_price_source_stands_in_every_report_and_in_no_other_message() {
+    const MAP_END: usize = 8;
+    let fault = |bytes: &[u8]| Answer::read(bytes).map_err(|bad| bad.fault());
+    let mut kinds = Vec::new();
+    for answer in answers().into_iter().filter(|answer| answer[2] == 1) {
+        let kind = answer[4];
+        kinds.push(kind);
+        let mut changed = answer.clone();
+        if kind != 16 {
+            changed[MAP_END] |= 0x80;
+            changed[0] += 1;
+            changed.push(1);
+            assert_eq!(fault(&changed), Err(Fault::Unexpected { kind, map: 1 << 31 }));
+            continue;
+        }
+        // It is a report's last byte.
+        let last = answer.len() - 1;
+        for number in 0..=u8::MAX {
+            changed[last] = number;
+            let source = fault(&changed).map(|answer| match &answer.messages[..] {
+                [Message::Report(report)] => report.price_source.map_or(0, PriceSource::number),
+                messages => panic!("a report: {messages:?}"),
+            });
+            let code = Fault::Code { bit: 31, code: number };
+            assert_eq!(source, if number <= 3 { Ok(number) } else { Err(code) });
+        }
+        changed[MAP_END] &= 0x7F;
+        changed[0] -= 1;
+        changed.truncate(last);
+        assert_eq!(fault(&changed), Err(Fault::Missing { kind, bit: 31 }));
+    }
+    assert!([16, 17, 18, 19, 20].iter().all(|kind| kinds.contains(kind)), "{kinds:?}");
 }
 
 #[test]

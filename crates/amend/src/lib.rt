@@ -171,7 +171,7 @@ fn status_report(f: Findings, o: Order, e: Record) -> Change
         orig,
         codes::EXEC_STATUS,
         0,
-        [0, 0],
+        message::NO_PRICE,
         message::NO_NOTE,
     );
     change::saying(m, f.place, order)

@@ -173,7 +173,7 @@ fn first_failed(f: Findings, k: u16, n: Note, o: Order) -> Change
         order::NO_TEXT,
         codes::EXEC_REJECTED,
         0,
-        [0, 0],
+        message::NO_PRICE,
         note,
     );
     change::telling(m, change::settled(k, f.place, order))

@@ -27,9 +27,9 @@ star = playing (empty 10000) (books ∷ acknowledges ∷ [])
 abbrev filled : (cum avg sequence : ℕ) → Order
 filled = standing 49
 
--- a fill, told as LastQty at a price, with what it leaves
-abbrev told : (event : List ℕ) (last leaves price : ℕ) → Order → Row
-told event last leaves price o = row event (reported o 70 last leaves price ∷ []) 0 o (first ∷ [])
+-- a fill, told as LastQty at a price from a source, with what it leaves
+abbrev told : (event : List ℕ) (last leaves price source : ℕ) → Order → Row
+told event last leaves price source o = row event (reported o 70 last leaves price source ∷ []) 0 o (first ∷ [])
 
 -- the gateway's cancel of that number goes out, so many tries and requests by then
 abbrev tried : (event : List ℕ) (n : ℕ) → Row
@@ -48,19 +48,19 @@ record Table : Type 0 where
   -- From there cum 70, last 10 at 11, avg 10.3: LastQty 30 at 10.7
   forty : Goes (empty 10000)
       (row books [] 0 (standing 65 0 0 0) (first ∷ [])
-      ∷ row acknowledges (reported (standing 48 0 0 1) 48 0 100 0 ∷ []) 0 (standing 48 0 0 1) (first ∷ [])
-      ∷ told (fills 40 40 (money 10) (money 10)) 40 60 (money 10) (filled 40 (money 10) 2)
+      ∷ row acknowledges (reported (standing 48 0 0 1) 48 0 100 0 3 ∷ []) 0 (standing 48 0 0 1) (first ∷ [])
+      ∷ told (fills 40 40 (money 10) (money 10)) 40 60 (money 10) 1 (filled 40 (money 10) 2)
       ∷ row (fills 40 40 (money 10) (money 10)) [] 0 (filled 40 (money 10) 2) (first ∷ [])
-      ∷ told (fills 70 10 (money 11) 1030000000) 30 30 1070000000 (filled 70 1030000000 3)
+      ∷ told (fills 70 10 (money 11) 1030000000) 30 30 1070000000 2 (filled 70 1030000000 3)
       ∷ [])
   -- * Cum 100 applies; cum 101 gives alarm 2, all fields stay
   hundred : Goes star
-      (told (fills 100 100 (money 10) (money 10)) 100 0 (money 10) (filled 100 (money 10) 2)
+      (told (fills 100 100 (money 10) (money 10)) 100 0 (money 10) 1 (filled 100 (money 10) 2)
       ∷ row (fills 101 1 (money 10) (money 10)) [] 2 (filled 100 (money 10) 2) (first ∷ [])
       ∷ [])
   -- * At cum 40 replace to 39: refused, text 3; to 40: goes out
   replaced : Goes star
-      (told (fills 40 40 (money 10) (money 10)) 40 60 (money 10) (filled 40 (money 10) 2)
+      (told (fills 40 40 (money 10) (money 10)) 40 60 (money 10) 1 (filled 40 (money 10) 2)
       ∷ row (replaces D 39) (refused 49 2 99 3 ∷ []) 0 (filled 40 (money 10) 2) (first ∷ [])
       ∷ row (replaces D 40) (toVenue′ 20 (X- 1) 40 ∷ []) 0
       (orderX (state 49 40 (money 10) 2) (links 1 1 0) (record { request = 2; qty = shares 40; price = money 10; ordtype = 50; timeinforce = 0 }) noGateway)
@@ -68,18 +68,18 @@ record Table : Type 0 where
       ∷ [])
   -- * Cum 1 avg 1, then cum 3, last 1, avg 1.00000001: price 1.00000002
   up : Goes star
-      (told (fills 1 1 (money 1) (money 1)) 1 99 (money 1) (filled 1 (money 1) 2)
-      ∷ told (fills 3 1 (money 1) 100000001) 2 97 100000002 (filled 3 100000001 3)
+      (told (fills 1 1 (money 1) (money 1)) 1 99 (money 1) 1 (filled 1 (money 1) 2)
+      ∷ told (fills 3 1 (money 1) 100000001) 2 97 100000002 2 (filled 3 100000001 3)
       ∷ [])
   -- With first avg 1.00000002: price 1
   down : Goes star
-      (told (fills 1 1 (money 1) 100000002) 1 99 (money 1) (filled 1 100000002 2)
-      ∷ told (fills 3 1 (money 1) 100000001) 2 97 (money 1) (filled 3 100000001 3)
+      (told (fills 1 1 (money 1) 100000002) 1 99 (money 1) 1 (filled 1 100000002 2)
+      ∷ told (fills 3 1 (money 1) 100000001) 2 97 (money 1) 2 (filled 3 100000001 3)
       ∷ [])
   -- * Cum 2 avg 1, then cum 3, last 0, avg 0.5: price 0.5
   average : Goes star
-      (told (fills 2 2 (money 1) (money 1)) 2 98 (money 1) (filled 2 (money 1) 2)
-      ∷ told (fills 3 0 0 50000000) 1 97 50000000 (filled 3 50000000 3)
+      (told (fills 2 2 (money 1) (money 1)) 2 98 (money 1) 1 (filled 2 (money 1) 2)
+      ∷ told (fills 3 0 0 50000000) 1 97 50000000 3 (filled 3 50000000 3)
       ∷ [])
   -- * Three refused gateway cancels, reason 99: stuck, alarm 1
   three : Goes star (tried gatewayCancels 1 ∷ tried (rejects (X- 1) 99) 2 ∷ tried (rejects (X- 2) 99) 3 ∷ stuck! (rejects (X- 3) 99) 3 ∷ [])

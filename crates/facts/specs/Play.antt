@@ -287,11 +287,11 @@ manyRequests n = record {
   requests = first ∷ listBelow (λ k. record { order = 0; kind = 3; answered = 1; clordid = noText; origclordid = noText; downstream = numberedText (textOf X) (k + 1) }) n;
 }
 
--- message 16 under C: the order as it is left, with an ExecType, LastQty and LeavesQty in shares, and the fill price
-abbrev pub reported : Order → (exectype last leaves price : ℕ) → Message
-reported o exectype last leaves price = record {
+-- message 16 under C: the order as it is left, with an ExecType, LastQty and LeavesQty in shares, the fill price and its source
+abbrev pub reported : Order → (exectype last leaves price source : ℕ) → Message
+reported o exectype last leaves price source = record {
   kind = 16;
-  map = mapOf (0 ∷ 2 ∷ 3 ∷ 6 ∷ 7 ∷ 8 ∷ 9 ∷ 10 ∷ 12 ∷ 13 ∷ 14 ∷ 16 ∷ 17 ∷ 24 ∷ 25 ∷ 26 ∷ []);
+  map = mapOf (0 ∷ 2 ∷ 3 ∷ 6 ∷ 7 ∷ 8 ∷ 9 ∷ 10 ∷ 12 ∷ 13 ∷ 14 ∷ 16 ∷ 17 ∷ 24 ∷ 25 ∷ 26 ∷ 31 ∷ []);
   client = 7;
   venue = 0;
   reason = 0;
@@ -299,7 +299,7 @@ reported o exectype last leaves price = record {
   ids = record { name = textOf X; clordid = textOf C; origclordid = noText; downstream = noText; symbol = textOf W; venueorderid = noText; origdownstream = noText };
   terms = terms 100;
   exec = record { exectype = exectype; status = o .state .status; lastqty = shares last; lastpx = 0; cumqty = o .state .cumqty; avgpx = o .state .avgpx };
-  told = record { leavesqty = shares leaves; execseq = o .state .execseq; fillprice = price ∷ 0 ∷ []; fixedtext = 0; origin = 0; responseto = 0 };
+  told = record { leavesqty = shares leaves; execseq = o .state .execseq; fillprice = price ∷ 0 ∷ []; fixedtext = 0; origin = 0; responseto = 0; source = source };
   text = noLongText;
 }
 
@@ -315,7 +315,7 @@ refused status responseto reason text = record {
   ids = record { name = textOf X; clordid = textOf D; origclordid = textOf C; downstream = noText; symbol = noText; venueorderid = noText; origdownstream = noText };
   terms = noTerms;
   exec = record { exectype = 0; status = status; lastqty = 0; lastpx = 0; cumqty = 0; avgpx = 0 };
-  told = record { leavesqty = 0; execseq = 0; fillprice = 0 ∷ 0 ∷ []; fixedtext = text; origin = 1; responseto = responseto };
+  told = record { leavesqty = 0; execseq = 0; fillprice = 0 ∷ 0 ∷ []; fixedtext = text; origin = 1; responseto = responseto; source = 0 };
   text = noLongText;
 }
 

@@ -59,6 +59,9 @@ to64 = 14
 abbrev pub upto32 : ℕ
 upto32 = 15
 
+abbrev pub source : ℕ
+source = 16
+
 -- whether a number, or the length of a text, is in a range
 unfoldable pub inRange : ℕ → ℕ → Bool
 inRange g v =
@@ -77,6 +80,7 @@ inRange g v =
     if eqb g to20 then within 1 20 v else
     if eqb g to32 then within 1 32 v else
     if eqb g to64 then within 1 64 v else
+    if eqb g source then leb v 3 else
     leb v 32
 
 -- the bytes of a number, or `text`: a length byte and as many bytes
@@ -123,7 +127,7 @@ fields =
     ∷ row 1 either  -- 28 reason's origin
     ∷ row 1 either  -- 29 response-to
     ∷ row text to32  -- 30 original downstream
-    ∷ row 0 any  -- 31
+    ∷ row 1 source  -- 31 source of the fill price
     ∷ []
 
 unfoldable pub size : ℕ → ℕ
@@ -154,7 +158,7 @@ requiredBits =
     ∷ (1 ∷ 5 ∷ [])  -- 8 send again
     ∷ (2 ∷ [])  -- 9 gateway cancel
     ∷ [] ∷ [] ∷ [] ∷ [] ∷ [] ∷ []
-    ∷ (0 ∷ 2 ∷ 3 ∷ 6 ∷ 7 ∷ 8 ∷ 9 ∷ 12 ∷ 13 ∷ 14 ∷ 16 ∷ 17 ∷ 24 ∷ 25 ∷ 26 ∷ [])  -- 16 report
+    ∷ (0 ∷ 2 ∷ 3 ∷ 6 ∷ 7 ∷ 8 ∷ 9 ∷ 12 ∷ 13 ∷ 14 ∷ 16 ∷ 17 ∷ 24 ∷ 25 ∷ 26 ∷ 31 ∷ [])  -- 16 report
     ∷ (0 ∷ 3 ∷ 4 ∷ 13 ∷ 19 ∷ 28 ∷ 29 ∷ [])  -- 17 cancel reject
     ∷ (1 ∷ 5 ∷ 6 ∷ 7 ∷ 8 ∷ 9 ∷ [])  -- 18 new order
     ∷ (1 ∷ 5 ∷ 6 ∷ 7 ∷ 8 ∷ 9 ∷ 30 ∷ [])  -- 19 cancel

@@ -18,7 +18,7 @@ use Rattle.machine.specs.Constants.{cancelKind, replaceKind, tooLate, un
 use Rattle.format.specs.Codes.{pendingNew, new, partiallyFilled, pendingCancel, pendingReplace, rejected, execRejected, execStatus, limit}
 use Rattle.machine.specs.Orders.{oneMore, hasPending, hasGateway, limitPrice, isDone, setStatus, recordVenueOrderId, pendingTerms, nextExec, withPending, withGateway, isEmpty}
 use Rattle.store.specs.Orders.{noPending}
-use Rattle.machine.specs.Messages.{report, cancelReject, newOrder, cancelRequest, replaceRequest, noNote, noLongText}
+use Rattle.machine.specs.Messages.{noPrice, report, cancelReject, newOrder, cancelRequest, replaceRequest, noNote, noLongText}
 use Rattle.machine.specs.Changes.{Event, unchanged, refusing, withOrder, answering, adding, telling, isFirst, isReplace, isGateway, isCancel, isAnswered, nextLink, nextDownstream, nextRequest, numberedOrder}
 use Rattle.machine.specs.GatewayCancel.{gatewayCancelInFlight, gatewayCancelRefused, resumeGatewayCancel}
 use Rattle.machine.specs.declared.Findings.{Findings}
@@ -67,7 +67,7 @@ refuse f responseto o e r =
 -- a request that was already taken, sent again: the order's state under the request's own ClOrdIDs
 unfoldable pub statusReport : Findings → Order → Event → Change
 statusReport f o e =
-    telling (report (nextExec o) (e .ids .clordid) (e .ids .origclordid) execStatus 0 (0 ∷ (0 ∷ [])) noNote) (unchanged (f .place) (nextExec o))
+    telling (report (nextExec o) (e .ids .clordid) (e .ids .origclordid) execStatus 0 noPrice noNote) (unchanged (f .place) (nextExec o))
 
 -- the event was redelivered, and its ClOrdID was used for this very order
 unfoldable pub alreadyTaken : Findings → (order : ℕ) → Event → Bool
@@ -228,7 +228,7 @@ unfoldable pub firstFailed : Findings → ℕ → Note → Order → Change
 firstFailed f k n o =
     let o′ = nextExec (setStatus rejected o) in
     telling
-    (report o′ (o′ .names .clordid) noText execRejected 0 (0 ∷ (0 ∷ [])) (record { text = n .text; fixedtext = n .fixedtext; reason = other; origin = ours }))
+    (report o′ (o′ .names .clordid) noText execRejected 0 noPrice (record { text = n .text; fixedtext = n .fixedtext; reason = other; origin = ours }))
     (answering k (unchanged (f .place) o′))
 
 unfoldable pub sendFailed : Findings → ℕ → Request → (venue : ℕ) → Note → Order → Change

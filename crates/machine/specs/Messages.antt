@@ -4,6 +4,8 @@ use mathlib.Core.Bool.{Bool, true, false, not}
 use mathlib.Core.List.{List, [], _∷_}
 use lib.Dec.{eqb}
 use lib.ListN.{replicate}
+use Rattle.wide.specs.declared.Priced.{Priced}
+use Rattle.format.specs.Format.{required}
 use Rattle.prelude.specs.Cases.{if_then_else_}
 use Rattle.prelude.specs.declared.Text.{Text}
 use Rattle.prelude.specs.declared.Terms.{Terms}
@@ -35,7 +37,7 @@ abbrev pub noExec : Exec
 noExec = record { exectype = 0; status = 0; lastqty = 0; lastpx = 0; cumqty = 0; avgpx = 0 }
 
 abbrev pub noTold : Told
-noTold = record { leavesqty = 0; execseq = 0; fillprice = 0 ∷ (0 ∷ []); fixedtext = 0; origin = 0; responseto = 0 }
+noTold = record { leavesqty = 0; execseq = 0; fillprice = 0 ∷ (0 ∷ []); fixedtext = 0; origin = 0; responseto = 0; source = 0 }
 
 abbrev pub noMessage : Record
 noMessage = record {
@@ -52,6 +54,10 @@ noMessage = record {
   text = noLongText;
 }
 
+-- no price, and no rule that set one
+abbrev pub noPrice : Priced
+noPrice = record { price = 0 ∷ (0 ∷ []); source = 0 }
+
 abbrev pub noNote : Note
 noNote = record { text = noLongText; fixedtext = 0; reason = 0; origin = 0 }
 
@@ -65,12 +71,10 @@ noteBits n =
     + (bitIf (not (eqb (n .origin) 0)) 19 + bitIf (not (eqb (n .origin) 0)) 28)
 
 -- `Order::report` and what `client_report` and its like set: where the order stands, under a ClOrdID and perhaps an OrigClOrdID
-unfoldable pub report : Order → (clordid origclordid : Text) → (exectype lastqty : ℕ) → (fillprice : List ℕ) → Note → Record
-report o clordid origclordid exectype lastqty fillprice n = record {
+unfoldable pub report : Order → (clordid origclordid : Text) → (exectype lastqty : ℕ) → Priced → Note → Record
+report o clordid origclordid exectype lastqty price n = record {
   kind = reportKind;
-  map =
-      mapOf (0 ∷ (2 ∷ (3 ∷ (6 ∷ (7 ∷ (8 ∷ (9 ∷ (12 ∷ (13 ∷ (14 ∷ (16 ∷ (17 ∷ (24 ∷ (25 ∷ (26 ∷ [])))))))))))))))
-      + (bitIf (not (isEmpty origclordid)) 4 + (termsBits (o .terms) + noteBits n));
+  map = required reportKind + (bitIf (not (isEmpty origclordid)) 4 + (termsBits (o .terms) + noteBits n));
   client = o .client;
   venue = 0;
   reason = n .reason;
@@ -78,7 +82,7 @@ report o clordid origclordid exectype lastqty fillprice n = record {
   ids = record { name = o .names .name; clordid = clordid; origclordid = origclordid; downstream = noText; symbol = o .names .symbol; venueorderid = noText; origdownstream = noText };
   terms = o .terms;
   exec = record { exectype = exectype; status = o .state .status; lastqty = lastqty; lastpx = 0; cumqty = o .state .cumqty; avgpx = o .state .avgpx };
-  told = record { leavesqty = leavesQty o; execseq = o .state .execseq; fillprice = fillprice; fixedtext = n .fixedtext; origin = n .origin; responseto = 0 };
+  told = record { leavesqty = leavesQty o; execseq = o .state .execseq; fillprice = price .price; fixedtext = n .fixedtext; origin = n .origin; responseto = 0; source = price .source };
   text = n .text;
 }
 
@@ -94,7 +98,7 @@ cancelReject client name status clordid origclordid responseto n = record {
   ids = record { name = name; clordid = clordid; origclordid = origclordid; downstream = noText; symbol = noText; venueorderid = noText; origdownstream = noText };
   terms = noTerms;
   exec = record { exectype = 0; status = status; lastqty = 0; lastpx = 0; cumqty = 0; avgpx = 0 };
-  told = record { leavesqty = 0; execseq = 0; fillprice = 0 ∷ (0 ∷ []); fixedtext = n .fixedtext; origin = n .origin; responseto = responseto };
+  told = record { leavesqty = 0; execseq = 0; fillprice = 0 ∷ (0 ∷ []); fixedtext = n .fixedtext; origin = n .origin; responseto = responseto; source = 0 };
   text = n .text;
 }
 

@@ -4,7 +4,8 @@ use mathlib.Core.Bool.{Bool, true, false, not, _&&_, _||_}
 use mathlib.Core.List.{List, [], _∷_}
 use lib.Dec.{eqb, leb, ltb}
 use Rattle.prelude.specs.Cases.{if_then_else_}
-use Rattle.wide.specs.Wide.{words, fillPrice}
+use Rattle.wide.specs.declared.Priced.{Priced}
+use Rattle.wide.specs.Wide.{fillPrice}
 use Rattle.store.specs.declared.Order.{Order}
 use Rattle.store.specs.declared.Request.{Request}
 use Rattle.text.specs.Words.{noText}
@@ -102,16 +103,16 @@ reportedOrder accepted s q o e =
     setStatus (if eqb s 0 then o .state .status else s)
     (withState (record { status = o .state .status; cumqty = e .exec .cumqty; avgpx = e .exec .avgpx; execseq = o .state .execseq }) o′)
 
--- `fill_price`, of the order as it was
-unfoldable pub fillPriceOf : Order → Event → List ℕ
+-- `fill_price`, of the order as it was, with its source
+unfoldable pub fillPriceOf : Order → Event → Priced
 fillPriceOf o e =
-    words (fillPrice (e .exec .lastqty) (e .exec .lastpx) (e .exec .cumqty) (e .exec .avgpx) (o .state .cumqty) (o .state .avgpx) (e .exec .cumqty - o .state .cumqty))
+    fillPrice (e .exec .lastqty) (e .exec .lastpx) (e .exec .cumqty) (e .exec .avgpx) (o .state .cumqty) (o .state .avgpx) (e .exec .cumqty - o .state .cumqty)
 
 unfoldable pub reportNote : Event → Note
 reportNote e = record { text = e .text; fixedtext = 0; reason = if isRejection e then e .reason else 0; origin = if isRejection e && has e 19 then venues else 0 }
 
 -- `client_report`: what the client is told of the order as it is left, by the request that the report answers, if any. A rise is a Trade.
-unfoldable pub clientReport : (answers : Bool) (rise : ℕ) → Request → List ℕ → Order → Event → Message
+unfoldable pub clientReport : (answers : Bool) (rise : ℕ) → Request → Priced → Order → Event → Message
 clientReport answers rise q price o e =
     report o (if answers then q .clordid else o .names .clordid) (if answers then q .origclordid else noText)
     (if ltb 0 rise then execTrade else e .exec .exectype) rise price (reportNote e)

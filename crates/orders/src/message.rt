@@ -21,6 +21,7 @@ use records::LongText;
 use records::Record;
 use records::Told;
 use store::Order;
+use wide::Priced;
 
 pub const NO_LONG_TEXT: LongText = LongText {
     bytes: [0u8; 64],
@@ -51,6 +52,13 @@ const NO_TOLD: Told = Told {
     fixedtext: 0,
     origin: 0,
     responseto: 0,
+    source: 0,
+};
+
+// No price, and no rule that set one.
+pub const NO_PRICE: Priced = Priced {
+    price: [0, 0],
+    source: 0,
 };
 
 pub const NO_NOTE: Note = Note {
@@ -151,10 +159,11 @@ fn venue_map(kind: u8, venueorderid: Text, terms: Terms) -> u32
 }
 
 // What a report says that no event does.
-fn told_of(o: Order, fillprice: [u64; 2], n: Note) -> Told
-    ensures { λ r. ⌜ r ≡ toldOf o fillprice n ⌝ }
+fn told_of(o: Order, price: Priced, n: Note) -> Told
+    ensures { λ r. ⌜ r ≡ toldOf o price n ⌝ }
 {
     let leavesqty = leaves_qty(o);
+    let fillprice = price.price;
     Told {
         leavesqty,
         execseq: o.state.execseq,
@@ -162,6 +171,7 @@ fn told_of(o: Order, fillprice: [u64; 2], n: Note) -> Told
         fixedtext: n.fixedtext,
         origin: n.origin,
         responseto: 0,
+        source: price.source,
     }
 }
 
@@ -172,14 +182,14 @@ pub fn report(
     origclordid: Text,
     exectype: u8,
     lastqty: u64,
-    fillprice: [u64; 2],
+    price: Priced,
     n: Note,
 ) -> Record
-    ensures { λ r. ⌜ r ≡ report o clordid origclordid exectype lastqty fillprice n ⌝ }
+    ensures { λ r. ⌜ r ≡ report o clordid origclordid exectype lastqty price n ⌝ }
 {
     let terms = o.terms;
     let map = report_map(origclordid, terms, n);
-    let told = told_of(o, fillprice, n);
+    let told = told_of(o, price, n);
     let order = o.names;
     let name = order.name;
     let symbol = order.symbol;

@@ -63,11 +63,14 @@ fn length_in_range(g: u8, v: u64) -> bool
 
 // Whether a number is in a range.
 pub(crate) fn in_range(g: u8, v: u64) -> bool
-    requires { ⌜ g < 16 ⌝ }
+    requires { ⌜ g < 17 ⌝ }
     ensures { λ r. ⌜ r ≡ inRange g v ⌝ }
 {
     if g == 0 {
         return true;
+    }
+    if g == 16 {
+        return v <= 3;
     }
     if 11 <= g {
         return length_in_range(g, v);
@@ -122,7 +125,7 @@ const SIZES: [u8; 32] = [
     1,
     1,
     255,
-    0,
+    1,
 ];
 
 const RANGES: [u8; 32] = [
@@ -157,7 +160,7 @@ const RANGES: [u8; 32] = [
     10,
     10,
     13,
-    0,
+    16,
 ];
 
 // The bytes of field b, or 255 for a text.
@@ -170,7 +173,7 @@ pub(crate) fn size_of(b: usize) -> usize
 
 pub(crate) fn range_of(b: usize) -> u8
     requires { ⌜ b < 32 ⌝ }
-    ensures { λ r. ⌜ (r ≡ range b) × (r < 16) ⌝ }
+    ensures { λ r. ⌜ (r ≡ range b) × (r < 17) ⌝ }
 {
     RANGES[b]
 }

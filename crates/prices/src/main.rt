@@ -3,13 +3,14 @@
 // told. Rests on wide and on specs/Vectors.antt.
 use libc::STDIN_FILENO;
 use libc::STDOUT_FILENO;
+use wide::Priced;
 ghost use mathlib.Core.Path.{_≡_};
 ghost use Prim.Native.Nat.{_+_, _≤_};
 ghost use lib.Dec.{eqb};
 ghost use lib.ListN.{length};
 ghost use Rattle.prelude.specs.Number.{word64};
 ghost use Rattle.wide.specs.Wide.{value};
-ghost use Rattle.prices.specs.Vectors.{IsVector, priceOf, storedOf, sourceOf};
+ghost use Rattle.prices.specs.Vectors.{IsVector, pricedOf};
 
 // A question to `fill_price`, and the words of the stored answer.
 struct Vector {
@@ -27,7 +28,7 @@ struct Vector {
 // What came of a vector: where its price came from, 0 where there was no vector, and whether it is
 // the stored one.
 struct Verdict {
-    source: u64,
+    source: u8,
     same: bool,
 }
 
@@ -86,25 +87,11 @@ fn vector_of(s: &[u8]) -> Vector
     }
 }
 
-// Where the price of a vector comes from: 1 LastPx, 2 the implied quotient, 3 the average.
-fn source(v: Vector) -> u64
-    ensures { λ r. ⌜ r ≡ sourceOf v ⌝ }
+// The price of a vector, with its source.
+fn priced(v: Vector) -> Priced
+    ensures { λ r. ⌜ r ≡ pricedOf v ⌝ }
 {
-    if wide::by_last_px(v.lastqty, v.lastpx, v.rise) {
-        return 1;
-    }
-    let quotient = wide::implied(v.cumqty, v.avgpx, v.oldcum, v.oldavg, v.rise);
-    if wide::less([0, 0], quotient) {
-        return 2;
-    }
-    3
-}
-
-// Is the price of a vector the stored one?
-fn agrees(v: Vector) -> bool
-    ensures { λ r. ⌜ r ≡ eqb (priceOf v) (storedOf v) ⌝ }
-{
-    let price = wide::fill_price(
+    wide::fill_price(
         v.lastqty,
         v.lastpx,
         v.cumqty,
@@ -112,8 +99,7 @@ fn agrees(v: Vector) -> bool
         v.oldcum,
         v.oldavg,
         v.rise,
-    );
-    same(price, [v.low, v.high])
+    )
 }
 
 // Reads one vector and judges it.
@@ -127,9 +113,11 @@ fn next() -> Verdict {
         };
     }
     let v = vector_of(&bytes[..n]);
+    let p = priced(v);
+    let price = p.price;
     Verdict {
-        source: source(v),
-        same: agrees(v),
+        source: p.source,
+        same: same(price, [v.low, v.high]),
     }
 }
 
@@ -148,9 +136,9 @@ fn counted(t: Tally, v: Verdict) -> Tally {
     Tally {
         vectors: more(t.vectors, true),
         differ: more(t.differ, !v.same),
-        bylastpx: more(t.bylastpx, v.source == 1),
-        implied: more(t.implied, v.source == 2),
-        average: more(t.average, v.source == 3),
+        bylastpx: more(t.bylastpx, v.source == wide::FROM_LAST_PX),
+        implied: more(t.implied, v.source == wide::FROM_QUOTIENT),
+        average: more(t.average, v.source == wide::FROM_AVERAGE),
     }
 }
 

@@ -33,7 +33,7 @@ alarmIn s = getD s 3 0
 
 -- the most bytes of a record, and of an answer of two
 abbrev pub mostRecord : ℕ
-mostRecord = 398
+mostRecord = 399
 
 abbrev pub mostAnswer : ℕ
 mostAnswer = headSize + 2 * mostRecord

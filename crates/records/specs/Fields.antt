@@ -49,7 +49,7 @@ numbersOf r =
     ∷ r .told .origin
     ∷ r .told .responseto
     ∷ r .ids .origdownstream .len
-    ∷ 0
+    ∷ r .told .source
     ∷ []
 
 -- the high word of the fill price
@@ -130,6 +130,7 @@ recordFrom k m n high ids text = record {
     fixedtext = getD n 27 0;
     origin = getD n 28 0;
     responseto = getD n 29 0;
+    source = getD n 31 0;
   };
   text = text;
 }
@@ -160,6 +161,7 @@ recordOf k m f = record {
     fixedtext = value 27 (f 27);
     origin = value 28 (f 28);
     responseto = value 29 (f 29);
+    source = value 31 (f 31);
   };
   text = longOf (f 20);
 }

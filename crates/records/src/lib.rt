@@ -67,7 +67,7 @@ pub struct Exec {
     pub avgpx: u64,
 }
 
-// What only messages have: bits 24 to 29.
+// What only messages have: bits 24 to 29 and 31.
 pub struct Told {
     pub leavesqty: u64,
     pub execseq: u64,
@@ -75,6 +75,7 @@ pub struct Told {
     pub fixedtext: u8,
     pub origin: u8,
     pub responseto: u8,
+    pub source: u8,
 }
 
 // A record: an event (kinds 1 to 9) or a message (kinds 16 to 20). A field whose bit does not

@@ -53,7 +53,7 @@ pub(crate) fn numbers_of(r: Record) -> [u64; 32]
         told.origin as u64,
         told.responseto as u64,
         ids.origdownstream.len as u64,
-        0,
+        told.source as u64,
     ]
 }
 

@@ -121,6 +121,7 @@ pub(crate) fn record_from(
         fixedtext: n[27] as u8,
         origin: n[28] as u8,
         responseto: n[29] as u8,
+        source: n[31] as u8,
     };
     Record {
         kind,

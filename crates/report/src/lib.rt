@@ -25,6 +25,7 @@ use orders::order;
 use records::Record;
 use store::Order;
 use store::Request;
+use wide::Priced;
 
 // OrdRejReason(103): unknown order.
 const UNKNOWN_ORDER: u32 = 5;
@@ -209,8 +210,8 @@ fn reported_order(accepted: bool, s: u8, q: Request, o: Order, e: Record) -> Ord
     order::set_status(status, order)
 }
 
-// `fill_price`, of the order as it was.
-fn fill_price(o: Order, e: Record) -> [u64; 2]
+// `fill_price`, of the order as it was, with its source.
+fn fill_price(o: Order, e: Record) -> Priced
     ensures { λ r. ⌜ r ≡ fillPriceOf o e ⌝ }
 {
     let x = e.exec;
@@ -247,14 +248,7 @@ fn report_note(e: Record) -> Note
 
 // What the client is told of the order as it is left, by the request that the report answers, if
 // any. A rise is a Trade.
-fn client_report(
-    answers: bool,
-    rise: u64,
-    q: Request,
-    price: [u64; 2],
-    o: Order,
-    e: Record,
-) -> Record
+fn client_report(answers: bool, rise: u64, q: Request, price: Priced, o: Order, e: Record) -> Record
     ensures { λ r. ⌜ r ≡ clientReport answers rise q price o e ⌝ }
 {
     let names = o.names;

@@ -1,35 +1,42 @@
 -- Facts on the definitions, by computing: the prices of docs/SCOPE.md, Days in small, and small quotients that shut out every other rounding. Rests on Wide.
--- Quantities are counts of 1/10,000, prices of 10^-8.
+-- Quantities are counts of 1/10,000, prices of 10^-8; behind a price stands its source as docs/SCOPE.md numbers it, 1 to 3.
 use mathlib.Core.Path.{_≡_, refl}
 use Rattle.prelude.specs.Cases.{if_then_else_}
-use Rattle.wide.specs.Wide.{atHalf, up, nearest, byLastPx, implied, fillPrice}
+use Rattle.wide.specs.Wide.{atHalf, up, nearest, byLastPx, implied, fillPrice, fromLastPx, fromQuotient, fromAverage, priced}
 
 -- cum 40 at 10, then cum 70, last 10 at 11, average 10.3: 30 at 10.7, which is 321 / 30
-pub ten-seven : fillPrice 100000 1100000000 700000 1030000000 400000 1000000000 300000 ≡ 1070000000
+pub ten-seven : fillPrice 100000 1100000000 700000 1030000000 400000 1000000000 300000 ≡ priced 1070000000 2
 unfolding if_then_else_ atHalf up nearest byLastPx implied fillPrice
 ten-seven = refl
 
 -- cum 1 at 1, then cum 3, last 1, average 1.00000001: 1.000000015 goes to 1.00000002
-pub tie-up : fillPrice 10000 100000000 30000 100000001 10000 100000000 20000 ≡ 100000002
+pub tie-up : fillPrice 10000 100000000 30000 100000001 10000 100000000 20000 ≡ priced 100000002 2
 unfolding if_then_else_ atHalf up nearest byLastPx implied fillPrice
 tie-up = refl
 
 -- with the first average 1.00000002: 1.000000005 goes to 1
-pub tie-down : fillPrice 10000 100000000 30000 100000001 10000 100000002 20000 ≡ 100000000
+pub tie-down : fillPrice 10000 100000000 30000 100000001 10000 100000002 20000 ≡ priced 100000000 2
 unfolding if_then_else_ atHalf up nearest byLastPx implied fillPrice
 tie-down = refl
 
 -- cum 2 at 1, then cum 3, last 0, average 0.5: less was paid than before, so the average
-pub below-zero : fillPrice 0 0 30000 50000000 20000 100000000 10000 ≡ 50000000
+pub below-zero : fillPrice 0 0 30000 50000000 20000 100000000 10000 ≡ priced 50000000 3
 unfolding if_then_else_ atHalf up nearest byLastPx implied fillPrice
 below-zero = refl
 
 -- no rise, with LastPx and without; a rise that is LastQty, with LastPx and without
 pub last-px-apart :
-    (fillPrice 0 7 1 9 1 9 0 ≡ 7) × (fillPrice 0 0 1 9 1 9 0 ≡ 9)
-    × (fillPrice 3 7 3 9 0 0 3 ≡ 7) × (fillPrice 3 0 3 9 0 0 3 ≡ 9)
+    (fillPrice 0 7 1 9 1 9 0 ≡ priced 7 1) × (fillPrice 0 0 1 9 1 9 0 ≡ priced 9 3)
+    × (fillPrice 3 7 3 9 0 0 3 ≡ priced 7 1) × (fillPrice 3 0 3 9 0 0 3 ≡ priced 9 2)
 unfolding if_then_else_ atHalf up nearest byLastPx implied fillPrice
 last-px-apart = (refl, refl, refl, refl)
+
+-- the source is the rule that was used, and not the value: cum 1 at 10, then cum 3, last 1 at 10, average 10 is 10 by the quotient. An average of 0 has a source.
+pub by-rule :
+    (fillPrice 10000 1000000000 30000 1000000000 10000 1000000000 20000 ≡ priced 1000000000 2)
+    × (fillPrice 0 0 10000 0 10000 0 0 ≡ priced 0 3)
+unfolding if_then_else_ atHalf up nearest byLastPx implied fillPrice
+by-rule = (refl, refl)
 
 -- halves go to the even digit; a third down, two thirds up; nothing by 0
 pub halves : (nearest 1 2 ≡ 0) × (nearest 3 2 ≡ 2) × (nearest 5 2 ≡ 2) × (nearest 4 3 ≡ 1) × (nearest 5 3 ≡ 2) × (nearest 7 0 ≡ 0)

@@ -7,8 +7,10 @@ use native.Mathlib.Omega.{arith}
 use lib.Dec.{eqb, ltb, lit≤, lit<}
 use borrow.Author.Tests.{lt-ltb, le-ltb, ne-eqb, ltb-true, ltb-false}
 use Rattle.prelude.specs.Cases.{if_then_else_, split-if, if-true, if-false, both-true}
-use Rattle.wide.specs.Wide.{byLastPx, implied, fillPrice}
+use Rattle.wide.specs.Wide.{byLastPx, implied, fillPrice, words, fromLastPx, fromQuotient, fromAverage, priced}
 use Rattle.wide.specs.Rounding.{nearest-none, nearest-le}
+use mathlib.Core.List.{List}
+use Rattle.wide.specs.declared.Priced.{Priced}
 
 -- ---- an amount, and the price that is implied
 
@@ -31,54 +33,69 @@ implied-le cumqty avgpx oldcum oldavg rise =
 -- ---- which of the three it is
 
 module _ (lastqty lastpx cumqty avgpx oldcum oldavg rise : ℕ) where
-  abbrev the : ℕ
+  abbrev the : Priced
   the = fillPrice lastqty lastpx cumqty avgpx oldcum oldavg rise
+
+  abbrev lastPx : Bool
+  lastPx = byLastPx lastqty lastpx rise
 
   abbrev quotient : ℕ
   quotient = implied cumqty avgpx oldcum oldavg rise
 
-  pub price-last-px : byLastPx lastqty lastpx rise ≡ true → the ≡ lastpx
-  unfolding fillPrice
-  price-last-px e = if-true (byLastPx lastqty lastpx rise) _ _ e
-
-  pub price-implied : byLastPx lastqty lastpx rise ≡ false → 0 < quotient → the ≡ quotient
-  unfolding fillPrice
-  price-implied e h = if-false (byLastPx lastqty lastpx rise) _ _ e ∙ if-true (ltb 0 quotient) _ _ (lt-ltb 0 quotient h)
-
-  pub price-average : byLastPx lastqty lastpx rise ≡ false → quotient ≡ 0 → the ≡ avgpx
-  unfolding fillPrice
-  price-average e h = if-false (byLastPx lastqty lastpx rise) _ _ e ∙ if-false (ltb 0 quotient) _ _ (le-ltb 0 quotient (omega arith))
-
-  last-px-above : byLastPx lastqty lastpx rise ≡ true → 0 < lastpx
+  last-px-above : lastPx ≡ true → 0 < lastpx
   unfolding byLastPx
   last-px-above e = ltb-true 0 lastpx (both-true (ltb 0 lastpx) _ e .0)
 
-  -- the price is 0 only as an average of 0; by `price-average` it then is
-  abbrev None : Type 0
-  None = (byLastPx lastqty lastpx rise ≡ false) × (quotient ≡ 0) × (avgpx ≡ 0)
-
-  pub price-zero : the ≡ 0 → None
+  -- what holds of each of the three holds of the price
+  by-source : (P : Priced → Type 0) → (lastPx ≡ true → P (priced lastpx fromLastPx)) → (lastPx ≡ false → 0 < quotient → P (priced quotient fromQuotient))
+      → (lastPx ≡ false → quotient ≡ 0 → P (priced avgpx fromAverage)) → P the
   unfolding fillPrice
-  price-zero =
-      split-if (λ p. p ≡ 0 → None) (byLastPx lastqty lastpx rise) (λ e z. absurd (let l : ⊥ = omega (arith, last-px-above e) in l))
-      (λ e. split-if (λ p. p ≡ 0 → None) (ltb 0 quotient) (λ h z. absurd (let l : ⊥ = omega (arith, ltb-true 0 quotient h) in l))
-      (λ h z. (e, omega (arith, ltb-false 0 quotient h), z)))
+  by-source P one two three =
+      split-if P lastPx one (λ e. split-if P (ltb 0 quotient) (λ h. two e (ltb-true 0 quotient h)) (λ h. three e (omega (arith, ltb-false 0 quotient h))))
+
+  -- each is given under its condition
+  pub price-last-px : lastPx ≡ true → the ≡ priced lastpx fromLastPx
+  unfolding fillPrice
+  price-last-px e = if-true lastPx _ _ e
+
+  pub price-implied : lastPx ≡ false → 0 < quotient → the ≡ priced quotient fromQuotient
+  unfolding fillPrice
+  price-implied e h = if-false lastPx _ _ e ∙ if-true (ltb 0 quotient) _ _ (lt-ltb 0 quotient h)
+
+  pub price-average : lastPx ≡ false → quotient ≡ 0 → the ≡ priced avgpx fromAverage
+  unfolding fillPrice
+  price-average e h = if-false lastPx _ _ e ∙ if-false (ltb 0 quotient) _ _ (le-ltb 0 quotient (omega arith))
+
+  -- and only under it: what a source says of the price. LastPx and the quotient are above 0; an average may be 0.
+  pub source-last-px : the .source ≡ fromLastPx → (lastPx ≡ true) × (the .price ≡ words lastpx) × (0 < lastpx)
+  source-last-px =
+      by-source (λ (p : Priced). p .source ≡ fromLastPx → (lastPx ≡ true) × (p .price ≡ words lastpx) × (0 < lastpx))
+      (λ e z. (e, refl, last-px-above e)) (λ e h z. absurd (omega arith)) (λ e h z. absurd (omega arith))
+
+  pub source-quotient : the .source ≡ fromQuotient → (lastPx ≡ false) × (the .price ≡ words quotient) × (0 < quotient)
+  source-quotient =
+      by-source (λ (p : Priced). p .source ≡ fromQuotient → (lastPx ≡ false) × (p .price ≡ words quotient) × (0 < quotient))
+      (λ e z. absurd (omega arith)) (λ e h z. (e, refl, h)) (λ e h z. absurd (omega arith))
+
+  pub source-average : the .source ≡ fromAverage → (lastPx ≡ false) × (the .price ≡ words avgpx) × (quotient ≡ 0)
+  source-average =
+      by-source (λ (p : Priced). p .source ≡ fromAverage → (lastPx ≡ false) × (p .price ≡ words avgpx) × (quotient ≡ 0))
+      (λ e z. absurd (omega arith)) (λ e h z. absurd (omega arith)) (λ e h z. (e, refl, h))
+
+  pub source-range : (0 < the .source) × (the .source ≤ fromAverage)
+  source-range =
+      by-source (λ (p : Priced). (0 < p .source) × (p .source ≤ fromAverage))
+      (λ e. (omega arith, omega arith)) (λ e h. (omega arith, omega arith)) (λ e h. (omega arith, omega arith))
 
   -- a bound of LastPx, of AvgPx and of CumQty times AvgPx is one of the price
-  pub price-le : (most : ℕ) → lastpx ≤ most → avgpx ≤ most → cumqty * avgpx ≤ most → the ≤ most
-  unfolding fillPrice
-  price-le most l a p =
-      split-if (λ x. x ≤ most) (byLastPx lastqty lastpx rise) (λ e. l)
-      (λ e. split-if (λ x. x ≤ most) (ltb 0 quotient) (λ h. le-trans (implied-le cumqty avgpx oldcum oldavg rise) p) (λ h. a))
+  pub price-le : (most : ℕ) → lastpx ≤ most → avgpx ≤ most → cumqty * avgpx ≤ most → (P : List ℕ → Type 0) → ((n : ℕ) → n ≤ most → P (words n)) → P (the .price)
+  price-le most l a p P f =
+      by-source (λ (x : Priced). P (x .price)) (λ e. f lastpx l) (λ e h. f quotient (le-trans (implied-le cumqty avgpx oldcum oldavg rise) p)) (λ e h. f avgpx a)
 
   -- in the ranges of docs/SCOPE.md, Records, it is at most 10 ^ 26, which a rise of 1 reaches, so it fits two words
-  pub price-most : lastpx ≤ 10 ^ 14 → cumqty ≤ 10 ^ 12 → avgpx ≤ 10 ^ 14 → the ≤ 10 ^ 26
-  price-most l c a =
-      price-le (10 ^ 26) (le-trans l (lit≤ tt)) (le-trans a (lit≤ tt))
-      (amount-most cumqty avgpx c a)
-
-  pub price-fits : lastpx ≤ 10 ^ 14 → cumqty ≤ 10 ^ 12 → avgpx ≤ 10 ^ 14 → the < 2 ^ 128
-  price-fits l c a = lt-of-le-of-lt (price-most l c a) (lit< tt)
+  pub price-fits : lastpx ≤ 10 ^ 14 → cumqty ≤ 10 ^ 12 → avgpx ≤ 10 ^ 14 → (P : List ℕ → Type 0) → ((n : ℕ) → n < 2 ^ 128 → P (words n)) → P (the .price)
+  price-fits l c a P f =
+      price-le (10 ^ 26) (le-trans l (lit≤ tt)) (le-trans a (lit≤ tt)) (amount-most cumqty avgpx c a) P (λ n h. f n (lt-of-le-of-lt h (lit< tt)))
 
 -- ---- when LastPx tells it
 
@@ -96,6 +113,6 @@ last-px-rise lastqty lastpx rise h = rw (ne-eqb rise 0 (λ e. omega arith))
 
 -- with no rise the price is LastPx if above 0, else AvgPx
 pub price-no-rise : (lastqty lastpx cumqty avgpx oldcum oldavg : ℕ) →
-    fillPrice lastqty lastpx cumqty avgpx oldcum oldavg 0 ≡ (if ltb 0 lastpx then lastpx else avgpx)
+    fillPrice lastqty lastpx cumqty avgpx oldcum oldavg 0 ≡ (if ltb 0 lastpx then priced lastpx fromLastPx else priced avgpx fromAverage)
 unfolding fillPrice if_then_else_
 price-no-rise lastqty lastpx cumqty avgpx oldcum oldavg = rw (implied-no-rise cumqty avgpx oldcum oldavg, last-px-no-rise lastqty lastpx)

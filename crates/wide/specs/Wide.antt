@@ -6,6 +6,7 @@ use mathlib.Core.List.{List, [], _∷_}
 use lib.Dec.{eqb, ltb}
 use lib.ListN.{getD}
 use Rattle.prelude.specs.Cases.{if_then_else_}
+use Rattle.wide.specs.declared.Priced.{Priced}
 
 -- the number that two words stand for, the low word first
 abbrev pub value : List ℕ → ℕ
@@ -42,9 +43,22 @@ byLastPx lastqty lastpx rise = ltb 0 lastpx && (eqb rise 0 || eqb rise lastqty)
 unfoldable pub implied : (cumqty avgpx oldcum oldavg rise : ℕ) → ℕ
 implied cumqty avgpx oldcum oldavg rise = nearest (cumqty * avgpx - oldcum * oldavg) rise
 
--- LastPx where it tells the price, else the implied price where it is above 0, else AvgPx
-unfoldable pub fillPrice : (lastqty lastpx cumqty avgpx oldcum oldavg rise : ℕ) → ℕ
+-- where a price came from
+abbrev pub fromLastPx : ℕ
+fromLastPx = 1
+
+abbrev pub fromQuotient : ℕ
+fromQuotient = 2
+
+abbrev pub fromAverage : ℕ
+fromAverage = 3
+
+abbrev pub priced : (price source : ℕ) → Priced
+priced price source = record { price = words price; source = source }
+
+-- the price and its source: LastPx where it tells the price, else the implied price where it is above 0, else AvgPx
+unfoldable pub fillPrice : (lastqty lastpx cumqty avgpx oldcum oldavg rise : ℕ) → Priced
 fillPrice lastqty lastpx cumqty avgpx oldcum oldavg rise =
-    if byLastPx lastqty lastpx rise then lastpx
-    else if ltb 0 (implied cumqty avgpx oldcum oldavg rise) then implied cumqty avgpx oldcum oldavg rise
-    else avgpx
+    if byLastPx lastqty lastpx rise then priced lastpx fromLastPx
+    else if ltb 0 (implied cumqty avgpx oldcum oldavg rise) then priced (implied cumqty avgpx oldcum oldavg rise) fromQuotient
+    else priced avgpx fromAverage

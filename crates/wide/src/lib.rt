@@ -11,6 +11,19 @@ mod division;
 use division::HALF;
 use division::divide;
 
+// A price in two words, and where it came from.
+pub struct Priced {
+    pub price: [u64; 2],
+    pub source: u8,
+}
+
+// The sources of a price: the venue's LastPx, the implied quotient, the average.
+pub const FROM_LAST_PX: u8 = 1;
+
+pub const FROM_QUOTIENT: u8 = 2;
+
+pub const FROM_AVERAGE: u8 = 3;
+
 // The product of two words. Each is two halves of 32 bits; the four products of halves are added
 // from the lowest, with their carries.
 pub fn product(a: u64, b: u64) -> [u64; 2]
@@ -104,8 +117,9 @@ pub fn implied(cumqty: u64, avgpx: u64, oldcum: u64, oldavg: u64, rise: u64) -> 
     quotient(minus(new, old), rise)
 }
 
-// The price of a fill: the report's LastQty, LastPx, CumQty and AvgPx, the order's cumulative
-// quantity and average, and the rise. Quantities are counts of 1/10,000, prices of 10^-8.
+// The price of a fill and where it came from: the report's LastQty, LastPx, CumQty and AvgPx, the
+// order's cumulative quantity and average, and the rise. Quantities are counts of 1/10,000, prices
+// of 10^-8.
 pub fn fill_price(
     lastqty: u64,
     lastpx: u64,
@@ -114,15 +128,24 @@ pub fn fill_price(
     oldcum: u64,
     oldavg: u64,
     rise: u64,
-) -> [u64; 2]
-    ensures { λ r. ⌜ r ≡ words (fillPrice lastqty lastpx cumqty avgpx oldcum oldavg rise) ⌝ }
+) -> Priced
+    ensures { λ r. ⌜ r ≡ fillPrice lastqty lastpx cumqty avgpx oldcum oldavg rise ⌝ }
 {
     if by_last_px(lastqty, lastpx, rise) {
-        return [lastpx, 0];
+        return Priced {
+            price: [lastpx, 0],
+            source: FROM_LAST_PX,
+        };
     }
     let price = implied(cumqty, avgpx, oldcum, oldavg, rise);
     if less([0, 0], price) {
-        return price;
+        return Priced {
+            price,
+            source: FROM_QUOTIENT,
+        };
     }
-    [avgpx, 0]
+    Priced {
+        price: [avgpx, 0],
+        source: FROM_AVERAGE,
+    }
 }

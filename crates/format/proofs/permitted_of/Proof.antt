@@ -11,7 +11,7 @@ use Rattle.format.proofs.permitted_of.Tie as tie
 
 maps : List ℕ
 maps =
-    0 ∷ 4047 ∷ 2097369 ∷ 14684121 ∷ 2093090 ∷ 34 ∷ 1843234 ∷ 1048610 ∷ 34 ∷ 4 ∷ 0 ∷ 0 ∷ 0 ∷ 0 ∷ 0 ∷ 0 ∷ 521895901 ∷ 941105181 ∷ 4066 ∷ 1074008034 ∷ 1074008034 ∷ []
+    0 ∷ 4047 ∷ 2097369 ∷ 14684121 ∷ 2093090 ∷ 34 ∷ 1843234 ∷ 1048610 ∷ 34 ∷ 4 ∷ 0 ∷ 0 ∷ 0 ∷ 0 ∷ 0 ∷ 0 ∷ 2669379549 ∷ 941105181 ∷ 4066 ∷ 1074008034 ∷ 1074008034 ∷ []
 
 returns : tie.Need-returns
 unfolding maps required allowed requiredBits allowedBits allBelow

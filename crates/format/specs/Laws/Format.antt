@@ -35,9 +35,9 @@ size-small b h =
     (λ p. let q : size b ≡ 255 = eqb-true (size b) 255 p in (omega arith, λ l. absurd (omega arith)))
     (either-true (leb (size b) 16) (eqb (size b) 255) t)
 
-pub range-small : (b : ℕ) → b < 32 → range b < 16
+pub range-small : (b : ℕ) → b < 32 → range b < 17
 unfolding range fields allBelow
-range-small b h = ltb-true (range b) 16 (all-elim (λ k. ltb (range k) 16) 32 refl b h)
+range-small b h = ltb-true (range b) 17 (all-elim (λ k. ltb (range k) 17) 32 refl b h)
 
 -- past the last field
 pub size-out : (b : ℕ) → 32 ≤ b → size b ≡ 0

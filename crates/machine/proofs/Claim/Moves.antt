@@ -6,6 +6,7 @@ use mathlib.Core.Bool.{Bool, true, false, not, _&&_, _||_}
 use mathlib.Core.List.{List, [], _∷_, _++_}
 use lib.Dec.{eqb, ltb}
 use borrow.Author.Tests.{ltb-false, eqb-true, not-false}
+use Rattle.wide.specs.declared.Priced.{Priced}
 use Rattle.prelude.specs.Cases.{if_then_else_, split-if, clash, both-true, both-false, either-false, if-false}
 use Rattle.prelude.specs.Texts.{sameText}
 use Rattle.prelude.specs.Totals.{totalOf, total-append}
@@ -221,7 +222,7 @@ quiet-reject : (client : ℕ) (name : Text) (status : ℕ) (clordid origclordid 
 unfolding cancelReject if_then_else_
 quiet-reject client name status clordid origclordid responseto n t = refl
 
-quiet-report : (o : Order) (clordid origclordid : Text) (exectype : ℕ) (price : List ℕ) (n : Note) (t : Whose → Bool)
+quiet-report : (o : Order) (clordid origclordid : Text) (exectype : ℕ) (price : Priced) (n : Note) (t : Whose → Bool)
     → lastQtyBy t (report o clordid origclordid exectype 0 price n) ≡ 0
 unfolding report
 quiet-report o clordid origclordid exectype price n t = split-if (λ (x : ℕ). x ≡ 0) _ (λ e. refl) (λ e. refl)
@@ -446,7 +447,7 @@ module _ (p : ℕ) (o x : Order) (cum qty : ℕ) (g : Grown o x cum qty) (fits :
       rise-of true e f = unfold if_then_else_ in omega (arith, e, f, up)
       rise-of false e f = unfold if_then_else_ in omega (arith, e, f)
 
-says-report : (answers : Bool) (rise : ℕ) (q : Request) (price : List ℕ) (x : Order) (e : Event) (t : Whose → Bool)
+says-report : (answers : Bool) (rise : ℕ) (q : Request) (price : Priced) (x : Order) (e : Event) (t : Whose → Bool)
     → lastQtyBy t (clientReport answers rise q price x e) ≡ (if t (whose x) then rise else 0)
 unfolding clientReport report
 says-report answers rise q price x e t = refl

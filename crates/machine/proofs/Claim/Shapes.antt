@@ -7,6 +7,7 @@ use mathlib.Core.Bool.{Bool, true, false, not, _&&_}
 use mathlib.Core.List.{List, [], _∷_, _++_}
 use lib.Dec.{eqb}
 use borrow.Author.Tests.{leb-false, not-true, not-false}
+use Rattle.wide.specs.declared.Priced.{Priced}
 use Rattle.prelude.specs.Cases.{if_then_else_, split-if, clash, both-true}
 use Rattle.prelude.specs.declared.Text.{Text}
 use Rattle.prelude.specs.declared.Terms.{Terms}
@@ -54,11 +55,11 @@ plain-reject : (client : ℕ) (name : Text) (status : ℕ) (clordid origclordid 
 unfolding cancelReject cancelsIn if_then_else_
 plain-reject client name status clordid origclordid responseto n = refl
 
-plain-report : (o : Order) (clordid origclordid : Text) (exectype lastqty : ℕ) (price : List ℕ) (n : Note) → Plain (report o clordid origclordid exectype lastqty price n)
+plain-report : (o : Order) (clordid origclordid : Text) (exectype lastqty : ℕ) (price : Priced) (n : Note) → Plain (report o clordid origclordid exectype lastqty price n)
 unfolding report cancelsIn if_then_else_
 plain-report o clordid origclordid exectype lastqty price n = refl
 
-plain-client : (answers : Bool) (rise : ℕ) (q : Request) (price : List ℕ) (o : Order) (e : Event) → Plain (clientReport answers rise q price o e)
+plain-client : (answers : Bool) (rise : ℕ) (q : Request) (price : Priced) (o : Order) (e : Event) → Plain (clientReport answers rise q price o e)
 unfolding clientReport
 plain-client answers rise q price o e = plain-report _ _ _ _ _ _ _
 

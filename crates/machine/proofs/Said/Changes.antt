@@ -10,9 +10,8 @@ use lib.Dec.{eqb, leb, lit<}
 use borrow.Author.Tests.{eqb-true, eqb-false, eq-eqb, ne-eqb, leb-true, le-leb, lt-ltb, not-true, not-false}
 use Rattle.prelude.specs.Cases.{if_then_else_, split-if, clash, both-true, both-false, either-true}
 use Rattle.prelude.specs.declared.Text.{Text}
-use Rattle.wide.specs.Wide.{fillPrice}
 use Rattle.wide.specs.Words.{upper-word}
-use Rattle.wide.specs.Price.{price-fits}
+use Rattle.wide.specs.Price.{price-fits, source-range}
 use Rattle.format.specs.Codes.{isStatus, statuses, isExectype, exectypes, isOrdtype, isName, within, isQty, isPrice, rejected, execStatus, execRejected}
 use Rattle.records.specs.Record.{isMessage}
 use Rattle.store.specs.declared.Pending.{Pending}
@@ -22,7 +21,7 @@ use Rattle.store.specs.Orders.{noOrder, noPending}
 use Rattle.text.specs.Words.{noText}
 use Rattle.machine.specs.Constants.{mostAlarm, textRejected, other, venues}
 use Rattle.machine.specs.Orders.{isEmpty, setStatus, recordVenueOrderId, pendingTerms, nextExec, withPending, withGateway}
-use Rattle.machine.specs.Messages.{noNote}
+use Rattle.machine.specs.Messages.{noPrice, noNote}
 use Rattle.machine.specs.Changes.{Event, Message, unchanged, refusing, answering, superseding, adding, telling, alarming, isFirst, isReplace, isGateway, isCancel, nextDownstream, numberedOrder}
 use Rattle.machine.specs.GatewayCancel.{begun, trySent, sendGatewayCancel, cancelOrder, resumeGatewayCancel, stuck, retryGatewayCancel, gatewayCancelRefused}
 use Rattle.machine.specs.Amend.{has, passes, refusal, amendRefusal, refuse, alreadyTaken, statusReport, cancelRefusal, cancelGoes, cancel, orOwn, verdictText, checkReplace, replaceRefusal, newTerms, pricedRight, newPending, replaceGoes, replace, notPending, refusedOrder, refusedNote, refuseRequest, venueNote, venueCancelReject, firstFailed, sendFailed, resendable, unsent}
@@ -252,8 +251,8 @@ module _ (f : Findings) (o : Order) (t : Tellable o) where
     first-speaks n m =
         let p : Tellable (nextExec (setStatus rejected o)) = sequence-tellable _ (status-tellable rejected o (unfold isStatus statuses in refl) t) in
         telling-speaks _ _
-        (report-right (nextExec (setStatus rejected o)) _ noText execRejected 0 (0 ∷ (0 ∷ [])) _ p (p .names .clordid) no-fine (unfold isExectype exectypes in refl) refl
-        (record { two = refl; low = omega arith; high = omega arith })
+        (report-right (nextExec (setStatus rejected o)) _ noText execRejected 0 noPrice _ p (p .names .clordid) no-fine (unfold isExectype exectypes in refl) refl
+        (record { two = refl; low = omega arith; high = omega arith }) (omega arith)
         (record { text = m .text; fixedtext = m .fixedtext; reason = omega arith; origin = omega arith; unsaid = λ z. absurd (omega arith); one = m .one }))
         (answering-speaks k _ (unchanged-speaks (f .place) (nextExec (setStatus rejected o)) p))
 
@@ -296,13 +295,16 @@ wider t f =
     let k : TextKept 1 32 t = text-kept 1 32 t (f .range) in
     record { long = f .long; range = kept-text 0 32 t (record { stored = k .stored; above = omega arith; below = k .below }) }
 
--- the fill price of an event in range has two words
-price-words : (o : Order) (e : Event) → Right e → Words (fillPriceOf o e)
+-- the fill price of an event in range has two words, and a source
+price-words : (o : Order) (e : Event) → Right e → Words (fillPriceOf o e .price)
 unfolding fillPriceOf
 price-words o e h =
     let r : Ranges e = ranges e h in
-    let n : ℕ = fillPrice (e .exec .lastqty) (e .exec .lastpx) (e .exec .cumqty) (e .exec .avgpx) (o .state .cumqty) (o .state .avgpx) (e .exec .cumqty - o .state .cumqty) in
-    record { two = refl; low = mod-lt n (lit< tt); high = upper-word n (price-fits _ _ _ _ _ _ _ (r .lastpx) (r .cumqty) (r .avgpx)) }
+    price-fits _ _ _ _ _ _ _ (r .lastpx) (r .cumqty) (r .avgpx) Words (λ n f. record { two = refl; low = mod-lt n (lit< tt); high = upper-word n f })
+
+price-source : (o : Order) (e : Event) → fillPriceOf o e .source ≤ 3
+unfolding fillPriceOf
+price-source o e = source-range _ _ _ _ _ _ _ .1
 
 -- a request of which the client is told is a cancel or replace of its own
 answers-client : (k : ℕ) (q : Request) (o : Order) → answersRequest k q o ≡ true → (isFirst q ≡ false) × (isGateway q ≡ false)
@@ -355,7 +357,7 @@ module _ (f : Findings) (o : Order) (t : Tellable o) (k : ℕ) (q : Request) (a 
       (split-if (Fine 1 32) _ (λ z. a .clordid (answers-client k q o z .1)) (λ z. s .names .clordid))
       (split-if (Fine 0 32) _ (λ z. let (first, gateway) = answers-client k q o z in wider _ (a .origclordid first gateway)) (λ z. no-fine))
       (split-if (λ (x : ℕ). isExectype x ≡ true) _ (λ z. unfold isExectype exectypes in refl) (λ z. right-exectype e h kind))
-      (le-leb (e .exec .cumqty - o .state .cumqty) (10 ^ 12) (omega arith)) (price-words o e h) (report-noted e h)
+      (le-leb (e .exec .cumqty - o .state .cumqty) (10 ^ 12) (omega arith)) (price-words o e h) (price-source o e) (report-noted e h)
 
   settles-says : (accepted : Bool) (s : ℕ) (c : Change) → Says c → Says (settles accepted s k q o c)
   unfolding settles
@@ -435,8 +437,8 @@ module _ (f : Findings) (o : Order) (e : Event) (h : Right e) (clordid : Fine 1 
     unfolding statusReport
     status-says =
         telling-says _ _
-        (report-right (nextExec o) (e .ids .clordid) (e .ids .origclordid) execStatus 0 (0 ∷ (0 ∷ [])) noNote (sequence-tellable o t) clordid (wider _ origclordid)
-        (unfold isExectype exectypes in refl) refl (record { two = refl; low = omega arith; high = omega arith }) no-noted)
+        (report-right (nextExec o) (e .ids .clordid) (e .ids .origclordid) execStatus 0 noPrice noNote (sequence-tellable o t) clordid (wider _ origclordid)
+        (unfold isExectype exectypes in refl) refl (record { two = refl; low = omega arith; high = omega arith }) (omega arith) no-noted)
         (unchanged-says _ (nextExec o))
 
     cancel-goes : Says (cancelGoes f o e)

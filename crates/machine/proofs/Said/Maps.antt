@@ -51,12 +51,11 @@ reportBits a p t x f r =
     true ∷ false ∷ true ∷ true ∷ a ∷ false ∷ true ∷ true
     ∷ true ∷ true ∷ p ∷ t ∷ true ∷ true ∷ true ∷ false
     ∷ true ∷ true ∷ false ∷ r ∷ x ∷ false ∷ false ∷ false
-    ∷ true ∷ true ∷ true ∷ f ∷ r ∷ false ∷ false ∷ false ∷ []
+    ∷ true ∷ true ∷ true ∷ f ∷ r ∷ false ∷ false ∷ true ∷ []
 
 abbrev reportMap : (a p t x f r : Bool) → ℕ
 reportMap a p t x f r =
-    mapOf (0 ∷ (2 ∷ (3 ∷ (6 ∷ (7 ∷ (8 ∷ (9 ∷ (12 ∷ (13 ∷ (14 ∷ (16 ∷ (17 ∷ (24 ∷ (25 ∷ (26 ∷ [])))))))))))))))
-    + (bitIf a 4 + (bitIf p 10 + bitIf t 11 + (bitIf x 20 + bitIf f 27 + (bitIf r 19 + bitIf r 28))))
+    required 16 + (bitIf a 4 + (bitIf p 10 + bitIf t 11 + (bitIf x 20 + bitIf f 27 + (bitIf r 19 + bitIf r 28))))
 
 pub report-mapped : (a p t x f r : Bool) → x && f ≡ false → Mapped 16 (reportMap a p t x f r) (reportBits a p t x f r)
 unfolding bitIf if_then_else_ bitsRight isKind required allowed requiredBits allowedBits joined allBelow

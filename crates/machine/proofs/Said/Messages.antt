@@ -7,6 +7,7 @@ use mathlib.Core.List.{List}
 use lib.Dec.{eqb, leb, ltb}
 use lib.ListN.{length, getD, replicate}
 use borrow.Author.Tests.{eqb-true, eqb-false, leb-true, le-leb, not-true, not-false}
+use Rattle.wide.specs.declared.Priced.{Priced}
 use Rattle.prelude.specs.Below.{allBelow, all-elim}
 use Rattle.prelude.specs.Cases.{if_then_else_, clash, both-true, split-if}
 use Rattle.prelude.specs.Texts.{isText}
@@ -185,16 +186,16 @@ leaves-range o e =
     let h : o .terms .qty ≤ 1000000000000 = leb-true (o .terms .qty) (10 ^ 12) e in
     split-if (λ (n : ℕ). leb n (10 ^ 12) ≡ true) _ (λ d. refl) (λ d. le-leb (o .terms .qty - o .state .cumqty) (10 ^ 12) (omega arith))
 
-pub report-right : (o : Order) (clordid origclordid : Text) (exectype lastqty : ℕ) (fillprice : List ℕ) (n : Note)
-    → Tellable o → Fine 1 32 clordid → Fine 0 32 origclordid → isExectype exectype ≡ true → isQty lastqty ≡ true → Words fillprice → Noted n
-    → isMessage (report o clordid origclordid exectype lastqty fillprice n) ≡ true
+pub report-right : (o : Order) (clordid origclordid : Text) (exectype lastqty : ℕ) (price : Priced) (n : Note)
+    → Tellable o → Fine 1 32 clordid → Fine 0 32 origclordid → isExectype exectype ≡ true → isQty lastqty ≡ true → Words (price .price) → price .source ≤ 3 → Noted n
+    → isMessage (report o clordid origclordid exectype lastqty price n) ≡ true
 unfolding report termsBits noteBits range fields size inRange if_then_else_
-report-right o clordid origclordid exectype lastqty fillprice n k c d x q w m =
+report-right o clordid origclordid exectype lastqty price n k c d x q w s m =
     let t : TermsRows (o .terms) = terms-rows (o .terms) (k .terms) in
     let a : NoteRows n = note-rows n m in
     let l : List Bool = reportBits (not (isEmpty origclordid)) (eqb (o .terms .ordtype) limit) (not (eqb (o .terms .timeinforce) 0))
     (not (eqb (n .text .len) 0)) (not (eqb (n .fixedtext) 0)) (not (eqb (n .origin) 0)) in
-    written-message (report o clordid origclordid exectype lastqty fillprice n) l (omega arith)
+    written-message (report o clordid origclordid exectype lastqty price n) l (omega arith)
     (record {
       mapped = report-mapped (not (isEmpty origclordid)) (eqb (o .terms .ordtype) limit) (not (eqb (o .terms .timeinforce) 0))
           (not (eqb (n .text .len) 0)) (not (eqb (n .fixedtext) 0)) (not (eqb (n .origin) 0)) (m .one);
@@ -223,10 +224,11 @@ report-right o clordid origclordid exectype lastqty fillprice n k c d x q w m =
           & gone & gone & gone
           & qty-at 24 (leavesQty o) refl refl (leaves-range o (terms-kept (o .terms) (k .terms) .qty))
           & there 25 (o .state .execseq) refl (k .state .execseq)
-          & there 26 (getD fillprice 0 0) refl (w .low)
+          & there 26 (getD (price .price) 0 0) refl (w .low)
           & a .fixedtext
           & a .origin
-          & gone & gone & gone
+          & gone & gone
+          & there 31 (price .source) (le-leb (price .source) 3 s) (omega arith)
           & end;
       named = λ e. named-is (o .names .name) (k .names .name);
       name = named-text (o .names .name) (k .names .name);

@@ -49,16 +49,14 @@ extraBits k v = (required k - required newOrderKind) + bitIf v 18
 -- ---- they are the machine's
 
 pub report-map : (a : Bool) (t : Terms) (n : Note) → reportMap a t n
-    ≡ mapOf (0 ∷ (2 ∷ (3 ∷ (6 ∷ (7 ∷ (8 ∷ (9 ∷ (12 ∷ (13 ∷ (14 ∷ (16 ∷ (17 ∷ (24 ∷ (25 ∷ (26 ∷ [])))))))))))))))
-    + (bitIf a 4 + (termsBits t + noteBits n))
+    ≡ required reportKind + (bitIf a 4 + (termsBits t + noteBits n))
 unfolding reportMap withTerms withNote withBit required requiredBits termsBits noteBits bitIf if_then_else_
 report-map a t n =
     eqb-true _ _
     (each 6
     (λ a p i x f r. eqb
     (withBitIf (withBitIf (withBitIf (withBitIf (withBitIf (withBitIf (withBitIf (required reportKind) a 4) p 10) i 11) x 20) f 27) r 19) r 28)
-    (mapOf (0 ∷ (2 ∷ (3 ∷ (6 ∷ (7 ∷ (8 ∷ (9 ∷ (12 ∷ (13 ∷ (14 ∷ (16 ∷ (17 ∷ (24 ∷ (25 ∷ (26 ∷ [])))))))))))))))
-    + (bitIf a 4 + ((bitIf p 10 + bitIf i 11) + ((bitIf x 20 + bitIf f 27) + (bitIf r 19 + bitIf r 28))))))
+    (required reportKind + (bitIf a 4 + ((bitIf p 10 + bitIf i 11) + ((bitIf x 20 + bitIf f 27) + (bitIf r 19 + bitIf r 28))))))
     refl a (eqb (t .ordtype) limit) (not (eqb (t .timeinforce) 0)) (not (eqb (n .text .len) 0)) (not (eqb (n .fixedtext) 0)) (not (eqb (n .origin) 0)))
 
 pub reject-map : (a : Bool) (n : Note) → rejectMap a n ≡ mapOf (0 ∷ (3 ∷ (4 ∷ (13 ∷ (29 ∷ []))))) + (bitIf a 2 + noteBits n)

@@ -186,6 +186,7 @@ module _ (r : Record) (h : Right r) (pre post : List ℕ) where
           fixedtext = v 27 (lit< tt) i;
           origin = v 28 (lit< tt) i;
           responseto = v 29 (lit< tt) i;
+          source = v 31 (lit< tt) i;
         };
         text = long-here i;
       }

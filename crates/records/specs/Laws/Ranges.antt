@@ -41,6 +41,7 @@ pub record Ranges (r : Record) : Type 0 where
   pub fixedtext : r .told .fixedtext ≤ 18
   pub origin : r .told .origin ≤ 2
   pub responseto : r .told .responseto ≤ 2
+  pub source : r .told .source ≤ 3
   pub side : bit (r .map) 7 ≡ true → isSide (r .terms .side) ≡ true
   pub ordtype : bit (r .map) 8 ≡ true → isOrdtype (r .terms .ordtype) ≡ true
   pub timeinforce : bit (r .map) 11 ≡ true → isTimeinforce (r .terms .timeinforce) ≡ true
@@ -81,6 +82,7 @@ module _ (r : Record) (h : Right r) where
     fixedtext = most 27 18 (lit< tt) (λ v e. within-most 1 18 v e);
     origin = most 28 2 (lit< tt) (λ v e. within-most 1 2 v e);
     responseto = most 29 2 (lit< tt) (λ v e. within-most 1 2 v e);
+    source = most 31 3 (lit< tt) (λ v e. leb-true v 3 e);
     side = h .range 7 (lit< tt);
     ordtype = h .range 8 (lit< tt);
     timeinforce = h .range 11 (lit< tt);

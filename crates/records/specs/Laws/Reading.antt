@@ -117,6 +117,7 @@ module _ (s : List ℕ) (o m : ℕ) (at : List ℕ) (places : (k : ℕ) → k �
       fixedtext = g 27 (lit< tt) refl;
       origin = g 28 (lit< tt) refl;
       responseto = g 29 (lit< tt) refl;
+      source = g 31 (lit< tt) refl;
     }
       where
         g : (b : ℕ) → b < 32 → isTextBit b ≡ false → getD n b 0 < bound (min (size b) 8)
@@ -164,6 +165,7 @@ module _ (s : List ℕ) (o m : ℕ) (at : List ℕ) (places : (k : ℕ) → k �
             fixedtext = e 27 (lit< tt) i;
             origin = e 28 (lit< tt) i;
             responseto = e 29 (lit< tt) i;
+            source = e 31 (lit< tt) i;
           };
           text = longOf (drop 1 (p 20 (lit< tt) i));
         }

@@ -65,6 +65,7 @@ pub record Narrow (n : List ℕ) : Type 0 where
   pub fixedtext : getD n 27 0 < 256
   pub origin : getD n 28 0 < 256
   pub responseto : getD n 29 0 < 256
+  pub source : getD n 31 0 < 256
 
 -- what stands between two places behind a length byte
 abbrev pub tailAt : List ℕ → List ℕ → ℕ → List ℕ

@@ -3,9 +3,9 @@
 
 use gateway::book::Order;
 use model::Machine;
-use model::answer::latin1;
+use model::answer::{latin1, messages, of_messages};
 use model::machine::{ANSWER_BYTES, BOOK_BYTES, MOST_REQUESTS};
-use model::numbers::qty_count;
+use model::numbers::{Source, qty_count};
 use model::record::*;
 
 use crate::layout::{self, Book, Header};
@@ -74,6 +74,14 @@ pub enum Fault {
     HeaderWritten,
     /// A symbol has a byte behind its end.
     TextNotFilled,
+    /// A price's source is told by which price it equals, LastPx before the average.
+    SourceByPrice,
+    /// A price's source is 0 where nothing was filled.
+    NoSourceWithoutRise,
+    /// A report that answers no venue's has the average for its price's source.
+    SourceWithoutReport,
+    /// A cancel reject has a price's source.
+    SourceInReject,
     /// The page's last digit of a quantity is one higher.
     PageDigitOff,
     /// The page's leaves of a done order are ordered less cumulative.
@@ -96,7 +104,7 @@ pub enum Fault {
 
 impl Fault {
     /// Faults that the comparison finds.
-    pub const COMPARED: [Self; 35] = [
+    pub const COMPARED: [Self; 39] = [
         Self::AddsLastQty,
         Self::AcknowledgesLater,
         Self::SevenEarly,
@@ -127,6 +135,10 @@ impl Fault {
         Self::UnusedWritten,
         Self::HeaderWritten,
         Self::TextNotFilled,
+        Self::SourceByPrice,
+        Self::NoSourceWithoutRise,
+        Self::SourceWithoutReport,
+        Self::SourceInReject,
         Self::PageDigitOff,
         Self::PageLeavesOfDone,
         Self::PageReversed,
@@ -184,10 +196,39 @@ pub fn event(fault: Fault, machine: &mut Machine, record: &[u8], buffer: usize) 
             *machine = before;
             Ok(OVERFILL_ANSWER.to_vec())
         }
+        Fault::SourceByPrice
+        | Fault::NoSourceWithoutRise
+        | Fault::SourceWithoutReport
+        | Fault::SourceInReject => outcome.map(|answer| other_source(fault, &read, &answer)),
         _ => {
             spoil(fault, machine);
             outcome
         }
+    }
+}
+
+/// The answer with the sources of its prices as the fault has them.
+fn other_source(fault: Fault, event: &Record<'_>, answer: &[u8]) -> Vec<u8> {
+    let other = |message: Record<'_>| {
+        let draft = Draft::of(&message);
+        let source = match (fault, message.kind, message.code(PRICE_SOURCE)) {
+            (Fault::SourceByPrice, REPORT_MESSAGE, 1..) => by_price(event, message.wide(FILL_PRICE)) as u8,
+            (Fault::NoSourceWithoutRise, REPORT_MESSAGE, _) if message.number(LAST_QTY) == 0 => 0,
+            (Fault::SourceWithoutReport, REPORT_MESSAGE, 0) => Source::Average as u8,
+            (Fault::SourceInReject, REJECT_MESSAGE, _) => 0,
+            _ => return draft,
+        };
+        draft.number(PRICE_SOURCE, source)
+    };
+    let messages: Vec<Draft> = messages(answer).into_iter().map(other).collect();
+    of_messages(&messages, answer[3])
+}
+
+fn by_price(report: &Record<'_>, price: u128) -> Source {
+    match price {
+        price if price > 0 && price == report.wide(LAST_PX) => Source::LastPx,
+        price if price == report.wide(AVG_PX) => Source::Average,
+        _ => Source::Quotient,
     }
 }
 

@@ -36,6 +36,7 @@ const NAMES: [&str; BITS] = [
     "origin",
     "response-to",
     "original downstream",
+    "price source",
 ];
 
 const KINDS: [(u8, &str); 14] = [

@@ -4,16 +4,19 @@ use std::collections::BTreeMap;
 
 use gateway::LOG_SITES;
 use model::answer::messages;
+use model::record::PRICE_SOURCE;
 
 #[derive(Debug, Clone, Default)]
 pub struct Tally {
     pub lists: u64,
     pub events: u64,
-    /// Taken events by kind, by alarm, and messages by kind; refusals by number.
+    /// Taken events by kind, by alarm, messages by kind, and reports by the source of their price;
+    /// refusals by number.
     pub taken: BTreeMap<u8, u64>,
     pub refused: BTreeMap<u32, u64>,
     pub messages: BTreeMap<u8, u64>,
     pub alarms: BTreeMap<u8, u64>,
+    pub sources: BTreeMap<u8, u64>,
 }
 
 impl Tally {
@@ -26,6 +29,9 @@ impl Tally {
                 *self.alarms.entry(answer[3]).or_default() += 1;
                 for message in messages(answer) {
                     *self.messages.entry(message.kind).or_default() += 1;
+                    if message.has(PRICE_SOURCE) {
+                        *self.sources.entry(message.code(PRICE_SOURCE)).or_default() += 1;
+                    }
                 }
             }
         }
@@ -35,6 +41,7 @@ impl Tally {
         println!("  taken by kind {:?}", self.taken);
         println!("  refused by number {:?}", self.refused);
         println!("  messages by kind {:?}, alarms {:?}", self.messages, self.alarms);
+        println!("  the reports' prices by source {:?}", self.sources);
     }
 }
 

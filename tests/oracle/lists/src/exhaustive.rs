@@ -119,7 +119,8 @@ pub fn every_length() -> List {
 }
 
 /// Texts and numbers at and beside their limits, wrong codes, and characters that a name may not
-/// have: each of question 4's answers, in few events.
+/// have: each of question 4's answers, in few events. And each kind with a price source, which only
+/// messages have: question 3 says no, though the record is whole.
 pub fn every_range() -> List {
     let ends = |least: usize, most: usize| vec![0, least, most, most + 1, 255];
     let mut records: Vec<Vec<u8>> = samples().iter().flat_map(|draft| ranges(draft, ends)).collect();
@@ -130,6 +131,7 @@ pub fn every_range() -> List {
         for text in NAMES.iter().filter(|_| draft.has(NAME)) {
             records.push(draft.clone().text(NAME, text).bytes());
         }
+        records.extend([0, 1, 4_u8].map(|source| draft.clone().number(PRICE_SOURCE, source).bytes()));
     }
     list(records)
 }

@@ -5,7 +5,7 @@ use gateway::CompactString;
 use gateway::book::{AlarmKind, CancelKind, ClientId, ClientReport, OrderRequest, Output};
 
 use crate::codes;
-use crate::numbers::{price_count, qty_count};
+use crate::numbers::{Source, price_count, qty_count};
 use crate::record::*;
 
 pub const HEAD: usize = 4;
@@ -22,11 +22,25 @@ pub fn alarm_code(kind: AlarmKind) -> u8 {
     }
 }
 
-/// The whole answer. `told` is the text that came with the event: it goes back as it is, while a
-/// text that the Rust supplied goes as its number.
-pub fn write(outputs: &[Output], alarm: u8, told: Option<&[u8]>) -> Vec<u8> {
-    let mut bytes = vec![0, 0, outputs.len() as u8, alarm];
-    outputs.iter().for_each(|output| bytes.extend(message(output, told).bytes()));
+/// What the event brought that its messages show and the Rust does not say.
+#[derive(Debug, Clone, Copy, Default)]
+pub struct Brought<'a> {
+    /// Its text: it goes back as it is, while a text that the Rust supplied goes as its number.
+    pub text: Option<&'a [u8]>,
+    /// Where the price of its fill comes from, if it is a venue's report.
+    pub source: Option<Source>,
+}
+
+/// The whole answer: all of it the Rust's, but for the price source.
+pub fn write(outputs: &[Output], alarm: u8, brought: Brought<'_>) -> Vec<u8> {
+    let messages: Vec<Draft> = outputs.iter().map(|output| message(output, brought)).collect();
+    of_messages(&messages, alarm)
+}
+
+/// The answer with these messages.
+pub fn of_messages(messages: &[Draft], alarm: u8) -> Vec<u8> {
+    let mut bytes = vec![0, 0, messages.len() as u8, alarm];
+    messages.iter().for_each(|message| bytes.extend(message.bytes()));
     let length = u16::try_from(bytes.len()).expect("an answer is short");
     bytes[..2].copy_from_slice(&length.to_le_bytes());
     bytes
@@ -45,10 +59,10 @@ pub fn messages(answer: &[u8]) -> Vec<Record<'_>> {
     messages
 }
 
-fn message(output: &Output, told: Option<&[u8]>) -> Draft {
+fn message(output: &Output, brought: Brought<'_>) -> Draft {
     match output {
-        Output::Report { client, report } => report_message(client, report, told),
-        Output::CancelReject { .. } => reject_message(output, told),
+        Output::Report { client, report } => report_message(client, report, brought),
+        Output::CancelReject { .. } => reject_message(output, brought.text),
         Output::NewOrder { venue, downstream, request } => {
             request_message(NEW_ORDER_MESSAGE, venue, downstream, request)
         }
@@ -93,7 +107,7 @@ fn reject_message(output: &Output, told: Option<&[u8]>) -> Draft {
     with_text(draft, Some(text), told)
 }
 
-fn report_message(client: &ClientId, report: &ClientReport, told: Option<&[u8]>) -> Draft {
+fn report_message(client: &ClientId, report: &ClientReport, brought: Brought<'_>) -> Draft {
     let name = report.order_id.as_ref().expect("every reported order is booked");
     let (_, sequence) = report.exec_id.rsplit_once('.').expect("an ExecID is name, point, number");
     let draft = terms(Draft::new(REPORT_MESSAGE), &report.request)
@@ -109,10 +123,11 @@ fn report_message(client: &ClientId, report: &ClientReport, told: Option<&[u8]>)
         .number(LEAVES_QTY, qty_count(report.leaves_qty))
         .number(REPORT_SEQUENCE, sequence.parse::<u64>().expect("a number"))
         .number(FILL_PRICE, price_count(report.last_px))
+        .number(PRICE_SOURCE, brought.source.map_or(0, |source| source as u8))
         .maybe(report.reject.map(codes::reject_reason), |draft, (reason, origin)| {
             draft.number(REASON, reason).number(ORIGIN, origin)
         });
-    with_text(draft, report.text.as_ref(), told)
+    with_text(draft, report.text.as_ref(), brought.text)
 }
 
 fn request_message(kind: u8, venue: &str, downstream: &str, request: &OrderRequest) -> Draft {

@@ -1,6 +1,6 @@
 //! The machine of docs/SCOPE.md: questions 2 to 7 in their order, the nine kinds of event, and the
 //! answer. The handling is the gateway's own book's; the rule of docs/SCOPE.md that the report sequence
-//! goes on at 0 stands over it here. The other rules that stand over the Rust are asserted by
+//! goes on at 0 stands over it here, and the source of a fill's price beside it. The other rules that stand over the Rust are asserted by
 //! `watch`: the Rust keeps them.
 
 use std::collections::{HashMap, HashSet};
@@ -11,9 +11,9 @@ use gateway::book::{
 };
 use gateway::{CompactString, book};
 
-use crate::answer::{self, latin1};
+use crate::answer::{self, Brought, latin1};
 use crate::codes;
-use crate::numbers::{price, qty};
+use crate::numbers::{Fill, price, price_count, qty, qty_count};
 use crate::record::*;
 
 pub const BOOK_BYTES: usize = 65_536;
@@ -100,12 +100,13 @@ impl Machine {
         }
         self.book.enter(latin1(record.text(NAME)), client, venue(record), request);
         self.book.discard_changes();
-        Ok(answer::write(&[], 0, None))
+        Ok(answer::write(&[], 0, Brought::default()))
     }
 
     /// Events 2 to 9: the book handles them, and gets its tables back where question 6 or 7 says no.
     fn handle(&mut self, record: &Record<'_>) -> Result<Vec<u8>, u32> {
         let input = self.input(record);
+        let source = self.fill(record).map(|fill| fill.source());
         let price_fits = record.kind != REPLACE || self.price_fits(record);
         let full = self.book.request_table().len() == MOST_REQUESTS;
         let before = (!price_fits || full).then(|| self.book.tables());
@@ -125,7 +126,24 @@ impl Machine {
             return Err(number);
         }
         self.wrap_sequence(&mut outputs);
-        Ok(answer::write(&outputs, alarm, record.maybe(TEXT, |r| r.text(TEXT))))
+        let brought = Brought { text: record.maybe(TEXT, |r| r.text(TEXT)), source };
+        Ok(answer::write(&outputs, alarm, brought))
+    }
+
+    /// What decides the price of a venue report's fill: the report's numbers and the order's as
+    /// they stand before it.
+    pub fn fill(&self, record: &Record<'_>) -> Option<Fill> {
+        let named = latin1(record.text(DOWNSTREAM));
+        let sent = self.book.sent(&named).filter(|_| record.kind == VENUE_REPORT)?;
+        let order = self.book.order(sent.order)?;
+        Some(Fill {
+            last_qty: record.number(LAST_QTY),
+            last_px: record.number(LAST_PX),
+            cum_qty: record.number(CUM_QTY),
+            avg_px: record.number(AVG_PX),
+            old_cum_qty: qty_count(order.cum_qty),
+            old_avg_px: price_count(order.avg_px) as u64,
+        })
     }
 
     /// Question 6 for a replace: a price exactly when the type, the order's where it names none,

@@ -44,24 +44,47 @@ pub struct Fill {
     pub old_avg_px: u64,
 }
 
+/// Where a fill's price comes from, by its number in a report. 0 stands there for none: the price
+/// was not set by a venue's report.
+#[derive(Debug, Clone, Copy, PartialEq, Eq)]
+#[repr(u8)]
+pub enum Source {
+    LastPx = 1,
+    Quotient = 2,
+    Average = 3,
+}
+
 impl Fill {
     pub fn rise(&self) -> u64 {
         self.cum_qty.saturating_sub(self.old_cum_qty)
     }
 
-    /// The exact fraction of docs/SCOPE.md, Fill price, rounded to eight places, a half to the even one.
-    pub fn price(&self) -> u128 {
+    /// Which of docs/SCOPE.md's three prices it is, by the rule alone: equal prices say nothing.
+    pub fn source(&self) -> Source {
         let rise = self.rise();
-        if rise == 0 {
-            return if self.last_px > 0 { self.last_px } else { self.avg_px }.into();
+        if self.last_px > 0 && (rise == 0 || rise == self.last_qty) {
+            return Source::LastPx;
         }
-        if rise == self.last_qty && self.last_px > 0 {
-            return self.last_px.into();
+        if self.quotient() > 0 { Source::Quotient } else { Source::Average }
+    }
+
+    pub fn price(&self) -> u128 {
+        match self.source() {
+            Source::LastPx => self.last_px.into(),
+            Source::Quotient => self.quotient(),
+            Source::Average => self.avg_px.into(),
         }
+    }
+
+    /// The exact fraction of docs/SCOPE.md, Fill price, rounded to eight places, a half to the even one; 0 where
+    /// nothing rose or it is below 0.
+    fn quotient(&self) -> u128 {
         let new = u128::from(self.cum_qty) * u128::from(self.avg_px);
         let old = u128::from(self.old_cum_qty) * u128::from(self.old_avg_px);
-        let price = new.checked_sub(old).map_or(0, |paid| half_to_even(paid, rise.into()));
-        if price > 0 { price } else { self.avg_px.into() }
+        match (self.rise(), new.checked_sub(old)) {
+            (0, _) | (_, None) => 0,
+            (rise, Some(paid)) => half_to_even(paid, rise.into()),
+        }
     }
 }
 
@@ -101,5 +124,25 @@ mod tests {
         assert_eq!(Fill { old_avg_px: 100_000_002, ..tie }.price(), 100_000_000);
         let below = Fill { cum_qty: 30_000, avg_px: 50_000_000, old_cum_qty: 20_000, ..FILL };
         assert_eq!(Fill { old_avg_px: 100_000_000, ..below }.price(), 50_000_000);
+    }
+
+    #[test]
+    fn a_source_goes_by_the_rule_and_not_by_the_price() {
+        let told = |fill: Fill| (fill.price(), fill.source());
+        // No rise: LastPx if above 0, else AvgPx, also at 0.
+        assert_eq!(told(Fill { last_px: 7, avg_px: 7, ..FILL }), (7, Source::LastPx));
+        assert_eq!(told(Fill { last_qty: 5, last_px: 7, ..FILL }), (7, Source::LastPx));
+        assert_eq!(told(Fill { avg_px: 7, ..FILL }), (7, Source::Average));
+        assert_eq!(told(FILL), (0, Source::Average));
+        // A rise at prices that are all equal.
+        let level = Fill { last_px: 10, avg_px: 10, old_avg_px: 10, old_cum_qty: 1, cum_qty: 3, ..FILL };
+        assert_eq!(told(Fill { last_qty: 2, ..level }), (10, Source::LastPx));
+        assert_eq!(told(Fill { last_qty: 1, ..level }), (10, Source::Quotient));
+        // A quotient of 0, of a half, and below 0.
+        assert_eq!(told(Fill { last_qty: 1, avg_px: 0, old_avg_px: 0, ..level }), (0, Source::Average));
+        let half = Fill { cum_qty: 5, avg_px: 2, old_cum_qty: 3, old_avg_px: 3, ..FILL };
+        assert_eq!(told(half), (2, Source::Average));
+        assert_eq!(told(Fill { old_avg_px: 4, ..half }), (2, Source::Average));
+        assert_eq!(told(Fill { old_avg_px: 2, ..half }), (2, Source::Quotient));
     }
 }

@@ -2,7 +2,7 @@
 //! fields whose bit stands, in bit order, numbers little-endian.
 
 use crate::codes;
-use crate::numbers::{MAX_PRICE, MAX_QTY};
+use crate::numbers::{MAX_PRICE, MAX_QTY, Source};
 
 pub const CLIENT: usize = 0;
 pub const VENUE: usize = 1;
@@ -35,7 +35,8 @@ pub const FIXED_TEXT: usize = 27;
 pub const ORIGIN: usize = 28;
 pub const RESPONSE_TO: usize = 29;
 pub const ORIG_DOWNSTREAM: usize = 30;
-pub const BITS: usize = 31;
+pub const PRICE_SOURCE: usize = 31;
+pub const BITS: usize = 32;
 
 /// Kinds of event.
 pub const BOOK: u8 = 1;
@@ -77,7 +78,7 @@ pub fn shape(bit: usize) -> Shape {
         VENUE_ORDER_ID => Shape::Text(0, 32),
         TEXT => Shape::Text(1, 64),
         SIDE | ORD_TYPE | TIME_IN_FORCE | EXEC_TYPE | ORD_STATUS | VERDICT => Shape::Number(1),
-        FIXED_TEXT | ORIGIN | RESPONSE_TO => Shape::Number(1),
+        FIXED_TEXT | ORIGIN | RESPONSE_TO | PRICE_SOURCE => Shape::Number(1),
         REASON => Shape::Number(4),
         REDELIVERED | BLOCKED => Shape::Mark,
         FILL_PRICE => Shape::Number(16),
@@ -135,12 +136,13 @@ impl<'a> Record<'a> {
         (fits && rest.is_empty()).then_some(record)
     }
 
-    /// The record at the start of `bytes`, and what follows it.
+    /// The record at the start of `bytes`, and what follows it. A report has a price source, and
+    /// no other record has one.
     pub fn read(bytes: &'a [u8]) -> Option<(Self, &'a [u8])> {
         let (head, mut rest) = bytes.split_at_checked(HEAD)?;
         let map = u32::from_le_bytes(head[1..].try_into().expect("four bytes"));
         let mut record = Self { kind: head[0], map, numbers: [0; BITS], texts: [&[]; BITS] };
-        if map >> BITS != 0 {
+        if record.has(PRICE_SOURCE) != (record.kind == REPORT_MESSAGE) {
             return None;
         }
         for bit in (0..BITS).filter(|bit| map >> bit & 1 == 1) {
@@ -211,6 +213,7 @@ impl<'a> Record<'a> {
             QTY | LAST_QTY | CUM_QTY => self.number(bit) <= MAX_QTY,
             PRICE | LAST_PX | AVG_PX => self.number(bit) <= MAX_PRICE,
             VERDICT => self.code(bit) <= 7,
+            PRICE_SOURCE => self.code(bit) <= Source::Average as u8,
             _ => true,
         }
     }
@@ -238,6 +241,16 @@ enum Field {
 impl Draft {
     pub fn new(kind: u8) -> Self {
         Self { kind, fields: [const { None }; BITS] }
+    }
+
+    /// The record that was read, to be altered.
+    pub fn of(record: &Record<'_>) -> Self {
+        let stands = (0..BITS).filter(|&bit| record.has(bit));
+        stands.fold(Self::new(record.kind), |draft, bit| match shape(bit) {
+            Shape::Number(_) => draft.number(bit, record.wide(bit)),
+            Shape::Text(..) => draft.text(bit, record.text(bit)),
+            Shape::Mark => draft.mark(bit),
+        })
     }
 
     pub fn number(mut self, bit: usize, number: impl Into<u128>) -> Self {
@@ -317,6 +330,7 @@ mod tests {
         let record = Record::read_event(&bytes).expect("whole");
         assert_eq!((record.number(CLIENT), record.text(CL_ORD_ID)), (0x0102, &b"c2"[..]));
         assert!(record.has(REDELIVERED) && record.in_range());
+        assert_eq!(Draft::of(&record), cancel().mark(REDELIVERED));
     }
 
     #[test]
@@ -339,6 +353,23 @@ mod tests {
         bytes[4] &= 0x7f;
         bytes[0] = 10;
         assert!(Record::read_event(&bytes).is_none());
+    }
+
+    #[test]
+    fn a_price_source_stands_in_every_report_and_in_no_other_record() {
+        let sourced = |kind: u8| Draft::new(kind).number(PRICE_SOURCE, 3_u8).bytes();
+        for kind in 0..=255 {
+            let (with, without) = (sourced(kind), Draft::new(kind).bytes());
+            assert_eq!(Record::read(&with).is_some(), kind == REPORT_MESSAGE, "kind {kind}");
+            assert_eq!(Record::read(&without).is_some(), kind != REPORT_MESSAGE, "kind {kind}");
+        }
+        assert!(Record::read_event(&cancel().number(PRICE_SOURCE, 0_u8).bytes()).is_none());
+        for source in 0..=255_u8 {
+            let report = Draft::new(REPORT_MESSAGE).number(PRICE_SOURCE, source).bytes();
+            let (report, rest) = Record::read(&report).expect("whole");
+            assert_eq!((report.code(PRICE_SOURCE), rest.len()), (source, 0));
+            assert_eq!(report.in_range(), source <= 3, "source {source}");
+        }
     }
 
     #[test]

@@ -4,10 +4,10 @@
 
 use std::panic::{AssertUnwindSafe, catch_unwind};
 
-use crate::answer::{latin1, messages};
+use crate::answer::messages;
 use crate::demand::{Before, History};
 use crate::machine::Machine;
-use crate::numbers::{Fill, price_count, qty_count};
+use crate::numbers::Fill;
 use crate::record::*;
 use crate::rules;
 
@@ -25,42 +25,32 @@ impl Watched {
     /// The event's outcome, or what does not hold after it.
     pub fn event(&mut self, record: &[u8], answer_buffer: usize) -> Result<Result<Vec<u8>, u32>, String> {
         let read = Record::read_event(record).filter(Record::in_range);
-        let before = read.as_ref().map(|read| (Before::of(&self.machine, read), self.fill(read)));
+        let before = read.as_ref().map(|read| (Before::of(&self.machine, read), self.machine.fill(read)));
         let outcome = self.machine.event(record, answer_buffer);
         let (Ok(answer), Some(read), Some((before, fill))) = (&outcome, &read, before) else {
             return Ok(outcome);
         };
-        priced(fill, answer)?;
+        priced(read, fill, answer)?;
         rules::broken(self.machine.book()).map_or(Ok(()), Err)?;
         self.history.taken(before, read.kind, answer, self.machine.book())?;
         let book = self.machine.book();
         catch_unwind(AssertUnwindSafe(|| book.check_invariants())).map_err(|_| "the Rust's check()")?;
         Ok(outcome)
     }
-
-    /// What decides the price of a venue report's fill.
-    fn fill(&self, record: &Record<'_>) -> Option<Fill> {
-        let book = self.machine.book();
-        let sent = book.sent(&latin1(record.text(DOWNSTREAM))).filter(|_| record.kind == VENUE_REPORT)?;
-        let order = book.order(sent.order)?;
-        Some(Fill {
-            last_qty: record.number(LAST_QTY),
-            last_px: record.number(LAST_PX),
-            cum_qty: record.number(CUM_QTY),
-            avg_px: record.number(AVG_PX),
-            old_cum_qty: qty_count(order.cum_qty),
-            old_avg_px: price_count(order.avg_px) as u64,
-        })
-    }
 }
 
-/// LastQty is the rise and the price the exact quotient.
-fn priced(fill: Option<Fill>, answer: &[u8]) -> Result<(), String> {
-    let Some(fill) = fill else { return Ok(()) };
+/// In a report that answers a venue's, LastQty is the rise and the price that of its source, by
+/// exact integers; in any other both are 0, and the source too.
+fn priced(event: &Record<'_>, fill: Option<Fill>, answer: &[u8]) -> Result<(), String> {
     for report in messages(answer).iter().filter(|message| message.kind == REPORT_MESSAGE) {
-        let told = (report.number(LAST_QTY), report.wide(FILL_PRICE));
-        if told != (fill.rise(), fill.price()) {
-            return Err(format!("told {told:?}, exact is {:?} for {fill:?}", (fill.rise(), fill.price())));
+        let told = (report.number(LAST_QTY), report.wide(FILL_PRICE), report.code(PRICE_SOURCE));
+        let exact = match fill {
+            Some(fill) => (fill.rise(), fill.price(), fill.source() as u8),
+            None if event.kind == VENUE_REPORT => return Err("a report on no order".into()),
+            None => (0, 0, 0),
+        };
+        if told != exact {
+            return Err(format!("told {told:?}, exact is {exact:?} for {fill:?}"));
         }
     }
     Ok(())

@@ -12,7 +12,7 @@ use Rattle.places.proofs.walk.range_of.Tie as tie
 
 ranges : List ℕ
 ranges =
-    0 ∷ 0 ∷ 12 ∷ 13 ∷ 13 ∷ 13 ∷ 11 ∷ 3 ∷ 4 ∷ 1 ∷ 2 ∷ 5 ∷ 6 ∷ 7 ∷ 1 ∷ 2 ∷ 1 ∷ 2 ∷ 15 ∷ 0 ∷ 14 ∷ 0 ∷ 0 ∷ 8 ∷ 1 ∷ 0 ∷ 0 ∷ 9 ∷ 10 ∷ 10 ∷ 13 ∷ 0 ∷ []
+    0 ∷ 0 ∷ 12 ∷ 13 ∷ 13 ∷ 13 ∷ 11 ∷ 3 ∷ 4 ∷ 1 ∷ 2 ∷ 5 ∷ 6 ∷ 7 ∷ 1 ∷ 2 ∷ 1 ∷ 2 ∷ 15 ∷ 0 ∷ 14 ∷ 0 ∷ 0 ∷ 8 ∷ 1 ∷ 0 ∷ 0 ∷ 9 ∷ 10 ∷ 10 ∷ 13 ∷ 16 ∷ []
 
 returns : tie.Need-returns
 unfolding ranges range fields allBelow

@@ -11,7 +11,7 @@ use Rattle.places.proofs.walk.size_of.Tie as tie
 
 sizes : List ℕ
 sizes =
-    2 ∷ 2 ∷ 255 ∷ 255 ∷ 255 ∷ 255 ∷ 255 ∷ 1 ∷ 1 ∷ 8 ∷ 8 ∷ 1 ∷ 1 ∷ 1 ∷ 8 ∷ 8 ∷ 8 ∷ 8 ∷ 255 ∷ 4 ∷ 255 ∷ 0 ∷ 0 ∷ 1 ∷ 8 ∷ 8 ∷ 16 ∷ 1 ∷ 1 ∷ 1 ∷ 255 ∷ 0 ∷ []
+    2 ∷ 2 ∷ 255 ∷ 255 ∷ 255 ∷ 255 ∷ 255 ∷ 1 ∷ 1 ∷ 8 ∷ 8 ∷ 1 ∷ 1 ∷ 1 ∷ 8 ∷ 8 ∷ 8 ∷ 8 ∷ 255 ∷ 4 ∷ 255 ∷ 0 ∷ 0 ∷ 1 ∷ 8 ∷ 8 ∷ 16 ∷ 1 ∷ 1 ∷ 1 ∷ 255 ∷ 1 ∷ []
 
 returns : tie.Need-returns
 unfolding sizes size fields allBelow

@@ -10,7 +10,7 @@ use gateway::book::{
     Book, ExecType, Input, OrdType, OrderId, OrderRequest, Output, Side, Status, VenueReport,
 };
 use lists::random::Random;
-use model::numbers::{Fill, MAX_PRICE, MAX_QTY, price, price_count, qty};
+use model::numbers::{Fill, MAX_PRICE, MAX_QTY, Source, price, price_count, qty};
 
 const SEED: u64 = 44;
 const VECTORS: usize = 12_000;
@@ -76,12 +76,14 @@ struct Counts {
 impl Counts {
     fn add(&mut self, fill: &Fill, price: u128) {
         let rest = rest_of(fill).filter(|_| !own_fill_told(fill));
-        let way = match rest {
-            _ if fill.rise() == 0 => &mut self.no_rise,
-            _ if own_fill_told(fill) => &mut self.own_fill,
-            Some(_) if positive(fill) => &mut self.quotient,
-            _ => &mut self.average,
+        let (way, source) = match rest {
+            _ if fill.rise() == 0 && fill.last_px > 0 => (&mut self.no_rise, Source::LastPx),
+            _ if fill.rise() == 0 => (&mut self.no_rise, Source::Average),
+            _ if own_fill_told(fill) => (&mut self.own_fill, Source::LastPx),
+            Some(_) if positive(fill) => (&mut self.quotient, Source::Quotient),
+            _ => (&mut self.average, Source::Average),
         };
+        assert_eq!(fill.source(), source, "{fill:?}");
         *way += 1;
         let from_half = rest.filter(|_| fill.rise() > 1).map(|rest| (2 * rest).abs_diff(fill.rise()));
         self.half += usize::from(from_half == Some(0));

@@ -7,8 +7,9 @@
 use std::process::ExitCode;
 
 use lists::{PROFILES, exhaustive, list};
+use model::answer::{messages, of_messages};
 use model::machine::Machine;
-use model::record::Record;
+use model::record::{Draft, PRICE_SOURCE, REPORT_MESSAGE, Record};
 
 const EVENT: u8 = 1;
 const ANSWER: u8 = 2;
@@ -57,6 +58,9 @@ fn items() -> (Vec<u8>, usize) {
         for end in 0..answer.len() {
             put(ANSWER, &answer[..end], 3);
         }
+        for (altered, refusal) in other_sources(answer) {
+            put(ANSWER, &altered, refusal);
+        }
     }
     (items, count)
 }
@@ -86,6 +90,33 @@ fn answers() -> Vec<Vec<u8>> {
     answers.dedup();
     let step = answers.len().div_ceil(ANSWERS);
     answers.into_iter().step_by(step).collect()
+}
+
+/// The answer with each message's price source altered, and what is then said of it: a report
+/// without one has the wrong shape, and so has another message with one; above 3 it is out of range.
+fn other_sources(answer: &[u8]) -> Vec<(Vec<u8>, u8)> {
+    let drafts: Vec<Draft> = messages(answer).iter().map(Draft::of).collect();
+    let mut altered = Vec::new();
+    for (at, message) in messages(answer).iter().enumerate() {
+        let mut put = |draft: Draft, refusal: u8| {
+            let mut drafts = drafts.clone();
+            drafts[at] = draft;
+            altered.push((of_messages(&drafts, answer[3]), refusal));
+        };
+        let report = message.kind == REPORT_MESSAGE;
+        if report {
+            put(drafts[at].clone().without(PRICE_SOURCE), 3);
+        }
+        for source in 0..=255_u8 {
+            let refusal = match source {
+                _ if !report => 3,
+                0..=3 => 0,
+                _ => 4,
+            };
+            put(drafts[at].clone().number(PRICE_SOURCE, source), refusal);
+        }
+    }
+    altered
 }
 
 /// The longest answer for each kind of first message.
