@@ -1,3 +1,2 @@
 pub mod Booking
-pub mod Early
 pub mod Prices

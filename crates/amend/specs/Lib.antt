@@ -1,4 +1,3 @@
 pub mod Booking
-pub mod Early
 pub mod Laws
 pub mod Prices

@@ -5,7 +5,6 @@ ghost use mathlib.Core.Option.{some};
 ghost use Rattle.machine.specs.Orders.{limitPrice};
 ghost use Rattle.store.specs.Orders.{noPending};
 ghost use Rattle.machine.specs.Amend.{has, matches, amendRefusal, refuse, statusReport, alreadyTaken, cancelRefusal, cancelGoes, cancel, orOwn, priceOf, samePrice, verdictText, checkReplace, replaceRefusal, newTerms, pricedRight, newPending, replaceGoes, replace, amendable, number};
-ghost use Rattle.amend.specs.Early.{Comes, ending, going};
 ghost use Rattle.amend.specs.Prices.{priceIn};
 use format::bit;
 use format::codes;
@@ -52,32 +51,6 @@ const TEXT_DONE: u8 = 7;
 const TEXT_TOO_MANY: u8 = 8;
 
 const TEXT_SIDE_OR_SYMBOL: u8 = 9;
-
-// A handling that may end at once: the change that it has ended with, or that it goes on.
-pub struct Early {
-    pub ended: bool,
-    pub change: Change,
-}
-
-// It has ended with this change.
-pub fn ending(change: Change) -> Early
-    ensures { λ r. ⌜ r ≡ ending change ⌝ }
-{
-    Early {
-        ended: true,
-        change,
-    }
-}
-
-// It goes on, and has changed nothing.
-pub fn going(place: u16, o: Order) -> Early
-    ensures { λ r. ⌜ r ≡ going place o ⌝ }
-{
-    Early {
-        ended: false,
-        change: change::unchanged(place, o),
-    }
-}
 
 // A bit of the event's map stands.
 pub fn has(e: Record, k: u32) -> bool
@@ -184,29 +157,6 @@ fn already_taken(f: Findings, order: u16, e: Record) -> bool
     has(e, bit::REDELIVERED) & (order != 0) & (order == f.place)
 }
 
-// `amendable`: a request already taken is told again, one that is refused is told so, and any other
-// goes on.
-fn amendable(
-    f: Findings,
-    responseto: u8,
-    order: u16,
-    full: bool,
-    o: Order,
-    e: Record,
-    own: Refusal,
-) -> Early
-    ensures { λ r. ⌜ Comes r (λ goes. amendable f responseto order full o e own goes) ⌝ }
-{
-    if already_taken(f, order, e) {
-        return ending(status_report(f, o, e));
-    }
-    let r = amend_refusal(f, order, full, o, e, own);
-    if r.fixedtext != 0 {
-        return ending(refuse(f, responseto, o, e, r));
-    }
-    going(f.place, o)
-}
-
 fn cancel_refusal(f: Findings, o: Order) -> Refusal
     ensures { λ r. ⌜ r ≡ cancelRefusal f o ⌝ }
 {
@@ -244,13 +194,18 @@ fn cancel_goes(f: Findings, o: Order, e: Record) -> Change
     change::telling(m, number(f, kinds::CANCEL, o, e, order))
 }
 
+// `amendable` stands in `cancel` and in `replace`: a function of its own would hand a change back by
+// value where it goes on, and copying one costs more than the rest of an amendment.
 pub fn cancel(f: Findings, order: u16, full: bool, o: Order, e: Record) -> Change
     ensures { λ r. ⌜ r ≡ cancel f order full o e ⌝ }
 {
+    if already_taken(f, order, e) {
+        return status_report(f, o, e);
+    }
     let own = cancel_refusal(f, o);
-    let early = amendable(f, kinds::CANCEL, order, full, o, e, own);
-    if early.ended {
-        return early.change;
+    let r = amend_refusal(f, order, full, o, e, own);
+    if r.fixedtext != 0 {
+        return refuse(f, kinds::CANCEL, o, e, r);
     }
     cancel_goes(f, o, e)
 }
@@ -434,10 +389,13 @@ fn replace_goes(f: Findings, o: Order, e: Record) -> Change
 pub fn replace(f: Findings, order: u16, full: bool, o: Order, e: Record) -> Change
     ensures { λ r. ⌜ r ≡ replace f order full o e ⌝ }
 {
+    if already_taken(f, order, e) {
+        return status_report(f, o, e);
+    }
     let own = replace_refusal(f, o, e);
-    let early = amendable(f, kinds::REPLACE, order, full, o, e, own);
-    if early.ended {
-        return early.change;
+    let r = amend_refusal(f, order, full, o, e, own);
+    if r.fixedtext != 0 {
+        return refuse(f, kinds::REPLACE, o, e, r);
     }
     let ordtype = or_own(e.terms.ordtype, o.terms.ordtype);
     if !priced_right(ordtype, e) {

@@ -10,8 +10,6 @@ ghost use Rattle.machine.specs.Changes.{unchanged};
 ghost use Rattle.machine.specs.GatewayCancel.{resumeGatewayCancel};
 ghost use Rattle.machine.specs.Amend.{refuseRequest};
 ghost use Rattle.report.specs.Rejection.{rejectionOf};
-ghost use Rattle.amend.specs.Early.{Comes};
-use amend::Early;
 use amend::rejects;
 use format::bit;
 use format::codes;
@@ -136,19 +134,6 @@ fn dropped_repeat(f: Findings, o: Order, e: Record) -> Change
     let given = ids.venueorderid;
     let order = order::record_venue_order_id(given, false, o);
     change::unchanged(f.place, order)
-}
-
-// `dropped`: a stale report is, and one that repeats what the order has; any other goes on.
-fn dropped(f: Findings, k: u16, q: Request, o: Order, e: Record) -> Early
-    ensures { λ r. ⌜ Comes r (λ goes. dropped f k q o e goes) ⌝ }
-{
-    if stale(k, q, o, e) {
-        return amend::ending(dropped_stale(f, o, e));
-    }
-    if repeats(k, o, e) {
-        return amend::ending(dropped_repeat(f, o, e));
-    }
-    amend::going(f.place, o)
 }
 
 // The status that the report sets, 0 for none: one that is behind is dropped.
@@ -350,9 +335,11 @@ fn venue_report(f: Findings, k: u16, q: Request, o: Order, e: Record) -> Change
     if o.venue != e.venue {
         return change::unchanged(f.place, o);
     }
-    let early = dropped(f, k, q, o, e);
-    if early.ended {
-        return early.change;
+    if stale(k, q, o, e) {
+        return dropped_stale(f, o, e);
+    }
+    if repeats(k, o, e) {
+        return dropped_repeat(f, o, e);
     }
     let most = ordered_qty(accepts(k, q, o, e), o);
     if most < larger(e.exec.cumqty, o.state.cumqty) {

@@ -1,24 +1,37 @@
 -- `amend::cancel` is `cancel`. Assumes nothing.
 use borrow.Author.Needs.{needs}
-use mathlib.Core.Path.{_∙_}
+use borrow.Author.Tests.{eq-eqb, ne-eqb}
+use Rattle.prelude.specs.Cases.{if_then_else_}
 use Rattle.machine.specs.Amend.{cancel}
-use Rattle.amend.specs.Laws.Early.{has-ended, goes-on}
 use Rattle.amend.proofs.cancel.Statement.{statement}
 use Rattle.amend.proofs.cancel.Tie as tie
 
 returns : tie.Need-returns
-unfolding cancel
+unfolding cancel if_then_else_
 returns c =
-    let w = c .before in
-    let a = w .before in
-    rw (← a .before .cancel-refusal .ensures) (has-ended _ _ (w .if1 .taken) ∙ a .amendable .ensures _)
+    let c1 = c .before in
+    let c2 = c1 .before in
+    rw (← c2 .already-taken .ensures, c1 .if1 .taken, ← c .status-report .ensures)
 
 returns-2 : tie.Need-returns-2
-unfolding cancel
+unfolding cancel if_then_else_
 returns-2 c =
-    let w = c .before in
-    let a = w .before in
-    rw (← a .before .cancel-refusal .ensures) (c .cancel-goes .ensures ∙ (goes-on _ _ (w .if1 .left) ∙ a .amendable .ensures _))
+    let c1 = c .before in
+    let c2 = c1 .before .before in
+    let c3 = c2 .before in
+    let c4 = c3 .before in
+    let c5 = c4 .before in
+    rw (← c5 .already-taken .ensures, c4 .if1 .left, ← c3 .cancel-refusal .ensures, ← c2 .amend-refusal .ensures, ne-eqb _ _ (c1 .if2 .taken), ← c .refuse .ensures)
+
+returns-3 : tie.Need-returns-3
+unfolding cancel if_then_else_
+returns-3 c =
+    let c1 = c .before in
+    let c2 = c1 .before .before in
+    let c3 = c2 .before in
+    let c4 = c3 .before in
+    let c5 = c4 .before in
+    rw (← c5 .already-taken .ensures, c4 .if1 .left, ← c3 .cancel-refusal .ensures, ← c2 .amend-refusal .ensures, eq-eqb _ _ (c1 .if2 .left), ← c .cancel-goes .ensures)
 
 pub cancel-spec : {M : Type 1} → statement M
-cancel-spec = tie.close (tie.spec (λ c κs. search needs) (λ c κs. search needs) returns (λ c κs. search needs) returns-2)
+cancel-spec = tie.close (tie.spec (λ c κs. search needs) (λ c κs. search needs) returns (λ c κs. search needs) (λ c κs. search needs) (λ c κs. search needs) returns-2 (λ c κs. search needs) returns-3)
