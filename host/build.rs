@@ -1,22 +1,31 @@
-//! Links the static library that `rt staticlib gateway` writes. It stands in `target/staticlib` of the repository, or in the
-//! folder that `JUBAFIYE_LIB` names. Where it is missing, the build ends here with one message and never reaches the linker.
+//! Links the static libraries that `rt staticlib` writes: `gateway` for the feature `book`, `fix` for the feature `fix`. They
+//! stand in `target/staticlib` of the repository, or in the folder that `JUBAFIYE_LIB` names. Where one is missing, the build
+//! ends here with one message and never reaches the linker.
 
 use std::env;
 use std::path::{Path, PathBuf};
 
+/// A library of the crate: the feature that wants it, and its name.
+const LIBRARIES: [(&str, &str); 2] = [("CARGO_FEATURE_BOOK", "gateway"), ("CARGO_FEATURE_FIX", "fix")];
+
 fn main() {
     println!("cargo::rerun-if-env-changed=JUBAFIYE_LIB");
-    match folder() {
-        Ok(folder) => {
-            println!("cargo::rustc-link-search=native={}", folder.display());
-            println!("cargo::rustc-link-lib=static=gateway");
+    for (feature, name) in LIBRARIES {
+        if env::var_os(feature).is_none() {
+            continue;
         }
-        Err(missing) => println!("cargo::error={missing}"),
+        match folder(name) {
+            Ok(folder) => {
+                println!("cargo::rustc-link-search=native={}", folder.display());
+                println!("cargo::rustc-link-lib=static={name}");
+            }
+            Err(missing) => println!("cargo::error={missing}"),
+        }
     }
 }
 
-/// The folder that holds the library, or what is missing and how to get it.
-fn folder() -> Result<PathBuf, String> {
+/// The folder that holds a library, or what is missing and how to get it.
+fn folder(name: &str) -> Result<PathBuf, String> {
     let target = |key| env::var(key).unwrap_or_default();
     let (arch, os) = (target("CARGO_CFG_TARGET_ARCH"), target("CARGO_CFG_TARGET_OS"));
     if (arch.as_str(), os.as_str()) != ("x86_64", "linux") {
@@ -27,14 +36,14 @@ fn folder() -> Result<PathBuf, String> {
     let told = if named.is_some() { "JUBAFIYE_LIB names it" } else { "JUBAFIYE_LIB names no other folder" };
     let folder = named.unwrap_or_else(usual);
     let folder = folder.canonicalize().unwrap_or(folder);
-    let library = folder.join("libgateway.a");
+    let library = folder.join(format!("lib{name}.a"));
     println!("cargo::rerun-if-changed={}", library.display());
     if library.is_file() {
         return Ok(folder);
     }
     Err(format!(
-        "the proved library libgateway.a is not in the folder {} ({told}). Make it with `rt staticlib gateway` in the \
-         repository's root, which writes target/staticlib/libgateway.a, or set JUBAFIYE_LIB to a folder that has one",
+        "the proved library lib{name}.a is not in the folder {} ({told}). Make it with `rt staticlib {name}` in the \
+         repository's root, which writes target/staticlib/lib{name}.a, or set JUBAFIYE_LIB to a folder that has one",
         folder.display()
     ))
 }

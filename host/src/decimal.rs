@@ -99,6 +99,12 @@ impl Price {
 
     const DECIMALS: usize = 8;
 
+    /// A price of any size, as a fill price may be.
+    #[cfg(feature = "fix")]
+    pub(crate) fn of_any_size(text: &str) -> Result<Self, DecimalError> {
+        read(text, Self::DECIMALS).map(Self)
+    }
+
     /// Whole units of money.
     #[allow(clippy::as_conversions)] // to a wider type, where `from` is not const
     pub const fn units(units: u64) -> Self {

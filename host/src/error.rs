@@ -34,6 +34,10 @@ pub enum Refusal {
     Full,
     /// 8: the page's buffer is shorter than 81 bytes for each order.
     PageBuffer,
+    /// 9: a text for FIX is empty or has a byte below 32.
+    Text,
+    /// 10: the buffer cannot hold the FIX message.
+    Room,
     /// Another number, which this crate does not know: the library is of another version.
     Other(u32),
 }
@@ -50,6 +54,8 @@ impl Refusal {
             Self::Price => 6,
             Self::Full => 7,
             Self::PageBuffer => 8,
+            Self::Text => 9,
+            Self::Room => 10,
             Self::Other(number) => number,
         }
     }
@@ -72,6 +78,8 @@ impl Refusal {
             6 => Self::Price,
             7 => Self::Full,
             8 => Self::PageBuffer,
+            9 => Self::Text,
+            10 => Self::Room,
             _ => Self::Other(number),
         })
     }
@@ -93,6 +101,8 @@ impl fmt::Display for Refusal {
             Self::Price => "a price goes exactly with a limit order",
             Self::Full => "no free order or request record",
             Self::PageBuffer => "the page's buffer is too short",
+            Self::Text => "a text for FIX is empty or has a byte below 32",
+            Self::Room => "the buffer cannot hold the FIX message",
             Self::Other(_) => "a number that is not known here",
         };
         write!(f, "refused with {}: {why}", self.number())
@@ -275,7 +285,7 @@ mod tests {
         }
         assert_eq!(Refusal::of(0), Ok(()));
         assert_eq!(Refusal::of(u32::MAX), Err(Refusal::Other(u32::MAX)));
-        assert_eq!(Refusal::Other(9).to_string(), "refused with 9: a number that is not known here");
+        assert_eq!(Refusal::Other(99).to_string(), "refused with 99: a number that is not known here");
     }
 
     #[test]

@@ -24,6 +24,8 @@
 //! library takes any bytes. Nor does this crate trust the library: whatever bytes it writes and whatever number it returns,
 //! nothing here panics, and an answer that does not read comes back with its bytes ([`Error::Unreadable`]).
 //!
+//! With the feature `fix` the module `fix` writes and reads FIX 4.4 messages; it rests on `libfix.a`.
+//!
 //! What the book puts out may grow: [`Message`], [`Report`], [`Alarm`], [`OrdStatus`], [`Refusal`] and others are
 //! `#[non_exhaustive]`, so that a `match` on one of them has a last arm.
 
@@ -42,25 +44,33 @@
 )]
 
 mod answer;
+#[cfg(feature = "book")]
 mod book;
 mod decimal;
+#[cfg(feature = "book")]
 mod entries;
 mod error;
 mod event;
 mod fields;
+#[cfg(feature = "fix")]
+pub mod fix;
 mod list;
 mod message;
+#[cfg(feature = "book")]
 mod page;
 mod record;
 mod words;
 
 pub use answer::{Alarm, Answer};
+#[cfg(feature = "book")]
 pub use book::Book;
 pub use decimal::{DecimalError, Price, Qty};
+#[cfg(feature = "book")]
 pub use entries::{ANSWER_BYTES, BOOK_BYTES};
 pub use error::{BadAnswer, Error, Fault, Refusal};
 pub use event::{Amend, Booking, Event, RejectedRequest, Replace, VenueReport};
 pub use fields::{ExecType, OrdStatus, OrdType, Side, TimeInForce};
 pub use message::{CancelReject, Message, PriceSource, Report, RequestKind, ToVenue};
+#[cfg(feature = "book")]
 pub use page::{Page, PAGE_BYTES};
 pub use words::{FixedText, Reason, RiskReject, Words};

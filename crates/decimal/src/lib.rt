@@ -1,11 +1,14 @@
 // Numbers in decimal, written into a slice: a count of 10^-places at an index, or right-aligned in
 // columns. What is written, and that it is read back as the count, stands in specs/. The public
-// functions are total: where the text has no room, nothing is written. Rests on prelude's words.
+// functions are total: where the text has no room, nothing is written. Rests on prelude's words; the
+// module `two_words` has the same for numbers of two words.
 ghost use mathlib.Core.Path.{_≡_};
 ghost use Prim.Native.Nat.{_+_, _-_, _≤_};
 ghost use lib.ListN.{length, replicate};
 ghost use Rattle.prelude.specs.Span.{splice};
 ghost use Rattle.decimal.specs.Decimal.{blank, digits, lowDigits, down, decimal, right, written};
+
+pub mod two_words;
 
 // The `count` lowest digits of `n`, written at `at` from the last to the first.
 fn put_low(out: &mut [u8], at: usize, count: usize, n: u64)
@@ -86,18 +89,19 @@ pub fn decimal_length(n: u64, places: u8) -> usize
     w + 1 + p
 }
 
-// `n` counts of 10^-places, written at `at`.
-pub fn put_decimal(out: &mut [u8], at: usize, n: u64, places: u8)
-    ensures { λ _. ⌜ now (out .exit) ≡ written (now (out .entry)) at (decimal places n) ⌝ }
+// `n` counts of 10^-places, written at `at`; how many bytes they take.
+pub fn put_decimal(out: &mut [u8], at: usize, n: u64, places: u8) -> usize
+    ensures { λ r. ⌜ (r ≡ length (decimal places n)) × (now (out .exit) ≡ written (now (out .entry)) at (decimal places n)) ⌝ }
 {
     let long = decimal_length(n, places);
     if out.len() < long {
-        return;
+        return long;
     }
     if at > out.len() - long {
-        return;
+        return long;
     }
     put_here(out, at, n, places as usize);
+    long
 }
 
 fn less(a: usize, b: usize) -> usize

@@ -1,5 +1,6 @@
 pub mod Seen
 pub mod Reading
+pub mod Parts
 pub mod Writing
 pub mod Right
 pub mod Back

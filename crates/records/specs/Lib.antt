@@ -2,4 +2,5 @@ pub mod Fields
 pub mod Record
 pub mod Answer
 pub mod RoundTrip
+pub mod Parts
 pub mod Laws

@@ -1,5 +1,5 @@
 // Events and messages: the record, read and written. Rests on format and places; the modules `fields`,
-// `scan`, `take` and `put` do the parts.
+// `scan`, `take` and `put` do the work, and `parts` gives a message in place.
 ghost use mathlib.Core.Path.{_≡_};
 ghost use mathlib.Core.List.{[]};
 ghost use Prim.Native.Nat.{_<_, _+_, _≤_};
@@ -17,12 +17,13 @@ use prelude::Terms;
 use prelude::Text;
 
 mod fields;
+pub mod parts;
 mod put;
 mod scan;
 mod take;
 
 // The head of an answer: its length in 2 bytes, how many messages, the alarm.
-const HEAD: usize = 4;
+pub const HEAD: usize = 4;
 
 const COUNT: usize = 2;
 

@@ -2,7 +2,7 @@
 // function is total and equals a definition of specs/Wide.antt. Rests on the module `division` and
 // on prelude's words.
 ghost use mathlib.Core.Path.{_≡_};
-ghost use Prim.Native.Nat.{_-_, _*_, _<_};
+ghost use Prim.Native.Nat.{_-_, _*_, _/_, _%_, _<_};
 ghost use lib.Dec.{ltb};
 ghost use Rattle.wide.specs.Wide.{value, words, up, nearest, byLastPx, implied, fillPrice};
 
@@ -93,6 +93,24 @@ pub fn quotient(n: [u64; 2], d: u64) -> [u64; 2]
         return [low.quotient + 1, high];
     }
     [0, high + 1]
+}
+
+// A tenth, truncated, and the digit that it leaves.
+pub struct Tenth {
+    pub quotient: [u64; 2],
+    pub digit: u64,
+}
+
+// `n / 10` and `n % 10`: the digits of two words, the lowest first.
+pub fn by_ten(n: [u64; 2]) -> Tenth
+    ensures { λ r. ⌜ (r .quotient ≡ words (value n / 10)) × (r .digit ≡ value n % 10) ⌝ }
+{
+    let low = divide(n[1] % 10, n[0], 10);
+    let quotient = [low.quotient, n[1] / 10];
+    Tenth {
+        quotient,
+        digit: low.rest,
+    }
 }
 
 // Does the report's LastPx tell the price? It is above 0, and there is no rise or it is LastQty.

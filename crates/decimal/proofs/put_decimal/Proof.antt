@@ -13,17 +13,19 @@ use Rattle.decimal.proofs.put_decimal.Tie as tie
 returns : tie.Need-returns
 returns c =
     let a = c .before .before .before .args in
-    written-none (now (a .out)) (a .at) (decimal (a .places) (a .n)) (omega arith)
+    (c .before .decimal-length .ensures .0, written-none (now (a .out)) (a .at) (decimal (a .places) (a .n)) (omega arith))
 
 returns-2 : tie.Need-returns-2
 returns-2 c =
     let a = c .before .before .before .before .args in
-    written-none (now (a .out)) (a .at) (decimal (a .places) (a .n)) (omega arith)
+    (c .before .before .decimal-length .ensures .0, written-none (now (a .out)) (a .at) (decimal (a .places) (a .n)) (omega arith))
 
 returns-3 : tie.Need-returns-3
 returns-3 c =
-    let a = c .before .before .before .before .before .before .before .before .args in
-    c .before .before .put-here .ensures ∙ sym (written-room (now (a .out)) (a .at) (decimal (a .places) (a .n)) (omega arith))
+    let a = c .before .before .before .before .before .before .before .before .args in (
+      c .before .before .before .before .before .before .decimal-length .ensures .0,
+      c .before .before .put-here .ensures ∙ sym (written-room (now (a .out)) (a .at) (decimal (a .places) (a .n)) (omega arith)),
+    )
 
 pub put-decimal-spec : {M : Type 1} → statement M
 put-decimal-spec =

@@ -2,10 +2,11 @@
 use Prim.Native.Nat.{ℕ, zero, suc, _+_, _*_, _/_, _^_, _≤_, _<_}
 use mathlib.Core.Path.{_≡_, refl, sym, ap, _∙_}
 use mathlib.Core.List.{List, [], _∷_, _++_, append-assoc}
+use native.Mathlib.Nat.{lt-of-lt-of-le, lt-of-le-of-lt, le-trans, mul-le-mul-left}
 use native.Mathlib.Decide.{decLt}
 use native.Mathlib.Omega.{arith}
 use borrow.Author.Tests.{ltb-false, lt-ltb, le-ltb}
-use lib.Dec.{ltb}
+use lib.Dec.{ltb, lit≤}
 use lib.ListN.{length, getD, set, length-append, List·getD-append}
 use Rattle.prelude.specs.Cases.{if_then_else_, split-if, if-true, if-false}
 use Rattle.prelude.specs.Span.{splice, length-splice, splice-append, splice-before, set-splice}
@@ -212,3 +213,11 @@ decimal-put s at p n w e h l =
 -- a number of one word has at most 20 digits
 pub width-word : (p n : ℕ) → n < 2 ^ 64 → length (digits (down p n)) ≤ 20
 width-word p n h = width-bound 19 (down p n) (omega (arith, down-less p n))
+
+-- one of two words at most 39
+pub width-words : (p low high : ℕ) → low < 2 ^ 64 → high < 2 ^ 64 → length (digits (down p (low + 2 ^ 64 * high))) ≤ 39
+width-words p low high a b =
+    let e : low + 2 ^ 64 * high < 2 ^ 64 * suc high = omega arith in
+    let l : 2 ^ 64 * suc high ≤ 2 ^ 64 * 2 ^ 64 = mul-le-mul-left (2 ^ 64) b in
+    width-bound 38 (down p (low + 2 ^ 64 * high))
+    (lt-of-le-of-lt (down-less p (low + 2 ^ 64 * high)) (lt-of-lt-of-le e (le-trans l (lit≤ tt))))

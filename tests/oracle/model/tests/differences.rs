@@ -1,6 +1,7 @@
 //! The lists of docs/DIFFERENCES.md: where the Rust departs from FIX 4.4 or from what one would
 //! expect, each with what it answers. All on an order limit 100 at 10; its answer stays.
 
+use model::answer::messages;
 use model::day::*;
 use model::events::{self, Filled};
 use model::record::*;
@@ -141,6 +142,22 @@ fn an_unknown_order_refused_with_a_live_status() {
     day.send(&cancel("c2"));
     let told = day.told(&refused("A-1", None, Some(1)), [REASON, ORIGIN, ORD_STATUS]);
     assert_eq!(told, [1, 2, code(b'A')]);
+}
+
+#[test]
+fn a_reject_with_reason_1_carries_the_orders_name() {
+    let mut day = Day::booked();
+    day.send(&cancel("c2"));
+    let answer = day.outcome(&refused("A-1", None, Some(1))).expect("taken");
+    let told = &messages(&answer)[0];
+    assert_eq!((told.text(NAME), told.number(REASON)), (&b"A"[..], 1));
+}
+
+#[test]
+fn a_restatement_is_passed_on_without_its_reason() {
+    let mut day = Day::booked();
+    let restated = report(b'D', b'0', Filled::default());
+    assert_eq!(day.told(&restated, [EXEC_TYPE, ORD_STATUS, REASON]), [code(b'D'), code(b'0'), NONE]);
 }
 
 #[test]

@@ -1,0 +1,4 @@
+pub mod Reading
+pub mod Call
+pub mod Claims
+pub mod Laws

@@ -1,0 +1,12 @@
+pub mod Lists
+pub mod Digits
+pub mod Spelling
+pub mod Rows
+pub mod Held
+pub mod Kinds
+pub mod Again
+pub mod Trip
+pub mod Map
+pub mod Taken
+pub mod Made
+pub mod Counting

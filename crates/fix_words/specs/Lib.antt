@@ -1,0 +1,9 @@
+pub mod Lists
+pub mod Spelling
+pub mod Rows
+pub mod Values
+pub mod Message
+pub mod Frame
+pub mod Record
+pub mod Sample
+pub mod Laws
