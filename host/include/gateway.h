@@ -1,4 +1,4 @@
-/* The proved order book: four functions over lent byte slices, each a pointer and then a length. What they do stands in
+/* The proved order book: five functions over lent byte slices, each a pointer and then a length. What they do stands in
  * docs/SCOPE.md, the book's bytes in docs/LAYOUT.md.
  *
  * Each pointer must be valid for its length, and the slices of one call must not overlap. Any bytes may be passed. A call
@@ -44,6 +44,16 @@ typedef struct {
  * each right-aligned in 14 columns with four decimals; 80 is a blank. The number is the page's length. Refused with
  * JUBAFIYE_REFUSED_BOOK, then with JUBAFIYE_REFUSED_PAGE_BUFFER where out is shorter than 81 bytes for each order. */
 Counted page(const uint8_t *book, size_t book_len, uint8_t *out, size_t out_len);
+
+/* A refusal, or 0 and a client's open quantity. With a refusal the quantity is 0. */
+typedef struct {
+    uint32_t refusal;
+    uint64_t quantity;
+} Opened;
+
+/* A client's open quantity, a count of 1/10,000: the sum of LeavesQty over its orders, 0 where it has none. Refused with
+ * JUBAFIYE_REFUSED_BOOK alone. */
+Opened open_quantity(const uint8_t *book, size_t book_len, uint16_t client);
 
 /* What the functions return. */
 enum {

@@ -27,6 +27,13 @@ mod c {
         pub number: u32,
     }
 
+    /// A refusal, or 0 and a client's open quantity.
+    #[repr(C)]
+    pub struct Opened {
+        pub refusal: u32,
+        pub quantity: u64,
+    }
+
     extern "C" {
         pub fn start(book: *mut u8, book_len: usize, setting: u32) -> u32;
         pub fn event(
@@ -39,6 +46,7 @@ mod c {
         ) -> u32;
         pub fn check(book: *const u8, book_len: usize) -> u32;
         pub fn page(book: *const u8, book_len: usize, out: *mut u8, out_len: usize) -> Counted;
+        pub fn open_quantity(book: *const u8, book_len: usize, client: u16) -> Opened;
     }
 }
 
@@ -80,4 +88,13 @@ pub(crate) fn page(book: &BookBytes, out: &mut [u8]) -> Result<usize, Refusal> {
     Refusal::of(counted.refusal)?;
     // A number that is past the address space is past any buffer.
     Ok(usize::try_from(counted.number).unwrap_or(usize::MAX))
+}
+
+/// A client's open quantity, a count of 1/10,000.
+#[allow(unsafe_code)]
+pub(crate) fn open_quantity(book: &BookBytes, client: u16) -> Result<u64, Refusal> {
+    // SAFETY: the pointer and the length are those of one slice, which the function only reads.
+    let opened = unsafe { c::open_quantity(book.as_ptr(), book.len(), client) };
+    Refusal::of(opened.refusal)?;
+    Ok(opened.quantity)
 }

@@ -57,6 +57,8 @@ pub mod fix;
 mod list;
 mod message;
 #[cfg(feature = "book")]
+mod open;
+#[cfg(feature = "book")]
 mod page;
 mod record;
 mod words;

@@ -24,7 +24,7 @@ use Rattle.machine.proofs.Said.Reads.{event-kind}
 use Rattle.machine.proofs.Said.Steps.{answer-read}
 use Rattle.machine.proofs.Claim.Calls.{demand-of, since-return}
 use Rattle.machine.proofs.Claim.OneOrder.{stays-one}
-use Rattle.rules.specs.Keeps.{keepsOf}
+use Rattle.opens.specs.Keeps.{keepsOf}
 use Rattle.claims.specs.Claims.{Call, readCall, heardOf, entries, AnswersOnBytes, Demand3OnBytes, Passes, SinceOnBytes, StaysOneOnBytes}
 use Rattle.claims.proofs.Header.{blank-keeps}
 use Rattle.claims.proofs.Taken.{Asked, broken, short, unreadable, stepped, asked, Taken, call-taken, left, event-refused, returned-is, outcome-taken, either-way, whole, writes, check-kept, kept-check, keeps-after, keeps-sizes}
@@ -33,7 +33,7 @@ use Rattle.format.specs.Refusal.{eventRefusal}
 use Rattle.records.specs.Laws.Accepted.{event-right}
 use Rattle.store.specs.Laws.Adds.{blank-book}
 use Rattle.store.specs.Laws.Kept.{bytes-blank}
-use Rattle.rules.specs.Laws.Keeps.{keeps-held}
+use Rattle.opens.specs.Laws.Keeps.{keeps-held}
 
 -- ---- a call comes to what the machine's comes to
 
@@ -151,7 +151,7 @@ kinds = record {
   below = λ i e z. omega (arith, kinds-right i .1, ap kindOf z);
 }
 
-start-is : (b : List ℕ) (setting : ℕ) → startRefusal b ≡ 0 → startOf b setting ≡ blank setting
+pub start-is : (b : List ℕ) (setting : ℕ) → startRefusal b ≡ 0 → startOf b setting ≡ blank setting
 unfolding startRefusal startOf
 start-is b setting = go (isBook b) refl
   where

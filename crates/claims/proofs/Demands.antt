@@ -16,7 +16,7 @@ use Rattle.machine.specs.declared.Change.{Change}
 use Rattle.machine.specs.Changes.{Event, refusing}
 use Rattle.machine.proofs.Claim.Ruled.{ruled}
 use Rattle.machine.proofs.Kept.Lift.{BookKept, book-kept}
-use Rattle.rules.specs.Keeps.{keepsOf}
+use Rattle.opens.specs.Keeps.{keepsOf}
 use Rattle.claims.specs.Questions.{isBooking, used, mispriced, adds, full, firstNo}
 use Rattle.claims.specs.Claims.{Reads, Numbers, Grown, Demand1}
 use Rattle.claims.proofs.Header.{blank-keeps}
@@ -24,7 +24,7 @@ use Rattle.claims.proofs.Refusals.{step-number, step-grown}
 use Rattle.claims.proofs.Taken.{Asked, broken, short, unreadable, stepped, asked, returned-is, writes, keeps-after, check-kept, check-broken, kept-check, either-way}
 use Rattle.step.specs.Entries.{Outcome, callOf, eventOf, startRefusal, startOf, checkOf}
 use Rattle.format.specs.Refusal.{eventRefusal}
-use Rattle.rules.specs.Laws.Keeps.{keeps-held}
+use Rattle.opens.specs.Laws.Keeps.{keeps-held}
 
 -- ---- the number
 

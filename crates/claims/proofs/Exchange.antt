@@ -20,13 +20,13 @@ use Rattle.machine.specs.History.{messagesOf}
 use Rattle.machine.specs.Exchange.{SameOrder, openOf, Turned, OfTwoClients, Exchanged}
 use Rattle.machine.proofs.Exchange.Whole.{two-clients, same-book}
 use Rattle.machine.proofs.Exchange.Places.{turned-book}
-use Rattle.rules.specs.Keeps.{keepsOf}
+use Rattle.opens.specs.Keeps.{keepsOf}
 use Rattle.claims.specs.Claims.{Call}
 use Rattle.claims.specs.Exchange.{called, callEvent, CallsOfTwoClients, oneWay, CallsExchanged, TwoClientsOnBytes}
 use Rattle.claims.proofs.Taken.{Taken, call-taken, left, returned-is, outcome-taken, writes, keeps-after, keeps-sizes}
 use Rattle.step.specs.Entries.{Outcome, callOf}
 use Rattle.format.specs.Refusal.{eventRefusal}
-use Rattle.rules.specs.Laws.Keeps.{keeps-held}
+use Rattle.opens.specs.Laws.Keeps.{keeps-held}
 
 -- ---- a call that gets to the machine
 

@@ -8,7 +8,8 @@ use mathlib.Core.List.{List, [], _∷_}
 use lib.Dec.{eqb}
 use lib.ListN.{length, length-replicate}
 use borrow.Author.Tests.{eq-eqb}
-use Rattle.prelude.specs.Cases.{if_then_else_, split-if}
+use Rattle.prelude.specs.Below.{allBelow, all-none}
+use Rattle.prelude.specs.Cases.{if_then_else_, split-if, split-maybe}
 use Rattle.prelude.specs.Lists.{listBelow}
 use Rattle.prelude.specs.Number.{bytesOf, word16}
 use Rattle.prelude.specs.Span.{span, splice, length-splice, span-splice-before}
@@ -18,18 +19,23 @@ use Rattle.store.specs.declared.Request.{Request}
 use Rattle.store.specs.Layout.{bookSize, requestBase}
 use Rattle.store.specs.Orders.{WholeOrder}
 use Rattle.store.specs.Requests.{WholeRequest}
-use Rattle.store.specs.Book.{bookOf, countAt, orderCount, requestCount, settingOf, orderAt, requestAt, putOrder, putRequest, setCount, storeOrder, addOrder, addRequest, markAnswered, blank, emptyBook}
+use Rattle.store.specs.Book.{Book, bookOf, countAt, orderCount, requestCount, settingOf, orderAt, requestAt, putOrder, putRequest, setCount, storeOrder, addOrder, addRequest, markAnswered, storeOpen, blank, emptyBook}
+use Rattle.store.specs.Finds.{findClient}
 use Rattle.machine.specs.declared.Requests.{Requests}
 use Rattle.machine.specs.declared.Change.{Change}
+use Rattle.machine.specs.Machine.{after}
 use Rattle.machine.specs.Rules.{rules}
 use Rattle.machine.proofs.Kept.Steps.{start-keeps}
-use Rattle.rules.specs.Keeps.{keepsOf}
-use Rattle.step.specs.Entries.{placeOrder, markLink, placeRequests, bookWith}
+use Rattle.opens.specs.Keeps.{keepsOf}
+use Rattle.opens.specs.Opens.{openRight, opensRight}
+use Rattle.step.specs.Entries.{placeOrder, markLink, placeRequests, placeOpen, tablesWith, bookWith}
 use Rattle.store.specs.Laws.Cells.{same-16}
 use Rattle.store.specs.Laws.Tables.{length-put-order, span-put-order, length-put-request, span-put-request, length-set-count, span-set-count, count-set-count}
 use Rattle.store.specs.Laws.Stored.{in-table}
 use Rattle.store.specs.Laws.Adds.{blank-length}
-use Rattle.rules.specs.Laws.Keeps.{held-keeps}
+use Rattle.store.specs.Laws.Kept.{store-open-keeps}
+use Rattle.store.specs.Laws.Opens.{span-store-open}
+use Rattle.opens.specs.Laws.Keeps.{held-keeps}
 
 pub record Headed (b : List ℕ) : Type 0 where
   pub long : length b ≡ bookSize
@@ -128,11 +134,21 @@ requests-head b h r w =
     let k : Headed d = link-head (markLink b (r .answered)) (link-head b h (r .answered)) (r .superseded) in
     split-if Headed (eqb (r .added) 0) (λ e. k) (λ e. add-request-head d k (r .request) (w e))
 
+-- a word behind the tables is not in the header
+open-head : (b : List ℕ) → Headed b → (left : Book) (place client : ℕ) → Headed (placeOpen b left place client)
+unfolding placeOpen
+open-head b h left place client =
+    split-if Headed (eqb place 0) (λ e. h)
+    (λ e. split-maybe Headed (findClient left client) (λ z. h)
+    (λ i z. same-head b (storeOpen b i _) h (store-open-keeps b i _ .same ∙ h .long) (span-store-open b i _ 0 2 (omega arith)) (span-store-open b i _ 2 2 (omega arith))))
+
 -- a change keeps the counts within their tables
 pub change-head : (b : List ℕ) (c : Change) → Headed b → (eqb (c .place) 0 ≡ false → WholeOrder (c .order)) → (eqb (c .requests .added) 0 ≡ false → WholeRequest (c .requests .request))
     → Headed (bookWith b c)
-unfolding bookWith
-change-head b c h o q = requests-head (placeOrder b (c .place) (c .order)) (place-head b h (c .place) (c .order) o) (c .requests) q
+unfolding bookWith tablesWith
+change-head b c h o q =
+    open-head (placeRequests (placeOrder b (c .place) (c .order)) (c .requests)) (requests-head (placeOrder b (c .place) (c .order)) (place-head b h (c .place) (c .order) o) (c .requests) q)
+    (after (bookOf b) c) (c .place) (c .order .client)
 
 -- ---- start
 
@@ -161,7 +177,12 @@ module _ (setting : ℕ) where
     requests = ap (listBelow (requestAt (blank setting))) (blank-count 2 256 (omega arith)) t;
   }
 
+  -- no order, no word to be right
+  blank-opens : opensRight (blank setting) ≡ true
+  unfolding opensRight
+  blank-opens = ap (allBelow (openRight (blank setting))) (blank-count 0 64 (omega arith)) ∙ all-none (openRight (blank setting))
+
   pub blank-keeps : keepsOf (blank setting) ≡ true
   blank-keeps =
       held-keeps (blank setting) (blank-length setting) (omega (arith, blank-head 0 (omega arith))) (omega (arith, blank-head 2 (omega arith)))
-      (ap rules blank-empty ∙ start-keeps (settingOf (blank setting)))
+      (ap rules blank-empty ∙ start-keeps (settingOf (blank setting))) blank-opens

@@ -1,7 +1,9 @@
 pub mod Written
 pub mod Header
+pub mod Words
 pub mod Refusals
 pub mod Taken
 pub mod Demands
 pub mod Calls
+pub mod OpenQuantity
 pub mod Exchange

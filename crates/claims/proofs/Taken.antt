@@ -25,15 +25,18 @@ use Rattle.machine.proofs.Kept.Steps.{step-keeps}
 use Rattle.machine.proofs.Kept.Whole.{whole-kept}
 use Rattle.machine.proofs.Said.Reads.{event-ranged, event-whole}
 use Rattle.machine.proofs.Said.Steps.{messages-few}
-use Rattle.rules.specs.Keeps.{keepsOf}
+use Rattle.opens.specs.Keeps.{keepsOf}
 use Rattle.step.specs.Entries.{bookWith, Outcome, outcome, callOf, eventOf, checkOf}
 use Rattle.claims.specs.Claims.{WritesChange, Sizes, KeepsSizes}
 use Rattle.claims.proofs.Written.{whole-held, order-written, request-written, Writes, change-writes}
 use Rattle.claims.proofs.Header.{Headed, change-head}
+use Rattle.claims.proofs.Words.{opens-after}
 use Rattle.format.specs.Refusal.{eventRefusal}
 use Rattle.records.specs.Laws.Writing.{answer-most}
 use Rattle.store.specs.Laws.Kept.{Keeps}
-use Rattle.rules.specs.Laws.Keeps.{Held, keeps-held, held-keeps}
+use Rattle.rules.specs.Laws.Ruled.{Held}
+use Rattle.opens.specs.Laws.Keeps.{keeps-held, held-keeps}
+use Rattle.opens.specs.Laws.Moved.{step-clients}
 
 -- ---- the questions
 
@@ -131,7 +134,9 @@ module _ (b r : List ℕ) (bytes : Bytes b) (bytes′ : Bytes r) (keeps : keepsO
       (order-written (bookOf b) c whole-after) (request-written (bookOf b) c whole-after)
 
   pub keeps-after : keepsOf (bookWith b c) ≡ true
-  keeps-after = held-keeps (bookWith b c) (head .long) (head .orders) (head .requests) (ap rules (writes .is) ∙ rules-after)
+  keeps-after =
+      held-keeps (bookWith b c) (head .long) (head .orders) (head .requests) (ap rules (writes .is) ∙ rules-after)
+      (opens-after b c keeps writes rules-after whole-after (step-clients (bookOf b) e (held .rules) taken))
 
 -- ---- check and its number
 

@@ -9,7 +9,7 @@ use lib.Dec.{eqb, leb, ltb}
 use lib.ListN.{length, getD, set, length-append, length-set}
 use lib.Seq.{getD-at, getD-set-same}
 use borrow.Author.Tests.{eqb-false, leb-true, ltb-true, not-true}
-use Rattle.prelude.specs.Cases.{if_then_else_, split-if, if-true, if-false, clash, both-true, either-true}
+use Rattle.prelude.specs.Cases.{if_then_else_, split-if, split-maybe, if-true, if-false, clash, both-true, either-true}
 use Rattle.prelude.specs.Number.{Bytes}
 use Rattle.store.specs.declared.Order.{Order}
 use Rattle.store.specs.declared.Request.{Request}
@@ -18,6 +18,7 @@ use Rattle.store.specs.Layout.{bookSize}
 use Rattle.store.specs.Orders.{WholeOrder, noOrder}
 use Rattle.store.specs.Requests.{WholeRequest, noRequest}
 use Rattle.store.specs.Book.{Book, orderIn, orderAt, isBook, settingOf, bookOf, orderCount, requestCount, addRequest}
+use Rattle.store.specs.Finds.{findClient}
 use Rattle.machine.specs.declared.Requests.{Requests}
 use Rattle.machine.specs.declared.Change.{Change}
 use Rattle.machine.specs.Machine.{hasRoom, answerLink, ordersAfter, requestsAfter, after}
@@ -25,12 +26,13 @@ use Rattle.machine.specs.Rules.{gatewayRange, rules}
 use Rattle.machine.specs.Whole.{WholeBook}
 use Rattle.machine.proofs.Kept.Lift.{BookKept, book-kept}
 use Rattle.machine.proofs.Kept.Tables.{length-answer}
-use Rattle.step.specs.Entries.{placeOrder, markLink, placeRequests, bookWith}
+use Rattle.step.specs.Entries.{placeOrder, markLink, placeRequests, placeOpen, tablesWith, bookWith}
 use Rattle.store.specs.Laws.Cells.{fits-32}
 use Rattle.store.specs.Laws.Stored.{length-orders, length-requests, order-in, request-in, order-whole, request-whole, store-order-book}
 use Rattle.store.specs.Laws.Adds.{add-order-book, add-request-book, mark-book}
-use Rattle.store.specs.Laws.Kept.{Keeps, store-order-keeps, add-order-keeps, add-request-keeps, mark-keeps}
-use Rattle.rules.specs.Laws.Keeps.{Held}
+use Rattle.store.specs.Laws.Kept.{Keeps, store-order-keeps, add-order-keeps, add-request-keeps, mark-keeps, store-open-keeps}
+use Rattle.store.specs.Laws.Opens.{store-open-book}
+use Rattle.rules.specs.Laws.Ruled.{Held}
 
 -- ---- a book in bytes that keeps its rules can be written again
 
@@ -175,16 +177,30 @@ requests-book b c l room w = go (eqb (c .requests .added) 0) refl
         ⊎-elim (λ z. clash (eqb (c .requests .added) 0) z e) (λ z. omega (arith, ltb-true (length (bookOf b .requests)) 256 z, marked-count b (c .requests))) (either-true _ _ room) in
         rw e (add-request-book d q (marked-keeps b (c .requests) .same ∙ l) h (w e) ∙ ap (λ (x : Book). withRequests (x .requests ++ (q ∷ [])) x) (marked-book b (c .requests)))
 
+-- ---- the word of an open quantity
+
+-- the book does not see it
+open-book : (b : List ℕ) (left : Book) (place client : ℕ) → bookOf (placeOpen b left place client) ≡ bookOf b
+unfolding placeOpen
+open-book b left place client =
+    let P : List ℕ → Type 0 = λ d. bookOf d ≡ bookOf b in
+    split-if P (eqb place 0) (λ e. refl) (λ e. split-maybe P (findClient left client) (λ z. refl) (λ i z. store-open-book b i _))
+
+open-keeps : (b : List ℕ) (left : Book) (place client : ℕ) → Keeps b (placeOpen b left place client)
+unfolding placeOpen
+open-keeps b left place client =
+    split-if (Keeps b) (eqb place 0) (λ e. keeps-self b) (λ e. split-maybe (Keeps b) (findClient left client) (λ z. keeps-self b) (λ i z. store-open-keeps b i _))
+
 -- ---- the whole change
 
--- A CHANGE ON BYTES is the change on the book, and keeps length and bytes
-pub record Writes (b : List ℕ) (c : Change) : Type 0 where
-  pub is : bookOf (bookWith b c) ≡ after (bookOf b) c
-  pub keeps : Keeps b (bookWith b c)
+-- a change in the tables is the change on the book, and keeps length and bytes
+pub record Tables (b : List ℕ) (c : Change) : Type 0 where
+  pub is : bookOf (tablesWith b c) ≡ after (bookOf b) c
+  pub keeps : Keeps b (tablesWith b c)
 
-pub change-writes : (b : List ℕ) (c : Change) → length b ≡ bookSize → hasRoom (bookOf b) c ≡ true → WholeBook (after (bookOf b) c) → Writes b c
-unfolding bookWith after hasRoom
-change-writes b c l room w =
+tables-writes : (b : List ℕ) (c : Change) → length b ≡ bookSize → hasRoom (bookOf b) c ≡ true → WholeBook (after (bookOf b) c) → Tables b c
+unfolding tablesWith after hasRoom
+tables-writes b c l room w =
     let d : List ℕ = placeOrder b (c .place) (c .order) in
     let (orders, requests) = both-true _ _ room in
     let o : (eqb (c .place) 0 ≡ false → WholeOrder (c .order)) = order-written (bookOf b) c w in
@@ -197,4 +213,22 @@ change-writes b c l room w =
           requests-book d c (k .same ∙ l) (ap (λ (m : ℕ). eqb (c .requests .added) 0 || ltb m 256) n ∙ requests) q
           ∙ ap (λ (x : Book). withRequests (requestsAfter (x .requests) c) x) e;
       keeps = keeps-more b d (placeRequests d (c .requests)) k (requests-keeps d (c .requests) q);
+    }
+
+-- A CHANGE ON BYTES is the change on the book, and keeps length and bytes
+pub record Writes (b : List ℕ) (c : Change) : Type 0 where
+  pub is : bookOf (bookWith b c) ≡ after (bookOf b) c
+  pub keeps : Keeps b (bookWith b c)
+  pub tables : Keeps b (tablesWith b c)
+
+pub change-writes : (b : List ℕ) (c : Change) → length b ≡ bookSize → hasRoom (bookOf b) c ≡ true → WholeBook (after (bookOf b) c) → Writes b c
+unfolding bookWith
+change-writes b c l room w =
+    let t : Tables b c = tables-writes b c l room w in
+    let d : List ℕ = tablesWith b c in
+    let f : List ℕ = placeOpen d (after (bookOf b) c) (c .place) (c .order .client) in
+    record {
+      is = open-book d (after (bookOf b) c) (c .place) (c .order .client) ∙ t .is;
+      keeps = keeps-more b d f (t .keeps) (open-keeps d (after (bookOf b) c) (c .place) (c .order .client));
+      tables = t .keeps;
     }

@@ -1,3 +1,4 @@
 pub mod Questions
 pub mod Claims
+pub mod Opens
 pub mod Exchange

@@ -1,4 +1,4 @@
--- docs/SCOPE.md, Questions: each as a test, and the number of the first no. What stands in quotes is the desk's wording. Rests on rules (question 1), records (3 and 4) and
+-- docs/SCOPE.md, Questions: each as a test, and the number of the first no. What stands in quotes is the desk's wording. Rests on opens (question 1), records (3 and 4) and
 -- machine (the words of 5 to 7). `event` does not decide by this file: that it returns `firstNo` is proved.
 use Prim.Native.Nat.{ℕ}
 use mathlib.Core.Bool.{Bool, not, _&&_, _||_}
@@ -14,7 +14,7 @@ use Rattle.store.specs.Finds.{countClordids}
 use Rattle.machine.specs.Changes.{Event}
 use Rattle.machine.specs.Amend.{amendRefusal, alreadyTaken, orOwn, replaceRefusal, pricedRight}
 use Rattle.machine.specs.Machine.{orderOf, orderAtLink, unused, changeOf, findingsOf}
-use Rattle.rules.specs.Keeps.{keepsOf}
+use Rattle.opens.specs.Keeps.{keepsOf}
 use Rattle.format.specs.Refusal.{eventRefusal}
 
 abbrev pub isBooking : Event → Bool

@@ -1,6 +1,6 @@
 -- One small book for each rule, which breaks that rule and no other: `breaks` lists the rules that do not hold of a book, each by the test that `rules` is put
 -- together from, so that a rule that is left out, or a part of it, is missed here. Rests on Rules and Play.
--- The bounds of 64 orders and 256 requests are the last two; `keepsOf` (rules) asks them of the header's counts too.
+-- The bounds of 64 orders and 256 requests are the last two; `ruledOf` (rules) asks them of the header's counts too.
 use Prim.Native.Nat.{ℕ, _+_, _^_}
 use mathlib.Core.Path.{_≡_, refl}
 use mathlib.Core.Bool.{Bool, true, false}

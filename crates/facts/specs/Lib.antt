@@ -2,6 +2,7 @@ pub mod Play
 pub mod Days
 pub mod Pinned
 pub mod Sources
+pub mod Opens
 pub mod Handled
 pub mod Counted
 pub mod Broken

@@ -1,11 +1,15 @@
 // The entries of the gateway's book, for a host that calls them as C functions on byte slices:
 // `start` makes an empty book, `event` takes one record and writes the answer, `check` says whether a
-// book keeps its rules, `page` prints the evening page. Each is total: whatever the bytes, it returns
-// its number, and a refused call has written nothing. Rests on step, rules, records, store and page.
+// book keeps its rules, `page` prints the evening page, `open_quantity` gives a client's open quantity.
+// Each is total: whatever the bytes, it returns its number, and a refused call has written nothing.
+// Rests on step, opens, records, store and page.
 ghost use mathlib.Core.Path.{_≡_};
 ghost use Rattle.step.specs.Entries.{startOf, startRefusal, checkOf, outcome, eventOf};
 ghost use Rattle.page.specs.Page.{paged, pageCall};
+ghost use Rattle.opens.specs.Keeps.{openCall};
 use counted::Counted;
+use opens::Opened;
+use orders::order;
 use store::layout;
 
 mod write; // a change written into the book
@@ -31,8 +35,11 @@ pub extern "C" fn event(book: &mut [u8], record: &[u8], answer: &mut [u8]) -> u3
     if c.refusal != 0 {
         return c.refusal as u32;
     }
+    let leaves = order::leaves_qty(c.order);
+    let opening = opens::opening(book, c.place, c.order.client, leaves);
     write::place_order(book, c.place, c.order);
     write::place_requests(book, c.requests);
+    write::place_open(book, c.place, opening);
     let out = c.output;
     let _ = records::write_answer(answer, out.alarm, out.count, out.first, out.second);
     0
@@ -43,7 +50,7 @@ pub extern "C" fn event(book: &mut [u8], record: &[u8], answer: &mut [u8]) -> u3
 pub extern "C" fn check(book: &[u8]) -> u32
     ensures { λ r. ⌜ r ≡ checkOf (now (book .entry)) ⌝ }
 {
-    if rules::keeps(book) {
+    if opens::keeps(book) {
         return 0;
     }
     1
@@ -55,4 +62,12 @@ pub extern "C" fn page(book: &[u8], out: &mut [u8]) -> Counted
     ensures { λ r. ⌜ paged r (now (out .exit)) ≡ pageCall (now (book .entry)) (now (out .entry)) ⌝ }
 {
     page::page(book, out)
+}
+
+// The open quantity of a client: the sum of LeavesQty over its orders, 0 for one without orders.
+#[no_mangle]
+pub extern "C" fn open_quantity(book: &[u8], client: u16) -> Opened
+    ensures { λ r. ⌜ r ≡ openCall (now (book .entry)) client ⌝ }
+{
+    opens::open_quantity(book, client)
 }

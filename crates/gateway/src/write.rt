@@ -1,7 +1,11 @@
 // A change written into the book's bytes. Rests on store.
 ghost use mathlib.Core.Path.{_≡_};
+ghost use lib.Dec.{eqb};
+ghost use Rattle.prelude.specs.Cases.{if_then_else_};
+ghost use Rattle.store.specs.Book.{storeOpen};
 ghost use Rattle.step.specs.Entries.{placeOrder, markLink, placeRequests};
 use machine::Requests;
+use opens::Word;
 use store::Order;
 
 // The order goes to the place of its link: 0 is none, one past those in use is a new order.
@@ -37,4 +41,14 @@ pub(crate) fn place_requests(book: &mut [u8], r: Requests)
         return;
     }
     store::add_request(book, r.request);
+}
+
+// The open quantity of the client of the order at `place`, 0 for none, goes to its word.
+pub(crate) fn place_open(book: &mut [u8], place: u16, opening: Word)
+    ensures { λ _. ⌜ now (book .exit) ≡ (if eqb place 0 then now (book .entry) else storeOpen (now (book .entry)) (opening .at) (opening .quantity)) ⌝ }
+{
+    if place == 0 {
+        return;
+    }
+    store::store_open(book, opening.at, opening.quantity);
 }

@@ -1,5 +1,5 @@
 -- THE EVENING PAGE of a book (change request 1): a line for each order, as values and as the bytes that are printed; and the call that
--- prints it. Rests on decimal, counted, store's book, machine's `leavesQty` and rules' `keepsOf`.
+-- prints it. Rests on decimal, counted, store's book, machine's `leavesQty` and opens' `keepsOf`.
 use Prim.Native.Nat.{ℕ, _-_, _*_}
 use mathlib.Core.Bool.{not}
 use mathlib.Core.List.{List, [], _∷_, _++_, map}
@@ -15,7 +15,7 @@ use Rattle.counted.specs.Counted.{refusing, counting}
 use Rattle.store.specs.declared.Order.{Order}
 use Rattle.store.specs.Book.{Book, bookOf}
 use Rattle.machine.specs.Orders.{leavesQty}
-use Rattle.rules.specs.Keeps.{keepsOf}
+use Rattle.opens.specs.Keeps.{keepsOf}
 
 -- ---- what a line says
 

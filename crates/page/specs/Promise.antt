@@ -13,7 +13,7 @@ use Rattle.counted.specs.Counted.{refusing, counting}
 use Rattle.store.specs.declared.Order.{Order}
 use Rattle.store.specs.Book.{bookOf, orderIn, orderCount}
 use Rattle.machine.specs.Orders.{leavesQty}
-use Rattle.rules.specs.Keeps.{keepsOf}
+use Rattle.opens.specs.Keeps.{keepsOf}
 use Rattle.page.specs.Page.{lineFeed, lineOf, lineBytes, pageOf, pageBytes, Paged, paged, pageCall}
 
 -- ---- one line

@@ -1,6 +1,6 @@
 // The evening page of a book, printed into a lent buffer: 81 bytes for each order, in booking order.
 // What a page is stands in specs/Page.antt, and what holds of its bytes in specs/Promise.antt. Rests on
-// rules, store, orders' `leaves_qty`, decimal and counted.
+// opens, store, orders' `leaves_qty`, decimal and counted.
 ghost use mathlib.Core.Path.{_≡_};
 ghost use mathlib.Core.Bool.{true};
 ghost use mathlib.Core.List.{[], _∷_};
@@ -11,7 +11,7 @@ ghost use Rattle.prelude.specs.Cases.{if_then_else_};
 ghost use Rattle.prelude.specs.Span.{splice};
 ghost use Rattle.prelude.specs.Texts.{contents};
 ghost use Rattle.store.specs.Book.{bookOf, orderCount};
-ghost use Rattle.rules.specs.Keeps.{keepsOf};
+ghost use Rattle.opens.specs.Keeps.{keepsOf};
 ghost use Rattle.page.specs.Page.{printable, left, quantity, lineOf, lineBytes, pageOf, pageBytes, paged, pageCall};
 ghost use Rattle.page.specs.Promise.{InRange};
 use counted::Counted;
@@ -107,7 +107,7 @@ fn put_lines(book: &[u8], out: &mut [u8], n: usize)
 pub fn page(book: &[u8], out: &mut [u8]) -> Counted
     ensures { λ r. ⌜ paged r (now (out .exit)) ≡ pageCall (now (book .entry)) (now (out .entry)) ⌝ }
 {
-    if !rules::keeps(book) {
+    if !opens::keeps(book) {
         return counted::refusing(BAD_BOOK);
     }
     let n = store::order_count(book);

@@ -4,4 +4,4 @@ pub mod Here
 pub mod Spread
 pub mod Suffix
 pub mod Things
-pub mod Keeps
+pub mod Ruled

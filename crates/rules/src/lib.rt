@@ -1,12 +1,13 @@
-// The book's rules, decided on its buffer: one function, which is total and writes nothing. Rests on
+// The rules of the book that a buffer is, decided in place: one function, which is total and writes
+// nothing. With the open quantities behind the tables, `opens::keeps` has all the book's rules. Rests on
 // machine's definition of the rules, on store's layout, and on text and format. Its cost grows with the
 // records in use.
 ghost use mathlib.Core.Path.{_≡_};
 ghost use Prim.Native.Nat.{_≤_};
 ghost use lib.ListN.{length};
 ghost use Rattle.store.specs.Layout.{bookSize, mostOrders, mostRequests};
-ghost use Rattle.rules.specs.Keeps.{keepsOf};
-ghost use Rattle.rules.specs.Laws.Keeps.{decided};
+ghost use Rattle.rules.specs.Ruled.{ruledOf};
+ghost use Rattle.rules.specs.Laws.Ruled.{decided};
 use places::get16;
 use store::layout;
 
@@ -40,9 +41,9 @@ fn decide(book: &[u8], n: usize, m: usize) -> bool
     distinct::distinct(book, true, m)
 }
 
-// Whether the book keeps its rules, its length and its counts included.
-pub fn keeps(book: &[u8]) -> bool
-    ensures { λ r. ⌜ r ≡ keepsOf (now (book .entry)) ⌝ }
+// Whether the book that the bytes are keeps its rules, the length and the counts included.
+pub fn ruled(book: &[u8]) -> bool
+    ensures { λ r. ⌜ r ≡ ruledOf (now (book .entry)) ⌝ }
 {
     if book.len() != layout::BOOK {
         return false;

@@ -1,22 +1,24 @@
--- What the three entries of gateway do, on bytes: what each returns and what it leaves in each buffer that it is lent.
--- Rests on rules (`keepsOf`), records (`eventIn`, `answerBytes`), machine (`stepOf`) and store (the book in its bytes).
+-- What the entries `start`, `event` and `check` of gateway do, on bytes: what each returns and what it leaves in each buffer that it is lent.
+-- Rests on opens (`keepsOf`), records (`eventIn`, `answerBytes`), machine (`stepOf`) and store (the book in its bytes).
 use Prim.Native.Nat.{ℕ, _-_}
 use mathlib.Core.Bool.{not}
 use mathlib.Core.List.{List}
 use lib.Dec.{eqb, leb, ltb}
 use lib.ListN.{length}
-use Rattle.prelude.specs.Cases.{if_then_else_}
+use Rattle.prelude.specs.Cases.{if_then_else_, maybe}
 use Rattle.prelude.specs.Span.{splice}
 use Rattle.records.specs.Record.{eventIn}
 use Rattle.records.specs.Answer.{answerBytes}
 use Rattle.store.specs.declared.Order.{Order}
-use Rattle.store.specs.Book.{isBook, orderCount, bookOf, storeOrder, addOrder, addRequest, markAnswered, blank}
+use Rattle.store.specs.Book.{Book, isBook, orderCount, bookOf, storeOrder, addOrder, addRequest, markAnswered, storeOpen, blank}
+use Rattle.store.specs.Finds.{findClient}
 use Rattle.machine.specs.declared.Requests.{Requests}
 use Rattle.machine.specs.declared.Change.{Change}
 use Rattle.machine.specs.Changes.{refusing}
-use Rattle.machine.specs.Machine.{stepOf}
+use Rattle.machine.specs.Machine.{after, stepOf}
+use Rattle.machine.specs.Exchange.{openOf}
 use Rattle.machine.specs.History.{messagesOf}
-use Rattle.rules.specs.Keeps.{keepsOf}
+use Rattle.opens.specs.Keeps.{keepsOf}
 use Rattle.format.specs.Refusal.{eventRefusal}
 
 -- ---- a change written into the bytes of a book
@@ -37,8 +39,18 @@ placeRequests b r =
     let marked : List ℕ = markLink (markLink b (r .answered)) (r .superseded) in
     if eqb (r .added) 0 then marked else addRequest marked (r .request)
 
+-- the order's client has its open quantity, in the book as it is left, in the word of its first order there; no other word is written
+unfoldable pub placeOpen : List ℕ → (left : Book) → (place client : ℕ) → List ℕ
+placeOpen b left place client =
+    if eqb place 0 then b
+    else maybe b (λ i. storeOpen b i (openOf left client)) (findClient left client)
+
+-- the change in the tables
+unfoldable pub tablesWith : List ℕ → Change → List ℕ
+tablesWith b c = placeRequests (placeOrder b (c .place) (c .order)) (c .requests)
+
 unfoldable pub bookWith : List ℕ → Change → List ℕ
-bookWith b c = placeRequests (placeOrder b (c .place) (c .order)) (c .requests)
+bookWith b c = placeOpen (tablesWith b c) (after (bookOf b) c) (c .place) (c .order .client)
 
 -- ---- the entries
 

@@ -4,7 +4,7 @@ ghost use mathlib.Core.Path.{_≡_};
 ghost use mathlib.Core.Bool.{true};
 ghost use Rattle.store.specs.Book.{bookOf};
 ghost use Rattle.machine.specs.Machine.{unused, bookOrder, nothing, unknownReport, textNote, onRequest, onName, changeOf, stepOf};
-ghost use Rattle.rules.specs.Keeps.{keepsOf};
+ghost use Rattle.opens.specs.Keeps.{keepsOf};
 ghost use Rattle.step.specs.Steps.{amended, handled, unknownOf, hasRoomFor};
 use crate::loads;
 use crate::loads::findings_at;

@@ -1,5 +1,5 @@
 // What a call of `event` comes to, by value: every question that is asked before an event is taken, in
-// order, and then the event's change. Writes nothing. Rests on rules, records and the handling.
+// order, and then the event's change. Writes nothing. Rests on opens, records and the handling.
 ghost use mathlib.Core.Path.{_≡_};
 ghost use Rattle.step.specs.Entries.{callOf};
 use machine::Change;
@@ -15,7 +15,7 @@ const SHORTEST_ANSWER: usize = 1024;
 pub fn call_of(book: &[u8], record: &[u8], room: usize) -> Change
     ensures { λ r. ⌜ r ≡ callOf (now (book .entry)) (now («record» .entry)) room ⌝ }
 {
-    if !rules::keeps(book) {
+    if !opens::keeps(book) {
         return change::refusing(1);
     }
     if room < SHORTEST_ANSWER {

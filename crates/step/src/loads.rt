@@ -3,7 +3,7 @@ ghost use mathlib.Core.Path.{_≡_};
 ghost use mathlib.Core.Bool.{true};
 ghost use Rattle.store.specs.Book.{bookOf, orderIn, requestIn};
 ghost use Rattle.machine.specs.Machine.{orderLink, orderOf, orderAtLink};
-ghost use Rattle.rules.specs.Keeps.{keepsOf};
+ghost use Rattle.opens.specs.Keeps.{keepsOf};
 ghost use Rattle.step.specs.Steps.{requestAtLink, findingsAt, isFull};
 use machine::Findings;
 use prelude::Text;

@@ -8,13 +8,13 @@ use lib.Dec.{eqb, ltb}
 use lib.ListN.{length, getD, set}
 use Rattle.prelude.specs.Cases.{if_then_else_}
 use Rattle.prelude.specs.Lists.{listBelow}
-use Rattle.prelude.specs.Number.{word16, word32, bytesOf}
+use Rattle.prelude.specs.Number.{word16, word32, word64, bytesOf}
 use Rattle.prelude.specs.Span.{splice}
 use Rattle.prelude.specs.Table.{rowAt, putRow}
 use Rattle.prelude.specs.Bytes.{zeros}
 use Rattle.store.specs.declared.Order.{Order}
 use Rattle.store.specs.declared.Request.{Request}
-use Rattle.store.specs.Layout.{bookSize, header·orders, header·requests, header·setting, ordersAt, orderSize, mostOrders, requestsAt, requestSize, mostRequests, requestBase, request·answered}
+use Rattle.store.specs.Layout.{bookSize, header·orders, header·requests, header·setting, ordersAt, orderSize, mostOrders, requestsAt, requestSize, mostRequests, requestBase, request·answered, openBase}
 use Rattle.store.specs.Orders.{decodeOrder, encodeOrder, noOrder}
 use Rattle.store.specs.Requests.{decodeRequest, encodeRequest, noRequest}
 
@@ -95,6 +95,16 @@ addRequest b r =
 
 unfoldable pub markAnswered : List ℕ → ℕ → List ℕ
 markAnswered b i = if isBook b && ltb i mostRequests then splice b (requestBase i + request·answered) (1 ∷ []) else b
+
+-- the word of order i's place behind the tables; it is no part of the book that the bytes are
+abbrev pub openAt : List ℕ → ℕ → ℕ
+openAt b i = word64 b (openBase i)
+
+unfoldable pub loadOpen : List ℕ → ℕ → ℕ
+loadOpen b i = if isBook b && ltb i mostOrders then openAt b i else 0
+
+unfoldable pub storeOpen : List ℕ → (i quantity : ℕ) → List ℕ
+storeOpen b i quantity = if isBook b && ltb i mostOrders then splice b (openBase i) (bytesOf 8 quantity) else b
 
 -- an empty book with its setting
 unfoldable pub blank : ℕ → List ℕ

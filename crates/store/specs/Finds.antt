@@ -43,6 +43,13 @@ usedBy os c r = hasClordid r && ofClient os c r
 abbrev pub bearsClordid : List Order → ℕ → Text → Request → Bool
 bearsClordid os c t r = hasClordid r && (sameText (r .clordid) t && ofClient os c r)
 
+-- the first order of that client
+abbrev pub isClients : ℕ → Order → Bool
+isClients c o = eqb (o .client) c
+
+unfoldable pub findClient : Book → ℕ → Option ℕ
+findClient b c = firstIn noOrder (isClients c) (b .orders)
+
 -- the first order of that name
 unfoldable pub findName : Book → Text → Option ℕ
 findName b t = firstIn noOrder (bearsName t) (b .orders)

@@ -8,3 +8,4 @@ pub mod Stored
 pub mod Adds
 pub mod Finds
 pub mod Kept
+pub mod Opens

@@ -40,6 +40,16 @@ orderBase i = ordersAt + i * orderSize
 abbrev pub requestBase : ℕ → ℕ
 requestBase i = requestsAt + i * requestSize
 
+-- behind the tables, a word for each order's place: where it is its client's first, the client's open quantity
+abbrev pub opensAt : ℕ
+opensAt = 49408
+
+abbrev pub openSize : ℕ
+openSize = 8
+
+abbrev pub openBase : ℕ → ℕ
+openBase i = opensAt + i * openSize
+
 -- ---- an order's fields, from the start of its record
 
 abbrev pub order·client : ℕ

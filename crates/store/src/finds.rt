@@ -5,12 +5,35 @@ ghost use lib.ListN.{length};
 ghost use Rattle.prelude.specs.Cases.{if_then_else_};
 ghost use Rattle.store.specs.Layout.{bookSize, mostOrders, mostRequests};
 ghost use Rattle.store.specs.Book.{bookOf};
-ghost use Rattle.store.specs.Finds.{foundOf, findName, findDownstream, findClordid, countClordids};
-ghost use Rattle.store.specs.Laws.Finds.{namedAt, bearsAt, ofClientAt, usedAt, usedAsAt};
+ghost use Rattle.store.specs.Finds.{foundOf, findClient, findName, findDownstream, findClordid, countClordids};
+ghost use Rattle.store.specs.Laws.Finds.{clientsAt, namedAt, bearsAt, ofClientAt, usedAt, usedAsAt};
 use crate::Found;
 use crate::cells::get16;
 use crate::layout;
 use prelude::Text;
+
+// Whether order k is that client's.
+fn is_clients(book: &[u8], k: usize, client: u16) -> bool
+    requires { ⌜ (length (now book) ≡ bookSize) × (k < mostOrders) ⌝ }
+    ensures { λ r. ⌜ r ≡ clientsAt (now (book .entry)) client k ⌝ }
+{
+    get16(book, layout::ORDERS + k * layout::ORDER + layout::CLIENT) == client
+}
+
+// The first order of that client.
+pub fn find_client(book: &[u8], client: u16) -> Found
+    ensures { λ r. ⌜ r ≡ foundOf (findClient (bookOf (now (book .entry))) client) ⌝ }
+{
+    let n = crate::order_count(book);
+    let mut i: usize = 0;
+    while i < n {
+        if is_clients(book, i, client) {
+            return Found::At(i);
+        }
+        i += 1;
+    }
+    Found::Nothing
+}
 
 fn named(book: &[u8], k: usize, t: Text) -> bool
     requires { ⌜ (length (now book) ≡ bookSize) × (k < mostOrders) ⌝ }

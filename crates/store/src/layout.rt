@@ -23,6 +23,11 @@ pub const REQUEST: usize = 128;
 
 pub const MOST_REQUESTS: usize = 256;
 
+// Behind the tables, a word for each order's place.
+pub const OPENS: usize = 49408;
+
+pub const OPEN: usize = 8;
+
 // An order's fields, from the start of its record.
 pub const CLIENT: usize = 0;
 

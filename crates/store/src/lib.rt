@@ -6,7 +6,7 @@ ghost use Prim.Native.Nat.{_+_, _≤_};
 ghost use Rattle.store.specs.Layout.{ordersAt};
 ghost use Rattle.store.specs.Orders.{noPending, noGateway, noNames, noOrder};
 ghost use Rattle.store.specs.Requests.{noRequest};
-ghost use Rattle.store.specs.Book.{countAt, orderCount, requestCount, settingOf, loadOrder, storeOrder, addOrder, loadRequest, storeRequest, addRequest, markAnswered, clearBook};
+ghost use Rattle.store.specs.Book.{countAt, orderCount, requestCount, settingOf, loadOrder, storeOrder, addOrder, loadRequest, storeRequest, addRequest, markAnswered, loadOpen, storeOpen, clearBook};
 use prelude::Terms;
 use prelude::Text;
 
@@ -18,6 +18,7 @@ mod orders; // the record of an order
 mod requests; // the record of a request
 
 pub use finds::count_clordids;
+pub use finds::find_client;
 pub use finds::find_clordid;
 pub use finds::find_downstream;
 pub use finds::find_name;
@@ -316,6 +317,32 @@ pub fn mark_answered(book: &mut [u8], i: usize)
         return;
     }
     requests::mark(book, i);
+}
+
+// The word of order i's place behind the tables, or 0 where there is no such place.
+pub fn load_open(book: &[u8], i: usize) -> u64
+    ensures { λ r. ⌜ r ≡ loadOpen (now (book .entry)) i ⌝ }
+{
+    if book.len() != layout::BOOK {
+        return 0;
+    }
+    if i >= layout::MOST_ORDERS {
+        return 0;
+    }
+    cells::get64(book, layout::OPENS + i * layout::OPEN)
+}
+
+// Writes the word of order i's place behind the tables, or nothing where there is no such place.
+pub fn store_open(book: &mut [u8], i: usize, quantity: u64)
+    ensures { λ _. ⌜ now (book .exit) ≡ storeOpen (now (book .entry)) i quantity ⌝ }
+{
+    if book.len() != layout::BOOK {
+        return;
+    }
+    if i >= layout::MOST_ORDERS {
+        return;
+    }
+    cells::put64(book, layout::OPENS + i * layout::OPEN, quantity);
 }
 
 // Makes the book empty, with its setting, or nothing where the length is another.

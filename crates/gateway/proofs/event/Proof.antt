@@ -13,10 +13,29 @@ returns c =
 returns-2 : tie.Need-returns-2
 returns-2 c =
     let a = c .before .before in
-    let q = a .before .before .before .before .before in
+    let o = a .before .before .before .before .before in
+    let q = o .before .before .before .before in
     let p = q .before .before .before .before in
-    let w = p .before .before in
-    left-0 _ _ _ _ (w .before .before .call-of .ensures) (eq-eqb _ _ (w .if1 .left)) _ _ _ (p .place-order .ensures) (q .place-requests .ensures) (a .write-answer .ensures .1)
+    let n = p .before .before in
+    let v = n .before .before in
+    let w = v .before in
+    left-0 _ _ _ _ (w .before .before .call-of .ensures) (eq-eqb _ _ (w .if1 .left)) _ _ _ _ _ _ (v .leaves-qty .ensures) (n .opening .ensures) (p .place-order .ensures) (q .place-requests .ensures)
+    (o .place-open .ensures) (a .write-answer .ensures .1)
 
 pub event-spec : {M : Type 1} → statement M
-event-spec = tie.close (tie.spec (λ c κs. search needs) (λ c. search needs) (λ c. search needs) returns (λ c κs. search needs) (λ c κs. search needs) (λ c κs. search needs) (λ c. search needs) (λ c. search needs) returns-2)
+event-spec =
+    tie.close
+    (tie.spec
+    (λ c κs. search needs)
+    (λ c. search needs)
+    (λ c. search needs)
+    returns
+    (λ c κs. search needs)
+    (λ c κs. search needs)
+    (λ c κs. search needs)
+    (λ c κs. search needs)
+    (λ c κs. search needs)
+    (λ c κs. search needs)
+    (λ c. search needs)
+    (λ c. search needs)
+    returns-2)

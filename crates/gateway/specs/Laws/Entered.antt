@@ -1,20 +1,28 @@
 -- The entries case by case, as the code comes to them. Rests on step's Entries.
 use Prim.Native.Nat.{ℕ}
-use mathlib.Core.Path.{_≡_, refl, sym, ap, ap₂, _∙_}
-use mathlib.Core.Bool.{true, false}
+use mathlib.Core.Path.{_≡_, refl, sym, ap, ap₂, subst, _∙_}
+use mathlib.Core.Bool.{Bool, true, false}
 use mathlib.Core.List.{List}
 use lib.Dec.{eqb, leb}
 use lib.ListN.{length}
-use borrow.Author.Tests.{eq-eqb, ne-eqb}
-use Rattle.prelude.specs.Cases.{if_then_else_, if-true}
+use borrow.Author.Tests.{eqb-true, eqb-false, eq-eqb, ne-eqb}
+use Rattle.prelude.specs.Cases.{if_then_else_, if-true, if-false}
 use Rattle.prelude.specs.Span.{splice}
+use Rattle.records.specs.Record.{eventIn}
 use Rattle.records.specs.Answer.{answerBytes, chosen}
 use Rattle.store.specs.Layout.{bookSize}
-use Rattle.store.specs.Book.{clearBook}
+use Rattle.store.specs.Book.{bookOf, storeOpen, clearBook}
 use Rattle.machine.specs.declared.Change.{Change}
+use Rattle.machine.specs.Orders.{leavesQty}
+use Rattle.machine.specs.Machine.{after, stepOf}
 use Rattle.machine.specs.History.{messagesOf}
-use Rattle.step.specs.Entries.{placeOrder, placeRequests, bookWith, callOf, outcome, eventOf, startOf, startRefusal}
-use Rattle.step.specs.Laws.Asked.{room-enough}
+use Rattle.opens.specs.declared.Word.{Word}
+use Rattle.opens.specs.Opens.{openingOf}
+use Rattle.opens.specs.Keeps.{keepsOf}
+use Rattle.opens.specs.Laws.Keeps.{keeps-held}
+use Rattle.opens.specs.Laws.Moved.{SameClients, step-clients, opening-is}
+use Rattle.step.specs.Entries.{placeOrder, placeRequests, placeOpen, tablesWith, bookWith, callOf, outcome, eventOf, startOf, startRefusal}
+use Rattle.step.specs.Laws.Asked.{room-enough, taken-step}
 
 -- ---- event
 
@@ -39,12 +47,39 @@ module _ (b r a : List ℕ) where
     long : eqb (c .refusal) 0 ≡ true → leb 1024 (length a) ≡ true
     long e = room-enough b r (length a) (ap (λ (d : Change). eqb (d .refusal) 0) (sym h) ∙ e)
 
-    pub left-0 : eqb (c .refusal) 0 ≡ true → (placed book answer : List ℕ) → placed ≡ placeOrder b (c .place) (c .order)
-        → book ≡ placeRequests placed (c .requests) → answer ≡ (if leb 1024 (length a) then said c else a) → Leaves 0 book answer
-    unfolding bookWith
-    left-0 e placed book answer p q w =
-        let placing : book ≡ placeRequests (placeOrder b (c .place) (c .order)) (c .requests) = q ∙ ap (λ (y : List ℕ). placeRequests y (c .requests)) p in
-        ap₂ (outcome 0) placing (w ∙ if-true _ _ _ (long e)) ∙ left-taken e
+    -- the change is the machine's step, on a book that keeps its rules; no order changes its client
+    stepped : eqb (c .refusal) 0 ≡ true → (keepsOf b ≡ true) × SameClients (bookOf b) (after (bookOf b) c)
+    stepped e =
+        let (k, s) = taken-step b r (length a) (ap (λ (d : Change). eqb (d .refusal) 0) (sym h) ∙ e) in
+        let is : c ≡ stepOf (bookOf b) (eventIn r) = h ∙ s in
+        let zero : stepOf (bookOf b) (eventIn r) .refusal ≡ 0 = ap (λ (d : Change). d .refusal) (sym is) ∙ eqb-true (c .refusal) 0 e in
+        (k, subst (λ (d : Change). SameClients (bookOf b) (after (bookOf b) d)) (sym is) (step-clients (bookOf b) (eventIn r) (keeps-held b k .rules) zero))
+
+    -- the word that was worked out before the tables were written
+    opened-is : eqb (c .refusal) 0 ≡ true → (w : Word) → w ≡ openingOf b (c .place) (c .order .client) (leavesQty (c .order)) → (t : List ℕ)
+        → (if eqb (c .place) 0 then t else storeOpen t (w .at) (w .quantity)) ≡ placeOpen t (after (bookOf b) c) (c .place) (c .order .client)
+    unfolding placeOpen
+    opened-is e w v t = go (eqb (c .place) 0) refl
+      where
+        go : (z : Bool) → eqb (c .place) 0 ≡ z
+            → (if eqb (c .place) 0 then t else storeOpen t (w .at) (w .quantity)) ≡ placeOpen t (after (bookOf b) c) (c .place) (c .order .client)
+        go true z = if-true _ _ _ z ∙ sym (if-true _ _ _ z)
+        go false z =
+            if-false _ _ _ z
+            ∙ ap (λ (x : Word). storeOpen t (x .at) (x .quantity)) v
+            ∙ opening-is b (stepped e .0) c (eqb-false (c .place) 0 z) (stepped e .1) t
+            ∙ sym (if-false _ _ _ z)
+
+    pub left-0 : eqb (c .refusal) 0 ≡ true → (leaves : ℕ) (w : Word) (placed tables book answer : List ℕ) → leaves ≡ leavesQty (c .order)
+        → w ≡ openingOf b (c .place) (c .order .client) leaves → placed ≡ placeOrder b (c .place) (c .order) → tables ≡ placeRequests placed (c .requests)
+        → book ≡ (if eqb (c .place) 0 then tables else storeOpen tables (w .at) (w .quantity))
+        → answer ≡ (if leb 1024 (length a) then said c else a) → Leaves 0 book answer
+    unfolding bookWith tablesWith
+    left-0 e leaves w placed tables book answer n v p q o u =
+        let is : w ≡ openingOf b (c .place) (c .order .client) (leavesQty (c .order)) = v ∙ ap (openingOf b (c .place) (c .order .client)) n in
+        let placing : tables ≡ placeRequests (placeOrder b (c .place) (c .order)) (c .requests) = q ∙ ap (λ (y : List ℕ). placeRequests y (c .requests)) p in
+        let whole : book ≡ placeOpen tables (after (bookOf b) c) (c .place) (c .order .client) = o ∙ opened-is e w is tables in
+        ap₂ (outcome 0) (whole ∙ ap (λ (y : List ℕ). placeOpen y (after (bookOf b) c) (c .place) (c .order .client)) placing) (u ∙ if-true _ _ _ (long e)) ∙ left-taken e
 
 -- ---- start
 

@@ -10,7 +10,7 @@ use Rattle.counted.specs.declared.Counted.{Counted}
 use Rattle.counted.specs.Counted.{counting}
 use Rattle.store.specs.Book.{orderCount}
 use Rattle.store.specs.Laws.Stored.{count-most}
-use Rattle.rules.specs.Keeps.{keepsOf}
+use Rattle.opens.specs.Keeps.{keepsOf}
 use Rattle.page.specs.Page.{paged}
 use Rattle.page.specs.Laws.Call.{page-bad, page-short, page-done}
 use Rattle.page.proofs.page.Statement.{statement}

@@ -16,13 +16,13 @@ use Rattle.counted.specs.Counted.{refusing, counting}
 use Rattle.store.specs.declared.Order.{Order}
 use Rattle.store.specs.Book.{bookOf, orderIn, orderCount, loadOrder}
 use Rattle.store.specs.Laws.Stored.{length-orders, load-order-in}
-use Rattle.rules.specs.Keeps.{keepsOf}
+use Rattle.opens.specs.Keeps.{keepsOf}
 use Rattle.page.specs.Page.{fields, lineOf, lineBytes, pageOf, pageBytes, paged, pageCall}
 use Rattle.page.specs.Promise.{InRange}
 use Rattle.page.specs.Laws.Line.{widths, sized, line-written, length-line}
 use Rattle.page.specs.Laws.Pages.{length-page, length-some, page-put}
 use Rattle.page.specs.Laws.Kept.{in-range, fine-order, noLine, page-line, fine-bytes, count-lines}
-use Rattle.rules.specs.Laws.Keeps.{keeps-held}
+use Rattle.opens.specs.Laws.Keeps.{keeps-held}
 
 -- an order's fields over 81 bytes
 pub order-written : (s : List ℕ) (o : Order) → length s ≡ 81 → InRange o → writes s 0 widths (fields (lineOf o)) ≡ lineBytes (lineOf o)

@@ -1,4 +1,4 @@
--- What the book's rules give a page: each order's line is in range, and is the page's line of that number. Rests on machine's and rules' laws.
+-- What the book's rules give a page: each order's line is in range, and is the page's line of that number. Rests on machine's and opens' laws.
 use Prim.Native.Nat.{ℕ, zero, suc, _^_, _≤_, _<_}
 use mathlib.Core.Path.{_≡_, refl, sym, ap, subst, _∙_}
 use mathlib.Core.Bool.{Bool, true, not, _&&_}
@@ -23,12 +23,12 @@ use Rattle.machine.specs.Ranges.{textWithin, nameRange}
 use Rattle.machine.specs.Rules.{forceRange, pricedRange, termsRange, filledRule, rules}
 use Rattle.machine.proofs.Kept.Lift.{book-kept}
 use Rattle.machine.proofs.Kept.Local.{names-kept}
-use Rattle.rules.specs.Keeps.{keepsOf}
+use Rattle.opens.specs.Keeps.{keepsOf}
 use Rattle.page.specs.Page.{Line, lineOf, pageOf}
 use Rattle.page.specs.Promise.{InRange}
 use Rattle.page.specs.Laws.Line.{Fine}
 use Rattle.page.specs.Laws.Pages.{AllFine}
-use Rattle.rules.specs.Laws.Keeps.{keeps-held}
+use Rattle.opens.specs.Laws.Keeps.{keeps-held}
 
 -- ---- ranges
 

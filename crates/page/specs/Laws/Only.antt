@@ -14,7 +14,7 @@ use Rattle.decimal.specs.Laws.Columns.{Digits, same-digits, zeros-for-blanks}
 use Rattle.store.specs.declared.Order.{Order}
 use Rattle.store.specs.Book.{bookOf, orderIn, orderCount}
 use Rattle.machine.specs.Orders.{leavesQty}
-use Rattle.rules.specs.Keeps.{keepsOf}
+use Rattle.opens.specs.Keeps.{keepsOf}
 use Rattle.page.specs.Page.{pageOf, pageBytes}
 use Rattle.page.specs.Promise.{Shows, Reads, Columns, OnlyPage}
 use Rattle.page.specs.Laws.Sound.{sound-page}

@@ -18,14 +18,14 @@ use Rattle.store.specs.declared.Order.{Order}
 use Rattle.store.specs.Book.{bookOf, orderIn, orderCount}
 use Rattle.store.specs.Laws.Stored.{length-orders}
 use Rattle.machine.specs.Orders.{leavesQty}
-use Rattle.rules.specs.Keeps.{keepsOf}
+use Rattle.opens.specs.Keeps.{keepsOf}
 use Rattle.page.specs.Page.{Line, left, quantity, lineOf, lineBytes, pageOf, pageBytes, Paged, pageCall}
 use Rattle.page.specs.Promise.{Shows, Reads, InRange, IsLine, SoundPage, LargestFits, IsPrinted, IsCall, SoundCall}
 use Rattle.page.specs.Laws.Line.{Fine, text-shows, quantity-reads, field, line-feed, line-print}
 use Rattle.page.specs.Laws.Pages.{length-page, line-at}
 use Rattle.page.specs.Laws.Kept.{in-range, fine-order, noLine, page-line, fine-bytes, count-lines}
 use Rattle.page.specs.Laws.Call.{page-long, page-bad, page-short, page-done}
-use Rattle.rules.specs.Laws.Keeps.{keeps-held}
+use Rattle.opens.specs.Laws.Keeps.{keeps-held}
 
 -- a line that stands in a page
 module _ (p : List ℕ) (i : ℕ) (o : Order) (f : Fine (lineOf o)) (r : InRange o) (line : span p (81 * i) 81 ≡ lineBytes (lineOf o)) where

@@ -2,7 +2,7 @@
 use mathlib.Core.Path.{sym, _∙_}
 use borrow.Author.Tests.{not-true, not-false}
 use Rattle.rules.specs.Laws.Things.{names-placed, keys-placed}
-use Rattle.rules.specs.Laws.Keeps.{decided}
+use Rattle.rules.specs.Laws.Ruled.{decided}
 use borrow.Author.Needs.{needs}
 use Rattle.rules.proofs.decide.Statement.{statement}
 use Rattle.rules.proofs.decide.Tie as tie

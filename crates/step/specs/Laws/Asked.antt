@@ -6,7 +6,7 @@ use mathlib.Core.List.{List}
 use native.Mathlib.Decide.{decLt}
 use native.Mathlib.Omega.{arith}
 use lib.Dec.{eqb, leb, ltb}
-use borrow.Author.Tests.{le-leb, le-ltb, lt-ltb}
+use borrow.Author.Tests.{le-leb, le-ltb, lt-ltb, not-true, not-false}
 use Rattle.prelude.specs.Cases.{if_then_else_, split-if, clash}
 use Rattle.format.specs.Refusal.{eventRefusal}
 use Rattle.records.specs.Record.{eventIn}
@@ -14,7 +14,7 @@ use Rattle.store.specs.Book.{bookOf}
 use Rattle.machine.specs.declared.Change.{Change}
 use Rattle.machine.specs.Changes.{Event, refusing}
 use Rattle.machine.specs.Machine.{stepOf}
-use Rattle.rules.specs.Keeps.{keepsOf}
+use Rattle.opens.specs.Keeps.{keepsOf}
 use Rattle.step.specs.Entries.{callOf}
 
 -- a test that the code has negated
@@ -68,6 +68,15 @@ module _ (b r : List ℕ) (room : ℕ) where
   unfolding callOf refusing if_then_else_
   short false e l = rw e refl
   short true e l = rw (e, lt-ltb room 1024 l) refl
+
+  -- it is the machine's step, on a book that keeps its rules
+  pub taken-step : eqb (callOf b r room .refusal) 0 ≡ true → (keepsOf b ≡ true) × (callOf b r room ≡ stepOf (bookOf b) (eventIn r))
+  unfolding callOf refusing
+  taken-step =
+      let P : Change → Type 0 = λ c. eqb (c .refusal) 0 ≡ true → (keepsOf b ≡ true) × (c ≡ stepOf (bookOf b) (eventIn r)) in
+      split-if P (not (keepsOf b)) (λ t z. clash _ z refl)
+      (λ t. split-if P (ltb room 1024) (λ u z. clash _ z refl)
+      (λ u. split-if P (not (eqb (eventRefusal r) 0)) (λ v z. clash _ z (not-true _ v)) (λ v z. (not-false (keepsOf b) t, refl))))
 
   pub room-enough : eqb (callOf b r room .refusal) 0 ≡ true → leb 1024 room ≡ true
   room-enough z = go (decLt room 1024)

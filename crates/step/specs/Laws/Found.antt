@@ -1,7 +1,7 @@
--- What a lookup finds, and that its index and the order of a request fit the code's numbers. Rests on store's lookups and rules' Keeps.
+-- What a lookup finds, and that its index and the order of a request fit the code's numbers. Rests on store's lookups and opens' Keeps.
 use mathlib.Core.Path.{_≡_, refl, sym, ap, _∙_}
 use mathlib.Core.Bool.{true, false}
-use mathlib.Core.Option.{Option, none, some}
+use mathlib.Core.Option.{Option}
 use mathlib.Core.List.{List}
 use Prim.Native.Nat.{ℕ, _≤_, _<_}
 use native.Mathlib.Decide.{decLt}
@@ -20,17 +20,10 @@ use Rattle.store.specs.Laws.Stored.{count-most, length-orders, length-requests}
 use Rattle.store.specs.Orders.{noOrder}
 use Rattle.machine.specs.Changes.{Event}
 use Rattle.machine.specs.Machine.{orderOf, unused}
-use Rattle.rules.specs.Keeps.{keepsOf}
-use Rattle.rules.specs.Laws.Keeps.{keeps-held}
+use Rattle.opens.specs.Keeps.{keepsOf}
+use Rattle.opens.specs.Laws.Found.{found-at, found-none}
+use Rattle.opens.specs.Laws.Keeps.{keeps-held}
 use Rattle.machine.proofs.Kept.Lift.{book-kept}
-
-pub found-at : (x : Option ℕ) (k : ℕ) → foundOf x ≡ At k → x ≡ some k
-found-at none k e = let z : _≡_ {A = ℕ} 0 1 = cc in absurd (omega arith)
-found-at (some j) k e = let s : j ≡ k = cc in ap some s
-
-pub found-none : (x : Option ℕ) → foundOf x ≡ Nothing → x ≡ none
-found-none none e = refl
-found-none (some j) e = let z : _≡_ {A = ℕ} 0 1 = cc in absurd (omega arith)
 
 module _ {A : Type 0} (d : A) (f : ℕ → A) (x : Option ℕ) where
   pub found-some : (k : ℕ) → foundOf x ≡ At k → f k ≡ maybe d f x

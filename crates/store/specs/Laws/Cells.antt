@@ -76,6 +76,9 @@ module _ (s t : List ℕ) (at : ℕ) where
   pub same-32 : at + 4 ≤ length s → at + 4 ≤ length t → span s at 4 ≡ span t at 4 → word32 s at ≡ word32 t at
   same-32 h k e = word32-number s at h ∙ ap number e ∙ sym (word32-number t at k)
 
+  pub same-64 : at + 8 ≤ length s → at + 8 ≤ length t → span s at 8 ≡ span t at 8 → word64 s at ≡ word64 t at
+  same-64 h k e = word64-number s at h ∙ ap number e ∙ sym (word64-number t at k)
+
   pub same-text : span s at 33 ≡ span t at 33 → textAt s at ≡ textAt t at
   same-text e = λ i. record {
     bytes =

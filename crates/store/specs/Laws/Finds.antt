@@ -17,12 +17,15 @@ use Rattle.store.specs.declared.Request.{Request}
 use Rattle.store.specs.Orders.{noOrder}
 use Rattle.store.specs.Requests.{noRequest}
 use Rattle.store.specs.Book.{bookOf, orderAt, requestAt, orderCount, requestCount}
-use Rattle.store.specs.Finds.{bearsClordid, bearsDownstream, bearsName, countClordids, findClordid, findDownstream, findName, hasClordid, ofClient, usedBy}
+use Rattle.store.specs.Finds.{bearsClordid, bearsDownstream, bearsName, countClordids, findClient, findClordid, findDownstream, findName, hasClordid, isClients, ofClient, usedBy}
 
 -- ---- the same on the bytes
 
 abbrev pub namedAt : List ℕ → Text → ℕ → Bool
 namedAt b t k = bearsName t (orderAt b k)
+
+abbrev pub clientsAt : List ℕ → ℕ → ℕ → Bool
+clientsAt b c k = isClients c (orderAt b k)
 
 abbrev pub bearsAt : List ℕ → Text → ℕ → Bool
 bearsAt b t k = bearsDownstream t (requestAt b k)
@@ -39,6 +42,10 @@ usedAsAt b n c t k = hasClordid (requestAt b k) && (sameText (requestAt b k .clo
 pub find-name-bytes : (b : List ℕ) (t : Text) → findName (bookOf b) t ≡ firstBelow (namedAt b t) (orderCount b)
 unfolding findName bookOf
 find-name-bytes b t = first-list noOrder (bearsName t) (orderAt b) (orderCount b)
+
+pub find-client-bytes : (b : List ℕ) (c : ℕ) → findClient (bookOf b) c ≡ firstBelow (clientsAt b c) (orderCount b)
+unfolding findClient bookOf
+find-client-bytes b c = first-list noOrder (isClients c) (orderAt b) (orderCount b)
 
 pub find-downstream-bytes : (b : List ℕ) (t : Text) → findDownstream (bookOf b) t ≡ firstBelow (bearsAt b t) (requestCount b)
 unfolding findDownstream bookOf

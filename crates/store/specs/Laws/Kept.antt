@@ -14,11 +14,11 @@ use Rattle.prelude.specs.declared.Text.{Text}
 use Rattle.store.specs.declared.GatewayCancel.{GatewayCancel}
 use Rattle.store.specs.declared.Order.{Order}
 use Rattle.store.specs.declared.Request.{Request}
-use Rattle.store.specs.Layout.{bookSize, header·orders, header·requests, header·setting, ordersAt, mostOrders, mostRequests, requestBase, request·answered}
+use Rattle.store.specs.Layout.{bookSize, header·orders, header·requests, header·setting, ordersAt, mostOrders, mostRequests, requestBase, request·answered, openBase}
 use Rattle.store.specs.Cells.{textBytes}
 use Rattle.store.specs.Orders.{FitsOrder, stageOf, encodeOrder, piecesOrder}
 use Rattle.store.specs.Requests.{WholeRequest, encodeRequest, piecesRequest}
-use Rattle.store.specs.Book.{putOrder, putRequest, orderCount, requestCount, storeOrder, storeRequest, setCount, addOrder, addRequest, markAnswered, blank}
+use Rattle.store.specs.Book.{putOrder, putRequest, orderCount, requestCount, storeOrder, storeRequest, setCount, addOrder, addRequest, markAnswered, storeOpen, blank}
 use Rattle.store.specs.Laws.Tables.{length-put-order, length-put-request}
 use Rattle.store.specs.Laws.Stored.{in-table}
 
@@ -104,6 +104,13 @@ unfolding markAnswered if_then_else_
 mark-keeps b i =
     in-table (λ t. Keeps b (if t then splice b (requestBase i + request·answered) (1 ∷ []) else b)) b mostRequests i
     (λ l h. keeps-splice b (requestBase i + request·answered) (1 ∷ []) (omega arith) (bytes-one 1 (omega arith)))
+    (λ d. keeps-self b)
+
+pub store-open-keeps : (b : List ℕ) (i n : ℕ) → Keeps b (storeOpen b i n)
+unfolding storeOpen if_then_else_
+store-open-keeps b i n =
+    in-table (λ t. Keeps b (if t then splice b (openBase i) (bytesOf 8 n) else b)) b mostOrders i
+    (λ l h. keeps-splice b (openBase i) (bytesOf 8 n) (omega arith) (bytes-of 8 n))
     (λ d. keeps-self b)
 
 pub bytes-blank : (setting : ℕ) → Bytes (blank setting)

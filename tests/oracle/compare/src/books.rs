@@ -7,13 +7,17 @@ use model::codes::{ORD_TYPES, SIDES, STATUSES, TIMES_IN_FORCE, is_done};
 use model::machine::{BOOK_BYTES, MOST_ORDERS, MOST_REQUESTS};
 use model::numbers::{MAX_PRICE, MAX_QTY};
 
+use crate::keeps::opens;
 use crate::layout::{self, Book, Order, Request, Text};
 use crate::mirror::{self, Sending};
+
+/// How many clients the orders of a built book are drawn from.
+const CLIENTS: [u64; 4] = [2, 4, 20, 1 << 16];
 
 /// The first seed whose list leaves a full book with orders in every state.
 const FULL_SEED: u64 = 99;
 
-/// The bytes of a book, and any bytes where no field stands.
+/// The bytes of a book with its clients' open quantities, and any bytes where no field stands.
 fn bytes(book: &Book, random: &mut Random) -> Vec<u8> {
     let mut bytes: Vec<u8> = (0..BOOK_BYTES / 8).flat_map(|_| random.next().to_le_bytes()).collect();
     book.write(&mut bytes);
@@ -69,14 +73,16 @@ pub fn random(random: &mut Random) -> Vec<u8> {
         _ => random.range(1, 20),
     };
     let owners = owners(orders, random);
+    let clients = *random.pick(&CLIENTS);
     let mut book = Book {
         header: layout::Header {
             orders,
             requests: owners.len() as u64,
             setting: random.magnitude(u32::MAX.into()),
         },
-        orders: (0..orders).map(|index| order(index, random)).collect(),
+        orders: (0..orders).map(|index| order(index, clients, random)).collect(),
         requests: Vec::new(),
+        opens: Vec::new(),
     };
     for (index, &owner) in owners.iter().enumerate() {
         let number = owners[..index].iter().filter(|&&other| other == owner).count();
@@ -84,6 +90,7 @@ pub fn random(random: &mut Random) -> Vec<u8> {
         book.requests.push(request(index, owner, number, &name, random));
     }
     (0..orders).for_each(|index| link(&mut book, index, random));
+    book.opens = opens(&book);
     bytes(&book, random)
 }
 
@@ -111,7 +118,7 @@ fn force(random: &mut Random) -> u64 {
 }
 
 /// An order with its own fields; links come when the requests are there.
-fn order(index: u64, random: &mut Random) -> Order {
+fn order(index: u64, clients: u64, random: &mut Random) -> Order {
     let length = random.below(17);
     let name = [draw::order_name(random, length), format!("x{index}").into_bytes()].concat();
     let ord_type = code(ORD_TYPES, random);
@@ -120,7 +127,7 @@ fn order(index: u64, random: &mut Random) -> Order {
     let statuses = if cum_qty > 0 { &STATUSES[2..] } else { STATUSES };
     let none = Text::new(b"");
     Order {
-        client: random.below(4) * 0x5555,
+        client: random.below(clients) * (u64::from(u16::MAX) / (clients - 1)),
         venue: random.below(3),
         name: Text::new(&name),
         cl_ord_id: any_text(random, 1, 32),

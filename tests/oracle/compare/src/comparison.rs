@@ -1,7 +1,7 @@
 //! A library's `start`, `event`, `check` and `page` against the model: refusal, answer bytes, bytes past
 //! the length, nothing written by a refused event, every field of the book by docs/LAYOUT.md and
-//! no other byte of it, `check` 0 and the evening page after each event, events on copies of the
-//! book, and demand 3 counted from the messages.
+//! no other byte of it, `check` 0, the evening page and the clients' open quantities after each
+//! event, events on copies of the book, and demand 3 counted from the messages.
 
 use std::panic::{AssertUnwindSafe, catch_unwind};
 
@@ -15,13 +15,13 @@ use crate::books;
 use crate::entries::Entries;
 use crate::expected::{self, Lent};
 use crate::keeps::broken;
-use crate::layout::{Book, Header};
+use crate::layout::{self, Book, Header};
 use crate::minimize::minimize;
 use crate::mirror::{self, Sending};
-use crate::page;
 use crate::probes;
 use crate::show;
 use crate::tally::Tally;
+use crate::views;
 
 /// How often a list is probed.
 #[derive(Debug, Clone, Copy, PartialEq, Eq)]
@@ -70,7 +70,7 @@ impl Caller<'_> {
         let right = model.clone().map(|answer| (answer, mirror::book(machine, &self.sending)));
         expected::holds(&right, refusal, (&before, &self.book), (&filled, &answer))?;
         match self.entries.check(&self.book) {
-            0 => page::holds(self.entries, &self.book, Some(machine)),
+            0 => views::hold(self.entries, &self.book, Some(machine)),
             check => Err(format!("check gives {check} after the event")),
         }
     }
@@ -163,6 +163,7 @@ fn started<'a>(entries: &'a Entries, setting: u32) -> Result<Caller<'a>, String>
         return Err(format!("start gives {started}, the check after it {checked}"));
     }
     let empty = Header { orders: 0, requests: 0, setting: setting.into() };
+    views::hold(entries, &book, Some(&Machine::start(setting)))?;
     match Header::read(&book) {
         header if header == empty => Ok(Caller { entries, book, sending: Sending::default() }),
         header => Err(format!("start with setting {setting} leaves {header:?}")),
@@ -203,9 +204,18 @@ fn lengths(entries: &Entries, setting: u32) -> Result<(), String> {
         if given != [1, 1, 1] || book.iter().chain(&answer).any(|&byte| byte != 0x5A) {
             return Err(format!("a book of {length} bytes: start, event, check give {given:?}, or write"));
         }
-        page::holds(entries, &book, None)?;
+        views::hold(entries, &book, None)?;
     }
     Ok(())
+}
+
+/// A place in the book, now and then one in a word behind the tables that an order has.
+fn place(book: &[u8], random: &mut Random) -> usize {
+    let orders = Header::read(book).orders;
+    if orders > 0 && random.chance(25) {
+        return layout::OPENS_AT + random.below(orders * layout::OPEN_BYTES as u64) as usize;
+    }
+    random.below(BOOK_BYTES as u64) as usize
 }
 
 /// On copies with one byte changed, `check` is what the second decision says, and `event` what it
@@ -214,7 +224,7 @@ fn damaged(caller: &Caller<'_>, record: &[u8], random: &mut Random) -> Result<()
     let entries = caller.entries;
     for _ in 0..CHAINS {
         let mut book = caller.book.clone();
-        let at = random.below(BOOK_BYTES as u64) as usize;
+        let at = place(&book, random);
         book[at] ^= 1 << random.below(8);
         let lent = Lent::new(book);
         let (mut book, mut answer) = (lent.bytes.clone(), vec![0; 1_024]);
@@ -224,7 +234,7 @@ fn damaged(caller: &Caller<'_>, record: &[u8], random: &mut Random) -> Result<()
         if check != u32::from(!lent.keeps()) {
             return Err(found(format!("check gives {check}: {:?}", broken(&lent.bytes))));
         }
-        page::holds(entries, &lent.bytes, lent.machine()).map_err(found)?;
+        views::hold(entries, &lent.bytes, lent.machine()).map_err(found)?;
         let right = lent.event(record, 1_024).map_err(found)?;
         let filled = vec![0; 1_024];
         expected::holds(&right, refusal, (&lent.bytes, &book), (&filled, &answer)).map_err(found)?;

@@ -1,12 +1,13 @@
 //! Damages to a book's bytes: each byte, each field at its limits, pairs, records swapped, copied
-//! and moved, with the links put right and without, and names that come twice. Each is shown to a
-//! visitor and undone.
+//! and moved, with the links put right and without, names that come twice, and the open quantities.
+//! Each is shown to a visitor and undone.
 
 use lists::random::Random;
 use model::codes::{ORD_TYPES, STATUSES};
-use model::machine::BOOK_BYTES;
+use model::machine::{BOOK_BYTES, MOST_ORDERS};
 use model::numbers::{MAX_PRICE, MAX_QTY};
 
+use crate::keeps::opens;
 use crate::layout::{self, Book, Field, Order, Request, Text};
 
 /// Damages that nearly fit are shown so many times as often.
@@ -39,7 +40,8 @@ impl<'a> Damaged<'a> {
         self.each_field()?;
         self.pairs()?;
         self.records()?;
-        self.names()
+        self.names()?;
+        self.opens()
     }
 
     /// Calls `show` with the numbers below `end`, or with one of so many of them.
@@ -257,14 +259,73 @@ impl<'a> Damaged<'a> {
         })
     }
 
-    /// Shows the book with its records rewritten.
+    /// Every open quantity with each of its bytes changed; every one as another sum that it might be
+    /// taken for, or another client's; some of the words that are not in use, changed.
+    fn opens(&mut self) -> Result<(), String> {
+        let book = self.book();
+        for index in 0..MOST_ORDERS {
+            let in_use = book.opens.get(index).is_some_and(Option::is_some);
+            for at in layout::open_at(index) {
+                if in_use || self.random.chance(2) {
+                    let value = self.whole[at] ^ self.random.range(1, 255) as u8;
+                    self.show_byte(at, value)?;
+                }
+            }
+        }
+        let firsts: Vec<(usize, u64)> =
+            book.opens.iter().enumerate().filter_map(|(index, open)| Some((index, (*open)?))).collect();
+        for &(index, open) in &firsts {
+            let client = book.orders[index].client;
+            for (what, sum) in near_sums(&book, client, open) {
+                let what = format!("open quantity {index} as {what}");
+                self.show(&what, |bytes, _| {
+                    bytes[layout::open_at(index)].copy_from_slice(&sum.to_le_bytes());
+                })?;
+            }
+        }
+        self.each_two(firsts.len(), 1, |damaged, one, other, _| {
+            let (index, open) = (firsts[one].0, firsts[other].1);
+            damaged.show("another's open quantity", |bytes, _| {
+                bytes[layout::open_at(index)].copy_from_slice(&open.to_le_bytes());
+            })
+        })
+    }
+
+    /// Shows the book with its records rewritten, the open quantities put right; and, where they
+    /// differ now, with these as they were.
     fn rewrite(&mut self, what: &str, change: impl FnOnce(&mut Book)) -> Result<(), String> {
         let mut book = self.book();
         change(&mut book);
         book.header.orders = book.orders.len() as u64;
         book.header.requests = book.requests.len() as u64;
+        let was = std::mem::take(&mut book.opens);
+        let right = opens(&book);
+        if was != right {
+            self.show(&format!("{what}, open quantities as they were"), |bytes, _| book.write(bytes))?;
+        }
+        book.opens = right;
         self.show(what, |bytes, _| book.write(bytes))
     }
+}
+
+/// Sums that a client's open quantity might be taken for.
+fn near_sums(book: &Book, client: u64, open: u64) -> Vec<(&'static str, u64)> {
+    let sum = |part: &dyn Fn(&Order) -> u64| {
+        let own = book.orders.iter().filter(|order| order.client == client);
+        own.fold(0, |sum: u64, order| sum.wrapping_add(part(order)))
+    };
+    let rest = |order: &Order| order.qty.wrapping_sub(order.cum_qty);
+    let others = book.orders.iter().filter(|order| order.client != client);
+    vec![
+        ("none", 0),
+        ("that of cumulative", sum(&|order| order.cum_qty)),
+        ("that of ordered", sum(&|order| order.qty)),
+        ("with done orders", sum(&rest)),
+        ("by pending terms", sum(&|order| if order.pending == 0 { rest(order) } else { order.pending_qty })),
+        ("with all clients' orders", others.fold(open, |sum, order| sum.wrapping_add(rest(order)))),
+        ("in 32 bits", u64::from(open as u32)),
+        ("in 32 bits more", open | 1 << 63),
+    ]
 }
 
 /// The order at an index with one thing about it changed: status, type, cumulative quantity, a link,

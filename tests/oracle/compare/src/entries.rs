@@ -5,6 +5,7 @@ pub type Event = unsafe extern "C" fn(*mut u8, usize, *const u8, usize, *mut u8,
 pub type Check = unsafe extern "C" fn(*const u8, usize) -> u32;
 
 pub type Page = unsafe extern "C" fn(*const u8, usize, *mut u8, usize) -> Counted;
+pub type OpenQuantity = unsafe extern "C" fn(*const u8, usize, u16) -> Opened;
 
 /// A refusal, or 0 and the number that was asked for.
 #[repr(C)]
@@ -14,12 +15,21 @@ pub struct Counted {
     pub number: u32,
 }
 
+/// A refusal, or 0 and a client's open quantity.
+#[repr(C)]
+#[derive(Debug, Clone, Copy, PartialEq, Eq)]
+pub struct Opened {
+    pub refusal: u32,
+    pub quantity: u64,
+}
+
 #[derive(Debug, Clone, Copy)]
 pub struct Entries {
     pub start: Start,
     pub event: Event,
     pub check: Check,
     pub page: Page,
+    pub open_quantity: OpenQuantity,
 }
 
 // Each call lends whole slices for its time, which is all that an entry may touch.
@@ -42,11 +52,15 @@ impl Entries {
     pub fn page(&self, book: &[u8], out: &mut [u8]) -> Counted {
         unsafe { (self.page)(book.as_ptr(), book.len(), out.as_mut_ptr(), out.len()) }
     }
+
+    pub fn open_quantity(&self, book: &[u8], client: u16) -> Opened {
+        unsafe { (self.open_quantity)(book.as_ptr(), book.len(), client) }
+    }
 }
 
 #[cfg(library)]
 mod linked {
-    use super::Counted;
+    use super::{Counted, Opened};
 
     unsafe extern "C" {
         pub fn start(book: *mut u8, book_len: usize, setting: u32) -> u32;
@@ -60,13 +74,20 @@ mod linked {
         ) -> u32;
         pub fn check(book: *const u8, book_len: usize) -> u32;
         pub fn page(book: *const u8, book_len: usize, out: *mut u8, out_len: usize) -> Counted;
+        pub fn open_quantity(book: *const u8, book_len: usize, client: u16) -> Opened;
     }
 }
 
 /// The entries of the static library that this program was built with.
 #[cfg(library)]
 pub fn library() -> Option<Entries> {
-    Some(Entries { start: linked::start, event: linked::event, check: linked::check, page: linked::page })
+    Some(Entries {
+        start: linked::start,
+        event: linked::event,
+        check: linked::check,
+        page: linked::page,
+        open_quantity: linked::open_quantity,
+    })
 }
 
 #[cfg(not(library))]

@@ -4,6 +4,7 @@
 use gateway::book::Order;
 use model::Machine;
 use model::answer::{latin1, messages, of_messages};
+use model::codes::is_done;
 use model::machine::{ANSWER_BYTES, BOOK_BYTES, MOST_REQUESTS};
 use model::numbers::{Source, qty_count};
 use model::record::*;
@@ -68,8 +69,10 @@ pub enum Fault {
     SpareWritten,
     /// A byte of a request record that is not in use is written.
     NextRecordWritten,
-    /// A byte behind both tables is written.
+    /// A byte behind both tables and the open quantities is written.
     UnusedWritten,
+    /// The word of an order that is not its client's first is written.
+    OtherWordWritten,
     /// A byte of the header behind the setting is written.
     HeaderWritten,
     /// A symbol has a byte behind its end.
@@ -92,6 +95,24 @@ pub enum Fault {
     EightAtJustEnough,
     /// A byte behind the page is changed.
     PagePastItsEnd,
+    /// The open quantity adds up what was filled.
+    OpenOfCumulative,
+    /// The open quantity counts the rest of done orders.
+    OpenOfDone,
+    /// The open quantity goes by pending terms.
+    OpenOfPending,
+    /// The open quantity counts every client's orders.
+    OpenOfOthers,
+    /// A booking writes the open quantity of a client's first order alone.
+    OpenWithoutBooking,
+    /// A refusal's status leaves the open quantity as it was.
+    OpenWithoutRefusal,
+    /// The open quantity stands at the client's last order.
+    OpenAtLast,
+    /// A client is told by the low byte of its number.
+    OpenByLowByte,
+    /// A quantity stands beside a refusal.
+    OpenBesideRefusal,
     /// Question 2 is asked before question 1.
     TwoBeforeOne,
     /// Question 4 is asked before question 3, of records that are a byte too long.
@@ -104,7 +125,7 @@ pub enum Fault {
 
 impl Fault {
     /// Faults that the comparison finds.
-    pub const COMPARED: [Self; 39] = [
+    pub const COMPARED: [Self; 49] = [
         Self::AddsLastQty,
         Self::AcknowledgesLater,
         Self::SevenEarly,
@@ -133,6 +154,7 @@ impl Fault {
         Self::SpareWritten,
         Self::NextRecordWritten,
         Self::UnusedWritten,
+        Self::OtherWordWritten,
         Self::HeaderWritten,
         Self::TextNotFilled,
         Self::SourceByPrice,
@@ -144,6 +166,15 @@ impl Fault {
         Self::PageReversed,
         Self::EightAtJustEnough,
         Self::PagePastItsEnd,
+        Self::OpenOfCumulative,
+        Self::OpenOfDone,
+        Self::OpenOfPending,
+        Self::OpenOfOthers,
+        Self::OpenWithoutBooking,
+        Self::OpenWithoutRefusal,
+        Self::OpenAtLast,
+        Self::OpenByLowByte,
+        Self::OpenBesideRefusal,
     ];
 
     /// Faults that calls with bad input find.
@@ -304,7 +335,8 @@ fn spoil(fault: Fault, machine: &mut Machine) {
 }
 
 /// Faults in how the fields of the book after an event are written.
-pub fn write(fault: Fault, before: &Book, after: &mut Book) {
+pub fn write(fault: Fault, record: &[u8], before: &Book, after: &mut Book) {
+    write_opens(fault, record, before, after);
     for (was, order) in before.orders.iter().zip(&mut after.orders) {
         write_order(fault, was, order);
     }
@@ -323,6 +355,39 @@ pub fn write(fault: Fault, before: &Book, after: &mut Book) {
     }
     if let (Fault::OtherOrderTouched, Some(first)) = (fault, after.orders.first_mut()) {
         first.exec_seq += 1;
+    }
+}
+
+/// Faults in the open quantities.
+fn write_opens(fault: Fault, record: &[u8], before: &Book, after: &mut Book) {
+    let kept = match fault {
+        Fault::OpenWithoutBooking => BOOK,
+        Fault::OpenWithoutRefusal => CANCEL_REJECT,
+        _ => return add_opens(fault, after),
+    };
+    if record.first() == Some(&kept) {
+        after.opens[..before.opens.len()].copy_from_slice(&before.opens);
+    }
+}
+
+/// The open quantities as the fault adds them up.
+fn add_opens(fault: Fault, after: &mut Book) {
+    let part: fn(&layout::Order) -> u64 = match fault {
+        Fault::OpenOfCumulative => |order| order.cum_qty,
+        Fault::OpenOfDone => |order| order.qty - order.cum_qty,
+        Fault::OpenOfPending => |order| match (is_done(order.status as u8), order.pending) {
+            (true, _) => 0,
+            (_, 0) => order.qty - order.cum_qty,
+            _ => order.pending_qty.saturating_sub(order.cum_qty),
+        },
+        Fault::OpenOfOthers => {
+            |order| if is_done(order.status as u8) { 0 } else { order.qty - order.cum_qty }
+        }
+        _ => return,
+    };
+    for (open, first) in after.opens.iter_mut().zip(&after.orders) {
+        let counted = |order: &&layout::Order| fault == Fault::OpenOfOthers || order.client == first.client;
+        *open = open.map(|_| after.orders.iter().filter(counted).map(part).sum());
     }
 }
 
@@ -374,13 +439,27 @@ pub fn scribble(fault: Fault, outcome: &Result<Vec<u8>, u32>, book: &mut [u8], a
     let Header { orders, requests, .. } = Header::read(book);
     let order = layout::order_at((orders as usize).saturating_sub(1));
     let free = layout::request_at(requests as usize);
+    let last = layout::open_at((orders as usize).saturating_sub(1));
     match (fault, outcome) {
         (Fault::WritesPastTheAnswer, Ok(told)) => answer[told.len()] ^= 1,
         (Fault::RefusedWritesBook, Err(_)) => book[BOOK_BYTES - 1] ^= 1,
         (Fault::RefusedWritesAnswer, Err(_)) if answer.len() >= ANSWER_BYTES => answer[0] ^= 1,
         (Fault::SpareWritten, Ok(_)) => book[order.end - 1] = 1,
-        (Fault::NextRecordWritten, Ok(_)) if free.start < layout::UNUSED_AT => book[free.start] ^= 1,
+        (Fault::NextRecordWritten, Ok(_)) if free.start < layout::OPENS_AT => book[free.start] ^= 1,
         (Fault::UnusedWritten, Ok(_)) => book[layout::UNUSED_AT + 5] ^= 1,
+        (Fault::OtherWordWritten, Ok(_)) if Book::read(book).opens.last() == Some(&None) => {
+            book[last.start] ^= 1;
+        }
+        (Fault::OpenAtLast, Ok(_)) => {
+            let Book { orders, opens, .. } = Book::read(book);
+            let Some((client, place)) = orders.last().map(|order| (order.client, orders.len() - 1)) else {
+                return;
+            };
+            let first = orders.iter().position(|order| order.client == client).expect("it has one");
+            let open = opens[first].unwrap_or(0).to_le_bytes();
+            book[layout::open_at(first)].fill(0);
+            book[layout::open_at(place)].copy_from_slice(&open);
+        }
         (Fault::HeaderWritten, Ok(_)) => book[100] ^= 1,
         (Fault::TextNotFilled, Ok(_)) => book[order.start + 103 + 31] = b'x',
         _ => {}

@@ -18,7 +18,7 @@ const MARKET: u64 = b'1' as u64;
 type Rule = (&'static str, fn(&Book) -> bool);
 
 /// The rules in the order in which docs/SCOPE.md, Rules, names them; each holds up by itself on any book.
-pub const RULES: [Rule; 19] = [
+pub const RULES: [Rule; 20] = [
     ("counts are within their tables", counts_fit),
     ("every field of an order is in its range", orders_in_range),
     ("every field of a request is in its range", requests_in_range),
@@ -38,6 +38,7 @@ pub const RULES: [Rule; 19] = [
     ("tries are at most 2 where unsent", fewer_where_unsent),
     ("an unanswered gateway cancel of a live order is its latest cancel", open_is_latest),
     ("an unanswered gateway cancel of a live order has tries above 0, is sent and not stuck", open_is_sent),
+    ("a client's open quantity is the sum over its orders", opens_right),
 ];
 
 pub fn keeps(bytes: &[u8]) -> bool {
@@ -250,4 +251,32 @@ fn open_is_latest(book: &Book) -> bool {
 
 fn open_is_sent(book: &Book) -> bool {
     open(book).all(|(_, order)| order.tries > 0 && order.stage == SENT)
+}
+
+/// What an order leaves open: by its accepted terms, and nothing where it is done.
+fn leaves(order: &Order) -> u64 {
+    if done(order) { 0 } else { order.qty.saturating_sub(order.cum_qty) }
+}
+
+/// The open quantity that belongs at each order's place: at a client's first order the sum over all
+/// orders of that client, at others nothing.
+pub fn opens(book: &Book) -> Vec<Option<u64>> {
+    let mut opens = Vec::new();
+    for (index, order) in book.orders.iter().enumerate() {
+        let mut first = true;
+        let mut sum: u64 = 0;
+        for (other, counted) in book.orders.iter().enumerate() {
+            if counted.client == order.client {
+                first &= other >= index;
+                // Past 64 bits only where a quantity is out of its range.
+                sum = sum.wrapping_add(leaves(counted));
+            }
+        }
+        opens.push(first.then_some(sum));
+    }
+    opens
+}
+
+fn opens_right(book: &Book) -> bool {
+    book.opens == opens(book)
 }

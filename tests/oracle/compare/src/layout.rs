@@ -7,7 +7,11 @@ pub const ORDERS_AT: usize = 256;
 pub const ORDER_BYTES: usize = 256;
 pub const REQUESTS_AT: usize = 16_640;
 pub const REQUEST_BYTES: usize = 128;
-pub const UNUSED_AT: usize = 49_408;
+/// Behind the tables a word for each order's place, in use where the order is its client's first:
+/// the client's open quantity.
+pub const OPENS_AT: usize = 49_408;
+pub const OPEN_BYTES: usize = 8;
+pub const UNUSED_AT: usize = OPENS_AT + MOST_ORDERS * OPEN_BYTES;
 
 const TEXT_BYTES: usize = 32;
 
@@ -164,6 +168,9 @@ pub struct Book {
     pub header: Header,
     pub orders: Vec<Order>,
     pub requests: Vec<Request>,
+    /// The open quantity at each order's place, where the order is its client's first; the other
+    /// words may be anything.
+    pub opens: Vec<Option<u64>>,
 }
 
 /// The bytes of the order at an index.
@@ -178,19 +185,33 @@ pub fn request_at(index: usize) -> std::ops::Range<usize> {
     at..at + REQUEST_BYTES
 }
 
+/// The bytes of the word at an order's place.
+pub fn open_at(index: usize) -> std::ops::Range<usize> {
+    let at = OPENS_AT + index * OPEN_BYTES;
+    at..at + OPEN_BYTES
+}
+
+/// Whether the order at an index is its client's first.
+pub fn is_first(orders: &[Order], index: usize) -> bool {
+    orders[..index].iter().all(|order| order.client != orders[index].client)
+}
+
 impl Book {
     pub fn read(bytes: &[u8]) -> Self {
         let header = Header::read(bytes);
         let orders = (header.orders as usize).min(MOST_ORDERS);
         let requests = (header.requests as usize).min(MOST_REQUESTS);
+        let orders: Vec<Order> = (0..orders).map(|index| Order::read(&bytes[order_at(index)])).collect();
+        let open = |index: usize| is_first(&orders, index).then(|| u64::read(&bytes[open_at(index)]));
         Self {
-            orders: (0..orders).map(|index| Order::read(&bytes[order_at(index)])).collect(),
             requests: (0..requests).map(|index| Request::read(&bytes[request_at(index)])).collect(),
+            opens: (0..orders.len()).map(open).collect(),
+            orders,
             header,
         }
     }
 
-    /// Writes header and records in use, their spare bytes as zeros, and no other byte.
+    /// Writes header, records and words in use, the records' spare bytes as zeros, and no other byte.
     pub fn write(&self, bytes: &mut [u8]) {
         self.header.write(bytes);
         for (index, order) in self.orders.iter().enumerate() {
@@ -203,13 +224,17 @@ impl Book {
             record.fill(0);
             request.write(record);
         }
+        for (index, open) in self.opens.iter().enumerate() {
+            open.inspect(|open| open.write(&mut bytes[open_at(index)]));
+        }
     }
 
     /// The book for a reader, a line for each record.
     pub fn show(&self) -> String {
         let orders = self.orders.iter().map(|order| format!("{order:?}\n"));
         let requests = self.requests.iter().map(|request| format!("{request:?}\n"));
-        std::iter::once(format!("{:?}\n", self.header)).chain(orders).chain(requests).collect()
+        let opens = std::iter::once(format!("open quantities {:?}\n", self.opens));
+        std::iter::once(format!("{:?}\n", self.header)).chain(orders).chain(requests).chain(opens).collect()
     }
 
     /// A link as the downstream ClOrdID that it leads to.
@@ -226,27 +251,35 @@ impl Book {
 
 const LINKS: [&str; 4] = ["links.current", "links.cancel", "pending.request", "gateway.origdownstream"];
 
-/// A record's place in a message: which it is, its fields, and its bytes in the book.
+/// A record's place in a message: which it is, its fields, where it stands in the book, and its spare
+/// bytes.
 struct Record {
     what: String,
     fields: &'static [Field],
     at: usize,
+    spare: std::ops::Range<usize>,
 }
+
+const OPEN: &[Field] = &[Field { name: "open quantity", at: 0, bytes: OPEN_BYTES }];
 
 fn records(book: &Book) -> Vec<Record> {
     let name = |text: &Text| text.text().escape_ascii().to_string();
-    let header = Record { what: "header".into(), fields: Header::FIELDS, at: 0 };
-    let orders = book.orders.iter().enumerate().map(|(index, order)| Record {
-        what: format!("order {index} ({})", name(&order.name)),
-        fields: Order::FIELDS,
-        at: order_at(index).start,
+    let header = Record { what: "header".into(), fields: Header::FIELDS, at: 0, spare: 0..0 };
+    let orders = book.orders.iter().enumerate().map(|(index, order)| {
+        let place = order_at(index);
+        let what = format!("order {index} ({})", name(&order.name));
+        Record { what, fields: Order::FIELDS, at: place.start, spare: place.start + 247..place.end }
     });
-    let requests = book.requests.iter().enumerate().map(|(index, request)| Record {
-        what: format!("request {index} ({})", name(&request.downstream)),
-        fields: Request::FIELDS,
-        at: request_at(index).start,
+    let requests = book.requests.iter().enumerate().map(|(index, request)| {
+        let place = request_at(index);
+        let what = format!("request {index} ({})", name(&request.downstream));
+        Record { what, fields: Request::FIELDS, at: place.start, spare: place.start + 103..place.end }
     });
-    std::iter::once(header).chain(orders).chain(requests).collect()
+    let opens = book.opens.iter().zip(&book.orders).enumerate().filter_map(|(index, (open, order))| {
+        let what = format!("word {index}, of client {}", order.client);
+        open.map(|_| Record { what, fields: OPEN, at: open_at(index).start, spare: 0..0 })
+    });
+    std::iter::once(header).chain(orders).chain(requests).chain(opens).collect()
 }
 
 /// A field's bytes for a reader.
@@ -289,20 +322,16 @@ pub fn differences(should: &[u8], has: &[u8]) -> Vec<String> {
 }
 
 /// Holds a book's bytes against what an event should leave of those before it: every field of the
-/// records in use, and every other byte as it was; a spare byte may have become 0.
+/// records in use, every client's open quantity, and every other byte as it was; a spare byte may have
+/// become 0.
 pub fn holds(before: &[u8], right: &Book, has: &[u8]) -> Result<(), String> {
     let mut should = before.to_vec();
     right.write(&mut should);
     if should == has {
         return Ok(());
     }
-    for (record, fields) in records(right).iter().map(|record| (record.at, record.fields)) {
-        let spare = match fields.len() {
-            _ if record == 0 => continue,
-            count if count == Order::FIELDS.len() => record + 247..record + ORDER_BYTES,
-            _ => record + 103..record + REQUEST_BYTES,
-        };
-        for at in spare.filter(|&at| has[at] == before[at]) {
+    for record in records(right) {
+        for at in record.spare.filter(|&at| has[at] == before[at]) {
             should[at] = has[at];
         }
     }
@@ -326,7 +355,8 @@ mod tests {
             assert_eq!(end, spare);
         }
         assert_eq!(order_at(64).start, REQUESTS_AT);
-        assert_eq!(request_at(256).start, UNUSED_AT);
+        assert_eq!(request_at(256).start, OPENS_AT);
+        assert_eq!((open_at(0), open_at(64).start), (49_408..49_416, UNUSED_AT));
     }
 
     #[test]

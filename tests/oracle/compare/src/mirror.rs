@@ -14,6 +14,7 @@ use model::codes;
 use model::numbers::{price, price_count, qty, qty_count};
 
 use crate::layout::{self, Book, Text};
+use crate::opens;
 
 /// The downstream ClOrdIDs of all requests in the order of sending, which the Rust does not keep.
 #[derive(Debug, Clone, Default)]
@@ -45,6 +46,7 @@ pub fn book(machine: &Machine, sending: &Sending) -> Book {
             .iter()
             .map(|name| request_record(name, machine.book().sent(name).expect("a request")))
             .collect(),
+        opens: opens::stored(machine),
     }
 }
 

@@ -8,14 +8,14 @@ use model::Machine;
 use model::answer::bytes;
 use model::machine::{ANSWER_BYTES, BOOK_BYTES};
 
-use crate::entries::{Counted, Entries};
+use crate::entries::{Counted, Entries, Opened};
 use crate::faults::{self, Fault};
 use crate::keeps::broken_but;
 use crate::layout::Book;
 use crate::mirror;
 use crate::page;
 
-pub const STAND_IN: Entries = Entries { start, event, check, page: print };
+pub const STAND_IN: Entries = Entries { start, event, check, page: print, open_quantity };
 
 thread_local! {
     static FAULT: Cell<Option<Fault>> = const { Cell::new(None) };
@@ -71,6 +71,21 @@ unsafe extern "C" fn print(book: *const u8, book_len: usize, out: *mut u8, out_l
     Counted { refusal: 0, number: page.len() as u32 }
 }
 
+unsafe extern "C" fn open_quantity(book: *const u8, book_len: usize, client: u16) -> Opened {
+    // SAFETY: what the caller lends, and it is only read.
+    let book = unsafe { lent(book.cast_mut(), book_len) };
+    if !keeps(book) {
+        let quantity = if FAULT.get() == Some(Fault::OpenBesideRefusal) { 1 } else { 0 };
+        return Opened { refusal: 1, quantity };
+    }
+    let book = Book::read(book);
+    let place = match FAULT.get() {
+        Some(Fault::OpenByLowByte) => book.orders.iter().position(|order| order.client as u8 == client as u8),
+        _ => book.orders.iter().position(|order| order.client == client.into()),
+    };
+    Opened { refusal: 0, quantity: place.and_then(|place| book.opens[place]).unwrap_or(0) }
+}
+
 /// Question 1, as the planted fault asks it.
 fn keeps(book: &[u8]) -> bool {
     let book = match FAULT.get() {
@@ -118,7 +133,7 @@ fn handle(book: &mut [u8], record: &[u8], answer: &mut [u8]) -> u32 {
     if outcome.is_ok() || fault == Some(Fault::RefusedTakes) {
         sending.follow(&machine);
         let mut after = mirror::book(&machine, &sending);
-        fault.inspect(|&fault| faults::write(fault, &before, &mut after));
+        fault.inspect(|&fault| faults::write(fault, record, &before, &mut after));
         after.write(book);
     }
     fault.inspect(|&fault| faults::scribble(fault, &outcome, book, answer));

@@ -5,6 +5,7 @@ pub mod damage;
 pub mod draw;
 pub mod exhaustive;
 pub mod generator;
+pub mod positions;
 pub mod profile;
 pub mod random;
 

@@ -107,6 +107,22 @@ impl Bench {
             (0..CALLS).for_each(|_| assert_eq!(entries.check(black_box(&book)), 0));
         });
         line("the rules alone", &[("Rust's check()", Some(checked)), ("library's check", ported)]);
+        self.views(&book, ported);
+    }
+
+    /// The calls that look at a book, beside the library's `check` of it.
+    fn views(&self, book: &[u8], check: Option<f64>) {
+        let beside = |what: &str, call: &dyn Fn(&Entries)| {
+            let time = self.ported(|entries| (0..CALLS).for_each(|_| call(entries)));
+            line(what, &[("library's check", check), ("library", time)]);
+        };
+        let client = named().client;
+        beside("a client's open quantity", &|entries| {
+            assert_eq!(black_box(entries.open_quantity(black_box(book), client)).refusal, 0);
+        });
+        beside("of a client without orders", &|entries| {
+            assert_eq!(black_box(entries.open_quantity(black_box(book), client + 1)).quantity, 0);
+        });
     }
 
     /// The library's time for a call, where one is linked.

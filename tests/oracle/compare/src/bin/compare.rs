@@ -11,7 +11,7 @@ use compare::entries::{Entries, library};
 use compare::faults::Fault;
 use compare::stand_in::{STAND_IN, plant};
 use compare::tally::Tally;
-use lists::{List, PROFILES, exhaustive, list};
+use lists::{List, PROFILES, exhaustive, list, positions};
 
 const PROBING: Probing = Probing { every: 25, at_end: false };
 /// Events on a book that was built.
@@ -40,10 +40,10 @@ fn compare_lists(lists: u64, events: usize, first: u64) -> ExitCode {
         println!("{}", explain(&entries, list, mismatch));
         ExitCode::FAILURE
     };
-    for list in exhaustive::all() {
+    for list in exhaustive::all().into_iter().chain(positions::all()) {
         tally.lists += 1;
         if let Err(mismatch) = compare(&entries, &list, PROBING, Some(&mut tally)) {
-            return differs("an exhaustive list", &list, &mismatch);
+            return differs("a list without chance", &list, &mismatch);
         }
     }
     for seed in first..first + lists {

@@ -12,7 +12,7 @@ use compare::expected::{self, Lent};
 use compare::faults::Fault;
 use compare::layout::Header;
 use compare::stand_in::{STAND_IN, plant};
-use compare::{books, page, show};
+use compare::{books, show, views};
 use lists::damage::damage;
 use lists::random::Random;
 use lists::{Generator, PROFILES, Profile};
@@ -111,6 +111,7 @@ impl<'a> User<'a> {
                 (entries.check)(null, 0),
                 (entries.event)(null, 0, null, 0, null, 0),
                 (entries.page)(null, 0, null, 0).refusal,
+                (entries.open_quantity)(null, 0, 1).refusal,
             ]
         };
         let mut book = self.full.clone();
@@ -120,9 +121,9 @@ impl<'a> User<'a> {
         let (start, length) = (answer.as_mut_ptr(), answer.len());
         // SAFETY: a whole book and an answer buffer are lent.
         let no_record = unsafe { (entries.event)(book.as_mut_ptr(), book.len(), null, 0, start, length) };
-        self.calls += 6;
+        self.calls += 7;
         match (given, on_book, no_record) {
-            ([1, 1, 1, 1], 2, 3) => Ok(()),
+            ([1, 1, 1, 1, 1], 2, 3) => Ok(()),
             given => Err(format!("on slices of no length: {given:?}")),
         }
     }
@@ -264,7 +265,7 @@ impl<'a> User<'a> {
         if check != u32::from(!lent.keeps()) || book.back()? != lent.bytes {
             return Err(format!("check gives {check} on {} bytes, or writes", lent.bytes.len()));
         }
-        page::holds(self.entries, book.lend(), lent.machine())?;
+        views::hold(self.entries, book.lend(), lent.machine())?;
         let setting = self.random.next() as u32;
         let started = self.entries.start(book.lend(), setting);
         let after = book.back()?;

@@ -1,4 +1,4 @@
--- What a caller has of a book that keeps its rules, and the rules as they are decided, one after the other. Rests on Here and Things.
+-- What a caller has of bytes whose book keeps its rules, and the rules as they are decided, one after the other. Rests on Here and Things.
 use mathlib.Core.Path.{_≡_, refl, sym, ap, ap₂, _∙_}
 use mathlib.Core.Bool.{Bool, true, false, not, _&&_}
 use mathlib.Core.List.{List}
@@ -16,7 +16,7 @@ use Rattle.store.specs.Laws.Stored.{length-orders, length-requests, count-most}
 use Rattle.machine.specs.Rules.{orderRule, requestRule, nameRule, keyRule, rules}
 use Rattle.rules.specs.Laws.Here.{rangeAt, linksOf, requestRuleAt, order-here, request-here, name-here, key-here}
 use Rattle.rules.specs.Laws.Things.{clearAt, same-keyed, same-named}
-use Rattle.rules.specs.Keeps.{keepsOf}
+use Rattle.rules.specs.Ruled.{ruledOf}
 
 -- what is known of a book that keeps its rules
 pub record Held (b : List ℕ) : Type 0 where
@@ -33,9 +33,9 @@ unfolding countAt
 count-raw b at most l h = sym (if-true (isBook b) (min most (word16 b at)) 0 (eq-eqb _ _ l) ∙ omega arith)
 
 -- THE LAW for callers
-pub keeps-held : (b : List ℕ) → keepsOf b ≡ true → Held b
-unfolding keepsOf
-keeps-held b e =
+pub ruled-held : (b : List ℕ) → ruledOf b ≡ true → Held b
+unfolding ruledOf
+ruled-held b e =
     let r = both-true (isBook b && leb (word16 b header·orders) mostOrders && leb (word16 b header·requests) mostRequests) (rules (bookOf b)) e in
     let m = both-true (isBook b && leb (word16 b header·orders) mostOrders) (leb (word16 b header·requests) mostRequests) (r .0) in
     let n = both-true (isBook b) (leb (word16 b header·orders) mostOrders) (m .0) in
@@ -50,9 +50,9 @@ keeps-held b e =
     }
 
 -- and its converse
-pub held-keeps : (b : List ℕ) → length b ≡ bookSize → word16 b header·orders ≤ mostOrders → word16 b header·requests ≤ mostRequests → rules (bookOf b) ≡ true → keepsOf b ≡ true
-unfolding keepsOf
-held-keeps b l n m r = rw (eq-eqb _ _ l, le-leb _ _ n, le-leb _ _ m) r
+pub held-ruled : (b : List ℕ) → length b ≡ bookSize → word16 b header·orders ≤ mostOrders → word16 b header·requests ≤ mostRequests → rules (bookOf b) ≡ true → ruledOf b ≡ true
+unfolding ruledOf
+held-ruled b l n m r = rw (eq-eqb _ _ l, le-leb _ _ n, le-leb _ _ m) r
 
 -- ---- the rules as they are decided, one after the other
 
@@ -87,8 +87,8 @@ rules-decided b =
     (λ e. all-ext (keyRule (bookOf b)) (clearAt b true) m (λ i h. key-here b e i h ∙ all-ext _ _ i (λ j k. ap not (same-keyed b i j)))))
 
 -- with counts in range, it keeps its rules where they are decided so
-pub kept : (b : List ℕ) (n m : ℕ) → length b ≡ bookSize → n ≡ word16 b header·orders → n ≤ mostOrders → m ≡ word16 b header·requests → m ≤ mostRequests → keepsOf b ≡ decided b n m
-unfolding keepsOf
+pub kept : (b : List ℕ) (n m : ℕ) → length b ≡ bookSize → n ≡ word16 b header·orders → n ≤ mostOrders → m ≡ word16 b header·requests → m ≤ mostRequests → ruledOf b ≡ decided b n m
+unfolding ruledOf
 kept b n m l e h f k =
     let x : word16 b header·orders ≤ mostOrders = omega arith in
     let y : word16 b header·requests ≤ mostRequests = omega arith in

@@ -1,4 +1,5 @@
--- Whether a buffer's book keeps its rules: what `keeps` decides. Rests on machine's Rules.
+-- Whether the book that a buffer is keeps machine's rules: what `ruled` decides. Rests on machine's Rules. What `check` decides is opens' `keepsOf`: this,
+-- and the open quantities behind the tables.
 use mathlib.Core.Bool.{Bool, _&&_}
 use mathlib.Core.List.{List}
 use Prim.Native.Nat.{ℕ}
@@ -9,5 +10,5 @@ use Rattle.store.specs.Book.{isBook, bookOf}
 use Rattle.machine.specs.Rules.{rules}
 
 -- the header's counts, too, are within the tables
-unfoldable pub keepsOf : List ℕ → Bool
-keepsOf b = isBook b && leb (word16 b header·orders) mostOrders && leb (word16 b header·requests) mostRequests && rules (bookOf b)
+unfoldable pub ruledOf : List ℕ → Bool
+ruledOf b = isBook b && leb (word16 b header·orders) mostOrders && leb (word16 b header·requests) mostRequests && rules (bookOf b)

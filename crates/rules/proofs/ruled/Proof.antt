@@ -1,22 +1,22 @@
--- `keeps` meets its contract: the length, the counts, then the rules. Rests on Keeps.
+-- `ruled` meets its contract: the length, the counts, then the rules. Rests on Ruled.
 use mathlib.Core.Path.{sym, _∙_}
 use borrow.Author.Tests.{eq-eqb, ne-eqb, le-leb, lt-leb}
-use Rattle.rules.specs.Keeps.{keepsOf}
-use Rattle.rules.specs.Laws.Keeps.{kept}
+use Rattle.rules.specs.Ruled.{ruledOf}
+use Rattle.rules.specs.Laws.Ruled.{kept}
 use borrow.Author.Needs.{needs}
-use Rattle.rules.proofs.keeps.Statement.{statement}
-use Rattle.rules.proofs.keeps.Tie as tie
+use Rattle.rules.proofs.ruled.Statement.{statement}
+use Rattle.rules.proofs.ruled.Tie as tie
 
 returns : tie.Need-returns
-unfolding keepsOf
+unfolding ruledOf
 returns c = rw (ne-eqb _ _ (c .if1 .taken))
 
 returns-2 : tie.Need-returns-2
-unfolding keepsOf
+unfolding ruledOf
 returns-2 c = rw (eq-eqb _ _ (c .before .before .if1 .left), ← c .before .get16 .ensures, lt-leb _ _ (c .if2 .taken))
 
 returns-3 : tie.Need-returns-3
-unfolding keepsOf
+unfolding ruledOf
 returns-3 c = let g = c .before .before .before in
     rw (
       eq-eqb _ _ (g .before .if1 .left),
@@ -32,8 +32,8 @@ returns-4 c = let h = c .before .before in
     let b = g .before .before .before .args .book .now in
     c .decide .ensures ∙ sym (kept b (g .get16 .result) (h .get162 .result) (g .before .if1 .left) (g .get16 .ensures) (h .before .if2 .left) (h .get162 .ensures) (c .before .if3 .left))
 
-pub keeps-spec : {M : Type 1} → statement M
-keeps-spec =
+pub ruled-spec : {M : Type 1} → statement M
+ruled-spec =
     tie.close
     (tie.spec
     returns

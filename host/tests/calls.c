@@ -1,0 +1,49 @@
+/* Every function of gateway.h, called from C: what it returns and what it writes. tests/oracle/run compiles and runs it. */
+#include "gateway.h"
+
+#include <stdio.h>
+#include <string.h>
+
+static uint8_t book[JUBAFIYE_BOOK_BYTES];
+static uint8_t answer[JUBAFIYE_ANSWER_BYTES];
+static uint8_t out[JUBAFIYE_PAGE_BYTES];
+
+/* Client 0x0107 books 5 of W for venue 3 at the market, named A, ClOrdID C. */
+static const uint8_t booking[] = {JUBAFIYE_EVENT_BOOK, 0xCF, 0x03, 0, 0, 0x07, 0x01, 3, 0, 1, 'A', 1, 'C', 1, 'W', '1', '1',
+                                  0x50, 0xC3, 0, 0, 0, 0, 0, 0};
+
+static int failed;
+
+static void expect(const char *what, int holds) {
+    if (!holds) {
+        printf("calls: %s\n", what);
+        failed = 1;
+    }
+}
+
+int main(void) {
+    expect("start", start(book, sizeof book, 10000) == JUBAFIYE_TAKEN);
+    expect("start on another length", start(book, sizeof book - 1, 10000) == JUBAFIYE_REFUSED_BOOK);
+    expect("check", check(book, sizeof book) == JUBAFIYE_TAKEN);
+    expect("event", event(book, sizeof book, booking, sizeof booking, answer, sizeof answer) == JUBAFIYE_TAKEN);
+    expect("the answer", answer[0] == 4 && answer[1] == 0 && answer[2] == 0 && answer[3] == JUBAFIYE_ALARM_NONE);
+    expect("the same event again",
+           event(book, sizeof book, booking, sizeof booking, answer, sizeof answer) == JUBAFIYE_REFUSED_IN_USE);
+
+    Counted printed = page(book, sizeof book, out, sizeof out);
+    expect("page", printed.refusal == JUBAFIYE_TAKEN && printed.number == JUBAFIYE_PAGE_LINE && out[0] == 'A');
+    printed = page(book, sizeof book, out, JUBAFIYE_PAGE_LINE - 1);
+    expect("page, short", printed.refusal == JUBAFIYE_REFUSED_PAGE_BUFFER && printed.number == 0);
+
+    Opened opened = open_quantity(book, sizeof book, 0x0107);
+    expect("open_quantity", opened.refusal == JUBAFIYE_TAKEN && opened.quantity == 50000);
+    opened = open_quantity(book, sizeof book, 7);
+    expect("open_quantity of no orders", opened.refusal == JUBAFIYE_TAKEN && opened.quantity == 0);
+    opened = open_quantity(book, sizeof book - 1, 0x0107);
+    expect("open_quantity, refused", opened.refusal == JUBAFIYE_REFUSED_BOOK && opened.quantity == 0);
+
+    if (!failed) {
+        printf("calls: each function from C\n");
+    }
+    return failed;
+}
