@@ -71,10 +71,10 @@ record Table : Type 0 where
       (told (fills 1 1 (money 1) (money 1)) 1 99 (money 1) 1 (filled 1 (money 1) 2)
       ∷ told (fills 3 1 (money 1) 100000001) 2 97 100000002 2 (filled 3 100000001 3)
       ∷ [])
-  -- With first avg 1.00000002: price 1
-  down : Goes star
+  -- With first avg 1.00000002: price 1.00000001
+  up-even : Goes star
       (told (fills 1 1 (money 1) 100000002) 1 99 (money 1) 1 (filled 1 100000002 2)
-      ∷ told (fills 3 1 (money 1) 100000001) 2 97 (money 1) 2 (filled 3 100000001 3)
+      ∷ told (fills 3 1 (money 1) 100000001) 2 97 100000001 2 (filled 3 100000001 3)
       ∷ [])
   -- * Cum 2 avg 1, then cum 3, last 0, avg 0.5: price 0.5
   average : Goes star
@@ -93,7 +93,7 @@ days = record {
   hundred = refl;
   replaced = refl;
   up = refl;
-  down = refl;
+  up-even = refl;
   average = refl;
   three = refl;
   gone = refl;

@@ -38,6 +38,11 @@ record Sources : Type 0 where
   last-px-without-rise : prices [] (reportOf X 48 48 0 (money 9) 0 0 []) ≡ at 0 (money 9) 1
   -- the quotient, though LastPx has the same value
   quotient : prices (fills 1 1 (money 10) (money 10) ∷ []) (fills 3 1 (money 10) (money 10)) ≡ at 20000 (money 10) 2
+  -- half of the smallest unit goes up to 1, which is above 0 and so the quotient's: the average is 2, and 49
+  least-half : prices (fills 3 3 3 3 ∷ []) (fills 5 0 0 2) ≡ at 20000 1 2
+  least-half-far-below : prices (fills 97 97 50 50 ∷ []) (fills 99 0 0 49) ≡ at 20000 1 2
+  -- less than that half is 0, and the average's
+  below-least-half : prices (fills 3 3 3 3 ∷ []) (fills 10 0 0 1) ≡ at 70000 1 3
   -- the average, at price 0 too
   average : prices (fills 2 2 (money 1) (money 1) ∷ []) (fills 3 0 0 (5 * 10 ^ 7)) ≡ at 10000 (5 * 10 ^ 7) 3
   average-of-zero : prices [] acknowledges ≡ at 0 0 3
@@ -54,6 +59,9 @@ sources = record {
   last-px = refl;
   last-px-without-rise = refl;
   quotient = refl;
+  least-half = refl;
+  least-half-far-below = refl;
+  below-least-half = refl;
   average = refl;
   average-of-zero = refl;
   rejected = refl;

@@ -1,6 +1,7 @@
-// Compares `wide::fill_price` with the Rust's answers, which it reads from standard input, 72 bytes
-// each, and prints how many there were, how many differ, and how many each way of finding a price
-// told. Rests on wide and on specs/Vectors.antt.
+// Compares `wide::fill_price` with stored answers, which it reads from standard input, 80 bytes
+// each: the Rust's, and at an exact half the rule's. It prints how many there were, how many differ,
+// how many each way of finding a price told, and how many are at a half. Rests on wide and on
+// specs/Vectors.antt.
 use libc::STDIN_FILENO;
 use libc::STDOUT_FILENO;
 use wide::Priced;
@@ -25,11 +26,15 @@ struct Vector {
     high: u64,
 }
 
+// The rule that a stored answer follows, behind it: 0 is the Rust's own, 1 a half that goes up.
+const HALF_UP: u64 = 1;
+
 // What came of a vector: where its price came from, 0 where there was no vector, and whether it is
 // the stored one.
 struct Verdict {
     source: u8,
     same: bool,
+    half: bool,
 }
 
 struct Tally {
@@ -38,6 +43,7 @@ struct Tally {
     bylastpx: u64,
     implied: u64,
     average: u64,
+    halves: u64,
 }
 
 fn byte(x: u8) -> u64
@@ -87,6 +93,14 @@ fn vector_of(s: &[u8]) -> Vector
     }
 }
 
+// Does the vector follow the rule for a half?
+fn at_half(s: &[u8]) -> bool {
+    if s.len() < 80 {
+        return false;
+    }
+    word(s, 72) == HALF_UP
+}
+
 // The price of a vector, with its source.
 fn priced(v: Vector) -> Priced
     ensures { λ r. ⌜ r ≡ pricedOf v ⌝ }
@@ -104,12 +118,13 @@ fn priced(v: Vector) -> Priced
 
 // Reads one vector and judges it.
 fn next() -> Verdict {
-    let mut bytes = [0u8; 72];
+    let mut bytes = [0u8; 80];
     let n = io::read_full(STDIN_FILENO, &mut bytes);
-    if n < 72 {
+    if n < 80 {
         return Verdict {
             source: 0,
             same: true,
+            half: false,
         };
     }
     let v = vector_of(&bytes[..n]);
@@ -118,6 +133,7 @@ fn next() -> Verdict {
     Verdict {
         source: p.source,
         same: same(price, [v.low, v.high]),
+        half: at_half(&bytes[..n]),
     }
 }
 
@@ -139,6 +155,7 @@ fn counted(t: Tally, v: Verdict) -> Tally {
         bylastpx: more(t.bylastpx, v.source == wide::FROM_LAST_PX),
         implied: more(t.implied, v.source == wide::FROM_QUOTIENT),
         average: more(t.average, v.source == wide::FROM_AVERAGE),
+        halves: more(t.halves, v.half),
     }
 }
 
@@ -151,6 +168,7 @@ fn judged() -> Tally {
         bylastpx: 0,
         implied: 0,
         average: 0,
+        halves: 0,
     };
     let mut turns = u64::MAX;
     while turns > 0 {
@@ -177,4 +195,5 @@ fn main() {
     line(b"by LastPx ", t.bylastpx);
     line(b"by the quotient ", t.implied);
     line(b"by the average ", t.average);
+    line(b"at a half ", t.halves);
 }

@@ -1,4 +1,5 @@
--- Laws of division rounded to the nearest, whatever the rule for a half is: only the first two open it. Rests on Wide and prelude's Cases.
+-- Laws of division rounded to the nearest: how each quotient rounds, then what holds whatever the rule for a half is. The first two and `half-up` open that
+-- rule, the rest cite them. Rests on Wide and prelude's Cases.
 use Prim.Native.Nat.{ℕ, _+_, _*_, _/_, _%_, _^_, _≤_, _<_}
 use mathlib.Core.Path.{_≡_, refl, sym, ap, _∙_}
 use mathlib.Core.Logic.{_⊎_, inl, inr, ⊎-elim}
@@ -7,7 +8,7 @@ use native.Mathlib.Nat.{add-mul, zero-mul, one-mul, mod-lt, div-add-mod', le-mul
 use native.Mathlib.Omega.{arith}
 use lib.Arith.{digits-div, digits-mod}
 use lib.Dec.{ltb, eqb}
-use borrow.Author.Tests.{ltb-true, ltb-false, eqb-true, ne-eqb, eq-eqb, le-ltb}
+use borrow.Author.Tests.{ltb-true, ltb-false, eqb-true, ne-eqb, eq-eqb, le-ltb, lt-ltb}
 use Rattle.prelude.specs.Cases.{if_then_else_, split-if, if-false}
 use Rattle.wide.specs.Wide.{atHalf, up, nearest}
 
@@ -104,6 +105,19 @@ module _ (n d : ℕ) (pos : 0 < d) where
     where
       factor : (x : ℕ) → 0 < x * d → 0 < x
       factor x l = lt-of-mul-lt-mul-right d {m = 0} {n = x} (rw (zero-mul d) l)
+
+  -- THE RULE: a rest of half the divisor goes up, whatever the quotient; less goes down, more goes up
+  pub half-up : 2 * (n % d) ≡ d → nearest n d ≡ n / d + 1
+  unfolding atHalf up if_then_else_
+  half-up h = by-rest ∙ rw (le-ltb d (2 * (n % d)) (omega arith), eq-eqb (2 * (n % d)) d h) (omega arith)
+
+  pub below-half : 2 * (n % d) < d → nearest n d ≡ n / d
+  unfolding up if_then_else_
+  below-half h = by-rest ∙ rw (le-ltb d (2 * (n % d)) (omega arith), ne-eqb (2 * (n % d)) d (λ e. omega arith)) (omega arith)
+
+  pub above-half : d < 2 * (n % d) → nearest n d ≡ n / d + 1
+  unfolding up if_then_else_
+  above-half h = by-rest ∙ rw (lt-ltb d (2 * (n % d)) h)
 
   pub nearest-half : 2 * n ≡ d → nearest n d ≡ atHalf 0
   unfolding up if_then_else_

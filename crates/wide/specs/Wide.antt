@@ -18,9 +18,9 @@ words n = n % 2 ^ 64 ∷ (n / 2 ^ 64 ∷ [])
 
 -- ---- division
 
--- what an exact half adds to a quotient: 1 to an odd one, so that a half goes to the even digit
+-- what an exact half adds to a quotient: 1 to each, so that a half goes up
 unfoldable pub atHalf : (quotient : ℕ) → ℕ
-atHalf quotient = quotient % 2
+atHalf quotient = 1
 
 -- what rounding adds to a quotient: twice the rest is compared with the divisor
 unfoldable pub up : (quotient rest d : ℕ) → ℕ

@@ -5,11 +5,10 @@ ghost use mathlib.Core.Path.{_≡_};
 ghost use Prim.Native.Nat.{_-_, _*_, _/_, _%_, _<_};
 ghost use lib.Dec.{ltb};
 ghost use Rattle.wide.specs.Wide.{value, words, up, nearest, byLastPx, implied, fillPrice};
-
-mod division;
-
 use division::HALF;
 use division::divide;
+
+mod division;
 
 // A price in two words, and where it came from.
 pub struct Priced {
@@ -71,7 +70,7 @@ fn round(quotient: u64, rest: u64, d: u64) -> u64
         return 1;
     }
     if rest == d - rest {
-        return quotient % 2;
+        return 1; // a half goes up
     }
     0
 }

@@ -89,6 +89,9 @@ pub fn compare(
     let mut watched = Watched::start(list.setting);
     let mut random = Random::new(list.items.len() as u64);
     for (at, item) in list.items.iter().enumerate() {
+        if let Some(tally) = &mut tally {
+            tally.count_half(&watched.machine, &item.record);
+        }
         let outcome = watched.event(&item.record, item.answer_buffer).map_err(found(at))?;
         let machine = &watched.machine;
         caller.event((&item.record, item.answer_buffer), &outcome, machine).map_err(found(at))?;
@@ -141,6 +144,9 @@ pub fn compare_built(
     let (mut machine, sending) = mirror::machine(&Book::read(&built.bytes));
     let mut caller = Caller { entries, book: built.bytes.clone(), sending };
     for (at, item) in built.list.items.iter().enumerate() {
+        if let Some(tally) = &mut tally {
+            tally.count_half(&machine, &item.record);
+        }
         let handled = || machine.event(&item.record, item.answer_buffer);
         let outcome =
             catch_unwind(AssertUnwindSafe(handled)).map_err(|_| found(at)("the Rust panics".into()))?;

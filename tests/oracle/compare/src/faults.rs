@@ -6,7 +6,7 @@ use model::Machine;
 use model::answer::{latin1, messages, of_messages};
 use model::codes::is_done;
 use model::machine::{ANSWER_BYTES, BOOK_BYTES, MOST_REQUESTS};
-use model::numbers::{Source, qty_count};
+use model::numbers::{Fill, Source, qty_count};
 use model::record::*;
 
 use crate::layout::{self, Book, Header};
@@ -85,6 +85,12 @@ pub enum Fault {
     SourceWithoutReport,
     /// A cancel reject has a price's source.
     SourceInReject,
+    /// A price exactly half way goes to the even digit, as the Rust's does.
+    HalfToEven,
+    /// An implied price is truncated.
+    Truncated,
+    /// An implied price that is no half goes up too.
+    AllUp,
     /// The page's last digit of a quantity is one higher.
     PageDigitOff,
     /// The page's leaves of a done order are ordered less cumulative.
@@ -125,7 +131,7 @@ pub enum Fault {
 
 impl Fault {
     /// Faults that the comparison finds.
-    pub const COMPARED: [Self; 49] = [
+    pub const COMPARED: [Self; 52] = [
         Self::AddsLastQty,
         Self::AcknowledgesLater,
         Self::SevenEarly,
@@ -161,6 +167,9 @@ impl Fault {
         Self::NoSourceWithoutRise,
         Self::SourceWithoutReport,
         Self::SourceInReject,
+        Self::HalfToEven,
+        Self::Truncated,
+        Self::AllUp,
         Self::PageDigitOff,
         Self::PageLeavesOfDone,
         Self::PageReversed,
@@ -231,6 +240,10 @@ pub fn event(fault: Fault, machine: &mut Machine, record: &[u8], buffer: usize) 
         | Fault::NoSourceWithoutRise
         | Fault::SourceWithoutReport
         | Fault::SourceInReject => outcome.map(|answer| other_source(fault, &read, &answer)),
+        Fault::HalfToEven | Fault::Truncated | Fault::AllUp => match before.fill(&read) {
+            Some(fill) => outcome.map(|answer| other_price(fault, &fill, &answer)),
+            None => outcome,
+        },
         _ => {
             spoil(fault, machine);
             outcome
@@ -250,6 +263,29 @@ fn other_source(fault: Fault, event: &Record<'_>, answer: &[u8]) -> Vec<u8> {
             _ => return draft,
         };
         draft.number(PRICE_SOURCE, source)
+    };
+    let messages: Vec<Draft> = messages(answer).into_iter().map(other).collect();
+    of_messages(&messages, answer[3])
+}
+
+/// The answer with the implied prices rounded as the fault has it.
+fn other_price(fault: Fault, fill: &Fill, answer: &[u8]) -> Vec<u8> {
+    let Some((paid, rise)) = fill.fraction().filter(|_| fill.source() != Source::LastPx) else {
+        return answer.to_vec();
+    };
+    let (whole, twice) = (paid / rise, paid % rise * 2);
+    let quotient = match fault {
+        Fault::HalfToEven => whole + u128::from(twice > rise || twice == rise && whole % 2 == 1),
+        Fault::Truncated => whole,
+        _ => paid.div_ceil(rise),
+    };
+    let (price, source) = match quotient {
+        0 => (fill.avg_px.into(), Source::Average),
+        quotient => (quotient, Source::Quotient),
+    };
+    let other = |message: Record<'_>| match message.kind {
+        REPORT_MESSAGE => Draft::of(&message).number(FILL_PRICE, price).number(PRICE_SOURCE, source as u8),
+        _ => Draft::of(&message),
     };
     let messages: Vec<Draft> = messages(answer).into_iter().map(other).collect();
     of_messages(&messages, answer[3])

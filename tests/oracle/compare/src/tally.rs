@@ -3,8 +3,9 @@
 use std::collections::BTreeMap;
 
 use gateway::LOG_SITES;
+use model::Machine;
 use model::answer::messages;
-use model::record::PRICE_SOURCE;
+use model::record::{PRICE_SOURCE, Record};
 
 #[derive(Debug, Clone, Default)]
 pub struct Tally {
@@ -17,6 +18,8 @@ pub struct Tally {
     pub messages: BTreeMap<u8, u64>,
     pub alarms: BTreeMap<u8, u64>,
     pub sources: BTreeMap<u8, u64>,
+    /// Events that ask a price which the rule for a half decides, and not the Rust.
+    pub halves: u64,
 }
 
 impl Tally {
@@ -37,11 +40,21 @@ impl Tally {
         }
     }
 
+    /// An event that is about to come: where it is a report whose price is exactly half way.
+    pub fn count_half(&mut self, machine: &Machine, record: &[u8]) {
+        let read = Record::read_event(record).filter(Record::in_range);
+        let fill = read.and_then(|read| machine.fill(&read));
+        self.halves += u64::from(fill.is_some_and(|fill| fill.at_half()));
+    }
+
     pub fn print(&self) {
         println!("  taken by kind {:?}", self.taken);
         println!("  refused by number {:?}", self.refused);
         println!("  messages by kind {:?}, alarms {:?}", self.messages, self.alarms);
-        println!("  the reports' prices by source {:?}", self.sources);
+        println!(
+            "  the reports' prices by source {:?}; events that ask one at an exact half {}",
+            self.sources, self.halves
+        );
     }
 }
 

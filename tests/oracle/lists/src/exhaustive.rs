@@ -1,8 +1,9 @@
 //! A list in which one good record of each kind is damaged in each bit and each cut, and each of
-//! its codes takes every value.
+//! its codes takes every value; and lists of every pair of codes and of every small quotient.
 
 use model::codes;
 use model::events::{self, Filled, Named};
+use model::machine::MOST_ORDERS;
 use model::numbers::{MAX_PRICE, MAX_QTY};
 use model::record::*;
 
@@ -36,7 +37,8 @@ fn samples() -> Vec<Draft> {
 
 /// All lists of this module.
 pub fn all() -> Vec<List> {
-    [vec![every_damage(), every_code(), every_length(), every_range()], every_pair()].concat()
+    [vec![every_damage(), every_code(), every_length(), every_range()], every_pair(), every_quotient()]
+        .concat()
 }
 
 fn list(records: Vec<Vec<u8>>) -> List {
@@ -161,6 +163,29 @@ fn ranges(draft: &Draft, lengths: impl Fn(usize, usize) -> Vec<usize>) -> Vec<Ve
         records.extend(limits.map(|number| draft.clone().number(bit, number).bytes()));
     }
     records
+}
+
+/// Two fills of one order for each choice of small quantities and averages, so that the second has
+/// every small quotient: below 0, 0, whole, at a half of an even and of an odd digit, and beside one.
+pub fn every_quotient() -> Vec<List> {
+    let named = Named { client: 1, symbol: b"S".to_vec(), side: b'1' };
+    let choices = (0..4 * 6 * 6 * 6).map(|n| (1 + n / 216, 1 + n / 36 % 6, n / 6 % 6, n % 6));
+    let choices: Vec<(u64, u64, u64, u64)> = choices.collect();
+    let orders = choices.chunks(MOST_ORDERS);
+    let item = |draft: Draft| Item { record: draft.bytes(), answer_buffer: 1_024 };
+    let list = |orders: &[(u64, u64, u64, u64)]| {
+        let of = |(at, &(old, rise, first, second)): (usize, &(u64, u64, u64, u64))| {
+            let name = format!("A{at}");
+            let report = |cum_qty: u64, avg_px: u64| {
+                let filled = Filled { last_qty: 0, last_px: 0, cum_qty, avg_px };
+                events::report(1, name.as_bytes(), b'F', Some(b'1'), filled)
+            };
+            let book = events::book(1, &named, name.as_bytes(), name.as_bytes(), 10, Some(9));
+            [book, report(old, first), report(old + rise, second)].map(item)
+        };
+        List { setting: SETTING, items: orders.iter().enumerate().flat_map(of).collect() }
+    };
+    orders.map(list).collect()
 }
 
 /// Every ExecType with every OrdStatus, with and without a rise, under each kind of request: the

@@ -5,7 +5,7 @@ use gateway::CompactString;
 use gateway::book::{AlarmKind, CancelKind, ClientId, ClientReport, OrderRequest, Output};
 
 use crate::codes;
-use crate::numbers::{Source, price_count, qty_count};
+use crate::numbers::{Fill, price_count, qty_count};
 use crate::record::*;
 
 pub const HEAD: usize = 4;
@@ -27,11 +27,12 @@ pub fn alarm_code(kind: AlarmKind) -> u8 {
 pub struct Brought<'a> {
     /// Its text: it goes back as it is, while a text that the Rust supplied goes as its number.
     pub text: Option<&'a [u8]>,
-    /// Where the price of its fill comes from, if it is a venue's report.
-    pub source: Option<Source>,
+    /// What decides the price of its fill, if it is a venue's report: the price's source, and the
+    /// price itself at an exact half.
+    pub fill: Option<Fill>,
 }
 
-/// The whole answer: all of it the Rust's, but for the price source.
+/// The whole answer: all of it the Rust's, but for the price source and the price at an exact half.
 pub fn write(outputs: &[Output], alarm: u8, brought: Brought<'_>) -> Vec<u8> {
     let messages: Vec<Draft> = outputs.iter().map(|output| message(output, brought)).collect();
     of_messages(&messages, alarm)
@@ -122,12 +123,17 @@ fn report_message(client: &ClientId, report: &ClientReport, brought: Brought<'_>
         .number(AVG_PX, price_count(report.avg_px))
         .number(LEAVES_QTY, qty_count(report.leaves_qty))
         .number(REPORT_SEQUENCE, sequence.parse::<u64>().expect("a number"))
-        .number(FILL_PRICE, price_count(report.last_px))
-        .number(PRICE_SOURCE, brought.source.map_or(0, |source| source as u8))
+        .number(FILL_PRICE, fill_price(report, brought.fill))
+        .number(PRICE_SOURCE, brought.fill.map_or(0, |fill| fill.source() as u8))
         .maybe(report.reject.map(codes::reject_reason), |draft, (reason, origin)| {
             draft.number(REASON, reason).number(ORIGIN, origin)
         });
     with_text(draft, report.text.as_ref(), brought.text)
+}
+
+/// The Rust's price, but at an exact half that of the rule.
+fn fill_price(report: &ClientReport, fill: Option<Fill>) -> u128 {
+    fill.filter(Fill::at_half).map_or(price_count(report.last_px), |fill| fill.price())
 }
 
 fn request_message(kind: u8, venue: &str, downstream: &str, request: &OrderRequest) -> Draft {

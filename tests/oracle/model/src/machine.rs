@@ -1,7 +1,7 @@
 //! The machine of docs/SCOPE.md: questions 2 to 7 in their order, the nine kinds of event, and the
-//! answer. The handling is the gateway's own book's; the rule of docs/SCOPE.md that the report sequence
-//! goes on at 0 stands over it here, and the source of a fill's price beside it. The other rules that stand over the Rust are asserted by
-//! `watch`: the Rust keeps them.
+//! answer. The handling is the gateway's own book's; the rules of docs/SCOPE.md that the report sequence
+//! goes on at 0 and that an exact half goes up stand over it here, and the source of a fill's price beside
+//! it. The other rules that stand over the Rust are asserted by `watch`: the Rust keeps them.
 
 use std::collections::{HashMap, HashSet};
 
@@ -106,7 +106,7 @@ impl Machine {
     /// Events 2 to 9: the book handles them, and gets its tables back where question 6 or 7 says no.
     fn handle(&mut self, record: &Record<'_>) -> Result<Vec<u8>, u32> {
         let input = self.input(record);
-        let source = self.fill(record).map(|fill| fill.source());
+        let fill = self.fill(record);
         let price_fits = record.kind != REPLACE || self.price_fits(record);
         let full = self.book.request_table().len() == MOST_REQUESTS;
         let before = (!price_fits || full).then(|| self.book.tables());
@@ -126,7 +126,7 @@ impl Machine {
             return Err(number);
         }
         self.wrap_sequence(&mut outputs);
-        let brought = Brought { text: record.maybe(TEXT, |r| r.text(TEXT)), source };
+        let brought = Brought { text: record.maybe(TEXT, |r| r.text(TEXT)), fill };
         Ok(answer::write(&outputs, alarm, brought))
     }
 

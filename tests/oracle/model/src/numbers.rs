@@ -76,22 +76,29 @@ impl Fill {
         }
     }
 
-    /// The exact fraction of docs/SCOPE.md, Fill price, rounded to eight places, a half to the even one; 0 where
-    /// nothing rose or it is below 0.
-    fn quotient(&self) -> u128 {
-        let new = u128::from(self.cum_qty) * u128::from(self.avg_px);
-        let old = u128::from(self.old_cum_qty) * u128::from(self.old_avg_px);
-        match (self.rise(), new.checked_sub(old)) {
-            (0, _) | (_, None) => 0,
-            (rise, Some(paid)) => half_to_even(paid, rise.into()),
-        }
+    /// Whether the price is decided by a quotient exactly half way between two eighth places: there
+    /// the rule of docs/SCOPE.md stands over the Rust, whose price is not asked.
+    pub fn at_half(&self) -> bool {
+        let half = |(paid, rise): (u128, u128)| paid % rise * 2 == rise;
+        self.source() != Source::LastPx && self.fraction().is_some_and(half)
     }
-}
 
-fn half_to_even(paid: u128, rise: u128) -> u128 {
-    let (whole, rest) = (paid / rise, paid % rise);
-    let up = rest * 2 > rise || (rest * 2 == rise && whole % 2 == 1);
-    whole + u128::from(up)
+    /// The exact fraction of docs/SCOPE.md, Fill price, rounded to eight places, a half up; 0 where nothing
+    /// rose or it is below 0.
+    fn quotient(&self) -> u128 {
+        self.fraction().map_or(0, |(paid, rise)| paid / rise + u128::from(paid % rise * 2 >= rise))
+    }
+
+    /// What was paid since and the rise that divides it, where something rose.
+    pub fn fraction(&self) -> Option<(u128, u128)> {
+        Some((self.paid(), self.rise().into())).filter(|&(_, rise)| rise > 0)
+    }
+
+    /// What was paid since: 0 where that is below 0.
+    pub fn paid(&self) -> u128 {
+        let new = u128::from(self.cum_qty) * u128::from(self.avg_px);
+        new.saturating_sub(u128::from(self.old_cum_qty) * u128::from(self.old_avg_px))
+    }
 }
 
 #[cfg(test)]
@@ -121,7 +128,7 @@ mod tests {
         assert_eq!(missed.price(), 1_070_000_000);
         let tie = Fill { cum_qty: 30_000, avg_px: 100_000_001, old_cum_qty: 10_000, ..FILL };
         assert_eq!(Fill { old_avg_px: 100_000_000, ..tie }.price(), 100_000_002);
-        assert_eq!(Fill { old_avg_px: 100_000_002, ..tie }.price(), 100_000_000);
+        assert_eq!(Fill { old_avg_px: 100_000_002, ..tie }.price(), 100_000_001);
         let below = Fill { cum_qty: 30_000, avg_px: 50_000_000, old_cum_qty: 20_000, ..FILL };
         assert_eq!(Fill { old_avg_px: 100_000_000, ..below }.price(), 50_000_000);
     }
@@ -138,11 +145,26 @@ mod tests {
         let level = Fill { last_px: 10, avg_px: 10, old_avg_px: 10, old_cum_qty: 1, cum_qty: 3, ..FILL };
         assert_eq!(told(Fill { last_qty: 2, ..level }), (10, Source::LastPx));
         assert_eq!(told(Fill { last_qty: 1, ..level }), (10, Source::Quotient));
-        // A quotient of 0, of a half, and below 0.
+        // A quotient of 0, of a half, below 0, and whole.
         assert_eq!(told(Fill { last_qty: 1, avg_px: 0, old_avg_px: 0, ..level }), (0, Source::Average));
         let half = Fill { cum_qty: 5, avg_px: 2, old_cum_qty: 3, old_avg_px: 3, ..FILL };
-        assert_eq!(told(half), (2, Source::Average));
+        assert_eq!(told(half), (1, Source::Quotient));
         assert_eq!(told(Fill { old_avg_px: 4, ..half }), (2, Source::Average));
         assert_eq!(told(Fill { old_avg_px: 2, ..half }), (2, Source::Quotient));
+    }
+
+    #[test]
+    fn a_half_is_told_from_what_is_beside_it_and_goes_up() {
+        let half = Fill { cum_qty: 5, avg_px: 2, old_cum_qty: 3, old_avg_px: 3, ..FILL };
+        for (fill, price, at_half) in [
+            (half, 1, true),
+            (Fill { cum_qty: 3, avg_px: 1, old_cum_qty: 1, old_avg_px: 0, ..FILL }, 2, true),
+            (Fill { cum_qty: 4, avg_px: 1, old_cum_qty: 1, old_avg_px: 0, ..FILL }, 1, false),
+            (Fill { cum_qty: 5, avg_px: 1, old_cum_qty: 2, old_avg_px: 0, ..FILL }, 2, false),
+            (Fill { last_px: 7, last_qty: 2, ..half }, 7, false),
+            (Fill { cum_qty: 3, ..half }, 2, false),
+        ] {
+            assert_eq!((fill.price(), fill.at_half()), (price, at_half), "{fill:?}");
+        }
     }
 }

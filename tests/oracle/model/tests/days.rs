@@ -44,8 +44,8 @@ fn a_replace_below_what_is_filled_is_refused() {
 }
 
 #[test]
-fn a_half_goes_to_the_even_neighbour() {
-    for (first, price) in [(UNIT, 100_000_002), (UNIT + 2, 100_000_000)] {
+fn a_half_goes_up() {
+    for (first, price) in [(UNIT, 100_000_002), (UNIT + 2, 100_000_001)] {
         let mut day = Day::new();
         day.send(&filled(1, 1, first, first));
         assert_eq!(day.told(&filled(3, 1, UNIT, UNIT + 1), [LAST_QTY, FILL_PRICE]), [20_000, price]);

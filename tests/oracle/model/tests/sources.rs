@@ -35,6 +35,17 @@ fn a_quotient_that_is_not_positive_is_told_as_the_average() {
 }
 
 #[test]
+fn half_of_the_smallest_unit_is_1_by_the_quotient_and_less_is_the_average() {
+    for (first, second, right) in
+        [((3, 3), (5, 2), (1, 2)), ((97, 50), (99, 49), (1, 2)), ((3, 3), (10, 1), (1, 3))]
+    {
+        let mut day = Day::new();
+        day.send(&filled(first.0, first.0, first.1, first.1));
+        assert_eq!(told(&mut day, &filled(second.0, 0, 0, second.1)), right);
+    }
+}
+
+#[test]
 fn a_report_without_a_rise_has_a_source_too() {
     for (last_px, avg_px, right) in [(7, 0, (7, 1)), (7, 7, (7, 1)), (0, 7, (7, 3)), (0, 0, (0, 3))] {
         let mut day = Day::booked();

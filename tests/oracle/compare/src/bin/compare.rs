@@ -98,14 +98,19 @@ fn find_faults(lists: u64) -> ExitCode {
     let mut missed = 0;
     for fault in Fault::COMPARED {
         plant(Some(fault));
-        let found = (1..=lists).find_map(|seed| {
+        let quotients = || {
+            let mut lists = exhaustive::every_quotient().into_iter();
+            lists.find_map(|list| compare(&STAND_IN, &list, PROBING, None).err())
+        };
+        let by_seed = (1..=lists).find_map(|seed| {
             let mut tally = Tally::default();
-            compare_seed(&STAND_IN, seed, 400, PROBING, &mut tally).err().map(|found| (seed, found))
+            let (_, found) = compare_seed(&STAND_IN, seed, 400, PROBING, &mut tally).err()?;
+            Some((format!("at seed {seed}"), found))
         });
-        match found {
-            Some((seed, (_, mismatch))) => {
+        match by_seed.or_else(|| Some(("in a list of quotients".into(), quotients()?))) {
+            Some((place, mismatch)) => {
                 let what: Vec<&str> = mismatch.what.lines().take(2).map(str::trim).collect();
-                println!("  {fault:?}: found at seed {seed}, event {}: {}", mismatch.at + 1, what.join(" "));
+                println!("  {fault:?}: found {place}, event {}: {}", mismatch.at + 1, what.join(" "));
             }
             None => {
                 println!("{fault:?} NOT FOUND in {lists} lists");

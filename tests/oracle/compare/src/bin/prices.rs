@@ -1,6 +1,7 @@
 //! Writes tests/prices/vectors.bin: stored answers of the Rust's `fill_price`, asked through the
-//! book's own report handling and each held against the exact fraction. `prices FILE` writes the
-//! file, `prices --check FILE` compares one with what the Rust answers now.
+//! book's own report handling and each held against the exact fraction; at an exact half the fraction
+//! alone, rounded up. `prices FILE` writes the file, `prices --check FILE` compares one with what is
+//! answered now.
 
 use std::process::ExitCode;
 
@@ -38,7 +39,12 @@ fn main() -> ExitCode {
     }
 }
 
-/// All vectors, 72 bytes each, after the counts that the file owes have been asserted.
+/// Whose answer a vector has: the Rust's, which the exact fraction confirms, or at an exact half the
+/// fraction's, rounded up.
+const BY_RUST: u64 = 0;
+const HALF_UP: u64 = 1;
+
+/// All vectors, 80 bytes each, after the counts that the file owes have been asserted.
 fn vectors() -> Vec<u8> {
     let mut random = Random::new(SEED);
     let mut rust = Rust::new();
@@ -47,14 +53,16 @@ fn vectors() -> Vec<u8> {
     let mut bytes = Vec::new();
     let mut counts = Counts::default();
     for fill in &fills {
-        let price = rust.fill_price(fill);
-        assert_eq!(price, fill.price(), "the Rust and the exact fraction differ: {fill:?}");
+        let (price, told) = (fill.price(), rust.fill_price(fill));
+        assert!(fill.at_half() || told == price, "the Rust and the exact fraction differ: {fill:?}");
         counts.add(fill, price);
+        counts.other += usize::from(told != price);
         let Fill { last_qty, last_px, cum_qty, avg_px, old_cum_qty, old_avg_px } = *fill;
         for number in [last_qty, last_px, cum_qty, avg_px, old_cum_qty, old_avg_px, fill.rise()] {
             bytes.extend(number.to_le_bytes());
         }
         bytes.extend(price.to_le_bytes());
+        bytes.extend(if fill.at_half() { HALF_UP } else { BY_RUST }.to_le_bytes());
     }
     assert!(counts.near_half * 3 >= VECTORS && counts.wide * 5 >= VECTORS, "{counts:?}");
     println!("prices: {VECTORS} vectors, all exact: {counts:?}");
@@ -71,6 +79,8 @@ struct Counts {
     half: usize,
     near_half: usize,
     wide: usize,
+    /// Of the halves, those that the Rust has otherwise.
+    other: usize,
 }
 
 impl Counts {
@@ -86,7 +96,8 @@ impl Counts {
         assert_eq!(fill.source(), source, "{fill:?}");
         *way += 1;
         let from_half = rest.filter(|_| fill.rise() > 1).map(|rest| (2 * rest).abs_diff(fill.rise()));
-        self.half += usize::from(from_half == Some(0));
+        assert_eq!(fill.at_half(), from_half == Some(0), "{fill:?}");
+        self.half += usize::from(fill.at_half());
         self.near_half += usize::from(from_half.is_some_and(|distance| distance <= 2));
         self.wide += usize::from(price > u64::MAX.into());
     }
@@ -98,7 +109,7 @@ fn own_fill_told(fill: &Fill) -> bool {
 
 /// Whether the quotient rounds to more than 0.
 fn positive(fill: &Fill) -> bool {
-    amount(fill).is_some_and(|paid| paid * 2 > fill.rise().into())
+    amount(fill).is_some_and(|paid| paid * 2 >= fill.rise().into())
 }
 
 fn fills(random: &mut Random) -> Vec<Fill> {
