@@ -1,5 +1,5 @@
 //! A small day: an order is booked, acknowledged, filled, replaced and cancelled, a bad request is refused, and each time what
-//! goes out is printed. `cargo run --example day`
+//! goes out and what the client has open is printed; at the end its net position. `cargo run --example day`
 
 use jubafiye::{
     Amend, Answer, Book, Booking, Error, Event, ExecType, OrdStatus, OrdType, Price, Qty, Replace, Side,
@@ -95,5 +95,9 @@ fn main() {
     for (what, event) in day() {
         println!("{what}");
         show(&book.take(&event));
+        println!("  open {}", book.open_quantity(CLIENT));
+    }
+    for line in book.net_position() {
+        println!("client {} is at {:+} in {}", line.client, line.net, line.symbol.escape_ascii());
     }
 }

@@ -1,4 +1,4 @@
-/* The proved order book: five functions over lent byte slices, each a pointer and then a length. What they do stands in
+/* The proved order book: six functions over lent slices, each a pointer and then a length. What they do stands in
  * docs/SCOPE.md, the book's bytes in docs/LAYOUT.md.
  *
  * Each pointer must be valid for its length, and the slices of one call must not overlap. Any bytes may be passed. A call
@@ -18,6 +18,9 @@ extern "C" {
 #define JUBAFIYE_ANSWER_BYTES 1024
 #define JUBAFIYE_PAGE_LINE 81
 #define JUBAFIYE_PAGE_BYTES 5184 /* what the page of any book has at most: 64 lines */
+#define JUBAFIYE_NET_LINE 27
+#define JUBAFIYE_NET_BYTES 1728 /* what the lines of the net position need, whatever the book: 64 */
+#define JUBAFIYE_NET_SCRATCH 64 /* the numbers that its scratch needs */
 
 /* Makes an empty book. setting: the most ClOrdIDs that a client may use, the reserve included.
  * 0, or 1 where the book has another length. */
@@ -55,6 +58,15 @@ typedef struct {
  * JUBAFIYE_REFUSED_BOOK alone. */
 Opened open_quantity(const uint8_t *book, size_t book_len, uint16_t client);
 
+/* Writes the net position to the front of lines, of which the bytes behind them stay as they are: a line for each client and
+ * symbol that has an order, by first booking. A line has the client (2 bytes), the symbol as its length (1) and 16 bytes filled
+ * with zeros, and the net (8): what was bought less what was sold, short sales as sales, over all orders, done ones included, a
+ * count of 1/10,000 in two's complement. The number is that of the lines. What the scratch then holds is free. Refused with
+ * JUBAFIYE_REFUSED_BOOK, then with JUBAFIYE_REFUSED_NET_BUFFERS where count is below JUBAFIYE_NET_SCRATCH or lines_len below
+ * JUBAFIYE_NET_BYTES, whatever the book; neither scratch nor lines has then changed. */
+Counted net_position(const uint8_t *book, size_t book_len, uint64_t *scratch, size_t count, uint8_t *lines,
+                     size_t lines_len);
+
 /* What the functions return. */
 enum {
     JUBAFIYE_TAKEN = 0,
@@ -65,7 +77,8 @@ enum {
     JUBAFIYE_REFUSED_IN_USE = 5,        /* a booking's order name or ClOrdID is in use */
     JUBAFIYE_REFUSED_PRICE = 6,         /* a price without a limit, or a limit without a price */
     JUBAFIYE_REFUSED_FULL = 7,          /* no free order or request record */
-    JUBAFIYE_REFUSED_PAGE_BUFFER = 8    /* the page's buffer is shorter than JUBAFIYE_PAGE_LINE bytes for each order */
+    JUBAFIYE_REFUSED_PAGE_BUFFER = 8,   /* the page's buffer is shorter than JUBAFIYE_PAGE_LINE bytes for each order */
+    JUBAFIYE_REFUSED_NET_BUFFERS = 11   /* the net position's scratch or output is smaller than it must be */
 };
 
 /* A record: a kind (1 byte), a map of 32 bits (4 bytes), then the fields whose bit stands, in bit order. All numbers are

@@ -24,6 +24,23 @@ pub struct Qty(
     pub u64,
 );
 
+/// A net quantity: a count of 1/10,000 with a sign, below 0 where more was sold than bought.
+///
+/// As text it is a decimal number, shown exactly.
+///
+/// ```
+/// use jubafiye::Net;
+///
+/// assert_eq!(Net(-125_000).to_string(), "-12.5");
+/// assert_eq!(Net(0).to_string(), "0");
+/// assert_eq!(format!("{:+}", Net(70_000)), "+7");
+/// ```
+#[derive(Debug, Clone, Copy, PartialEq, Eq, PartialOrd, Ord, Hash, Default)]
+pub struct Net(
+    /// The count of 1/10,000.
+    pub i64,
+);
+
 /// A price: a count of 10^-8, at most [`Price::MAX`] in an event. A fill price that the book works out may pass 64 bits.
 ///
 /// As text it is a decimal number, read and shown exactly.
@@ -137,14 +154,21 @@ impl FromStr for Price {
 /// With the decimals that it has: `100`, `0.5`. A precision changes nothing: a part would be another number.
 impl fmt::Display for Qty {
     fn fmt(&self, f: &mut fmt::Formatter<'_>) -> fmt::Result {
-        show(f, u128::from(self.0), Self::DECIMALS)
+        show(f, true, u128::from(self.0), Self::DECIMALS)
+    }
+}
+
+/// With the sign and the decimals that it has: `-40`, `0.5`. A precision changes nothing: a part would be another number.
+impl fmt::Display for Net {
+    fn fmt(&self, f: &mut fmt::Formatter<'_>) -> fmt::Result {
+        show(f, self.0 >= 0, u128::from(self.0.unsigned_abs()), Qty::DECIMALS)
     }
 }
 
 /// With the decimals that it has: `10`, `10.7`. A precision changes nothing: a part would be another number.
 impl fmt::Display for Price {
     fn fmt(&self, f: &mut fmt::Formatter<'_>) -> fmt::Result {
-        show(f, self.0, Self::DECIMALS)
+        show(f, true, self.0, Self::DECIMALS)
     }
 }
 
@@ -167,14 +191,14 @@ fn read(text: &str, decimals: usize) -> Result<u128, DecimalError> {
     Ok(digits.fold(0, |count: u128, digit| count.saturating_mul(10).saturating_add(u128::from(digit))))
 }
 
-/// Shows a count as whole units and the decimals that it has.
-fn show(f: &mut fmt::Formatter<'_>, count: u128, decimals: usize) -> fmt::Result {
+/// Shows a count, below 0 or not, as whole units and the decimals that it has.
+fn show(f: &mut fmt::Formatter<'_>, positive: bool, count: u128, decimals: usize) -> fmt::Result {
     let digits = format!("{count:0width$}", width = decimals.saturating_add(1));
     let at = digits.len().saturating_sub(decimals);
     let (whole, part) = digits.split_at_checked(at).unwrap_or((&digits, ""));
     match part.trim_end_matches('0') {
-        "" => f.pad_integral(true, "", whole),
-        part => f.pad_integral(true, "", &format!("{whole}.{part}")),
+        "" => f.pad_integral(positive, "", whole),
+        part => f.pad_integral(positive, "", &format!("{whole}.{part}")),
     }
 }
 
@@ -189,6 +213,11 @@ mod tests {
         assert_eq!(Qty(10_500).to_string(), "1.05");
         assert_eq!(Qty::MAX.to_string(), "100000000");
         assert_eq!(Qty(u64::MAX).to_string(), "1844674407370955.1615");
+        assert_eq!(Net(i64::MIN).to_string(), "-922337203685477.5808");
+        assert_eq!(
+            format!("[{:>8}] [{:08}] [{}]", Net(-1), Net(-10_500), Net(1)),
+            "[ -0.0001] [-0001.05] [0.0001]"
+        );
         assert_eq!(Price(1).to_string(), "0.00000001");
         assert_eq!(Price::units(u64::MAX), Price(1_844_674_407_370_955_161_500_000_000));
         assert_eq!(Price(u128::MAX).to_string(), "3402823669209384634633746074317.68211455");

@@ -16,6 +16,11 @@ pub(crate) const ORDERS: usize = 64;
 /// A line of the evening page, with its line feed.
 pub(crate) const PAGE_LINE: usize = 81;
 
+/// A line of the net position, the lines of any book, and the numbers that the scratch must have at least.
+pub(crate) const NET_LINE: usize = 27;
+pub(crate) const NET_LINES: usize = NET_LINE * ORDERS;
+pub(crate) const NET_NUMBERS: usize = 64;
+
 /// A book's bytes: the type holds their number.
 pub(crate) type BookBytes = [u8; BOOK_BYTES];
 
@@ -47,6 +52,14 @@ mod c {
         pub fn check(book: *const u8, book_len: usize) -> u32;
         pub fn page(book: *const u8, book_len: usize, out: *mut u8, out_len: usize) -> Counted;
         pub fn open_quantity(book: *const u8, book_len: usize, client: u16) -> Opened;
+        pub fn net_position(
+            book: *const u8,
+            book_len: usize,
+            scratch: *mut u64,
+            count: usize,
+            lines: *mut u8,
+            lines_len: usize,
+        ) -> Counted;
     }
 }
 
@@ -97,4 +110,27 @@ pub(crate) fn open_quantity(book: &BookBytes, client: u16) -> Result<u64, Refusa
     let opened = unsafe { c::open_quantity(book.as_ptr(), book.len(), client) };
     Refusal::of(opened.refusal)?;
     Ok(opened.quantity)
+}
+
+/// Writes the net position to the front of its buffer and gives how many lines it has; a refused call has changed nothing.
+#[allow(unsafe_code)]
+pub(crate) fn net_position(
+    book: &BookBytes,
+    scratch: &mut [u64],
+    lines: &mut [u8],
+) -> Result<usize, Refusal> {
+    // SAFETY: three slices that do not overlap, since two of them are lent as `&mut`; each with its own length.
+    let counted = unsafe {
+        c::net_position(
+            book.as_ptr(),
+            book.len(),
+            scratch.as_mut_ptr(),
+            scratch.len(),
+            lines.as_mut_ptr(),
+            lines.len(),
+        )
+    };
+    Refusal::of(counted.refusal)?;
+    // A number that is past the address space is past any buffer.
+    Ok(usize::try_from(counted.number).unwrap_or(usize::MAX))
 }

@@ -38,6 +38,8 @@ pub enum Refusal {
     Text,
     /// 10: the buffer cannot hold the FIX message.
     Room,
+    /// 11: the net position's scratch or output is smaller than it must be.
+    NetBuffers,
     /// Another number, which this crate does not know: the library is of another version.
     Other(u32),
 }
@@ -56,6 +58,7 @@ impl Refusal {
             Self::PageBuffer => 8,
             Self::Text => 9,
             Self::Room => 10,
+            Self::NetBuffers => 11,
             Self::Other(number) => number,
         }
     }
@@ -80,6 +83,7 @@ impl Refusal {
             8 => Self::PageBuffer,
             9 => Self::Text,
             10 => Self::Room,
+            11 => Self::NetBuffers,
             _ => Self::Other(number),
         })
     }
@@ -103,6 +107,7 @@ impl fmt::Display for Refusal {
             Self::PageBuffer => "the page's buffer is too short",
             Self::Text => "a text for FIX is empty or has a byte below 32",
             Self::Room => "the buffer cannot hold the FIX message",
+            Self::NetBuffers => "the net position's scratch or output is too small",
             Self::Other(_) => "a number that is not known here",
         };
         write!(f, "refused with {}: {why}", self.number())

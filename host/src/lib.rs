@@ -57,6 +57,8 @@ pub mod fix;
 mod list;
 mod message;
 #[cfg(feature = "book")]
+mod net;
+#[cfg(feature = "book")]
 mod open;
 #[cfg(feature = "book")]
 mod page;
@@ -66,13 +68,15 @@ mod words;
 pub use answer::{Alarm, Answer};
 #[cfg(feature = "book")]
 pub use book::Book;
-pub use decimal::{DecimalError, Price, Qty};
+pub use decimal::{DecimalError, Net, Price, Qty};
 #[cfg(feature = "book")]
 pub use entries::{ANSWER_BYTES, BOOK_BYTES};
 pub use error::{BadAnswer, Error, Fault, Refusal};
 pub use event::{Amend, Booking, Event, RejectedRequest, Replace, VenueReport};
 pub use fields::{ExecType, OrdStatus, OrdType, Side, TimeInForce};
 pub use message::{CancelReject, Message, PriceSource, Report, RequestKind, ToVenue};
+#[cfg(feature = "book")]
+pub use net::{NetLine, NET_BYTES, NET_SCRATCH};
 #[cfg(feature = "book")]
 pub use page::{Page, PAGE_BYTES};
 pub use words::{FixedText, Reason, RiskReject, Words};

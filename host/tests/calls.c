@@ -7,6 +7,8 @@
 static uint8_t book[JUBAFIYE_BOOK_BYTES];
 static uint8_t answer[JUBAFIYE_ANSWER_BYTES];
 static uint8_t out[JUBAFIYE_PAGE_BYTES];
+static uint8_t lines[JUBAFIYE_NET_BYTES];
+static uint64_t scratch[JUBAFIYE_NET_SCRATCH];
 
 /* Client 0x0107 books 5 of W for venue 3 at the market, named A, ClOrdID C. */
 static const uint8_t booking[] = {JUBAFIYE_EVENT_BOOK, 0xCF, 0x03, 0, 0, 0x07, 0x01, 3, 0, 1, 'A', 1, 'C', 1, 'W', '1', '1',
@@ -41,6 +43,17 @@ int main(void) {
     expect("open_quantity of no orders", opened.refusal == JUBAFIYE_TAKEN && opened.quantity == 0);
     opened = open_quantity(book, sizeof book - 1, 0x0107);
     expect("open_quantity, refused", opened.refusal == JUBAFIYE_REFUSED_BOOK && opened.quantity == 0);
+
+    Counted netted = net_position(book, sizeof book, scratch, JUBAFIYE_NET_SCRATCH, lines, sizeof lines);
+    expect("net_position", netted.refusal == JUBAFIYE_TAKEN && netted.number == 1);
+    static const uint8_t line[JUBAFIYE_NET_LINE] = {0x07, 0x01, 1, 'W'};
+    expect("its line", memcmp(lines, line, sizeof line) == 0);
+    netted = net_position(book, sizeof book, scratch, JUBAFIYE_NET_SCRATCH - 1, lines, sizeof lines);
+    expect("net_position, scratch short", netted.refusal == JUBAFIYE_REFUSED_NET_BUFFERS && netted.number == 0);
+    netted = net_position(book, sizeof book, scratch, JUBAFIYE_NET_SCRATCH, lines, sizeof lines - 1);
+    expect("net_position, lines short", netted.refusal == JUBAFIYE_REFUSED_NET_BUFFERS && netted.number == 0);
+    netted = net_position(book, sizeof book - 1, scratch, 0, lines, 0);
+    expect("net_position, refused", netted.refusal == JUBAFIYE_REFUSED_BOOK && netted.number == 0);
 
     if (!failed) {
         printf("calls: each function from C\n");

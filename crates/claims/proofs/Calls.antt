@@ -169,7 +169,7 @@ demand3 b setting small z cs =
 good : {b : List ℕ} → Passes b → Good b
 good {b} p = record { keeps = kept-check b (p .passes); bytes = p .bytes }
 
-passing : Faithful entries Passes
+pub passing : Faithful entries Passes
 passing = record {
   same = λ b i p. same-line b i (good p);
   stays = λ b i p. let g = stays b i (good p) in record { bytes = g .bytes; passes = check-kept _ (g .keeps) };

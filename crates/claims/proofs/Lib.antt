@@ -7,3 +7,4 @@ pub mod Demands
 pub mod Calls
 pub mod OpenQuantity
 pub mod Exchange
+pub mod Net

@@ -2,3 +2,4 @@ pub mod Questions
 pub mod Claims
 pub mod Opens
 pub mod Exchange
+pub mod Net

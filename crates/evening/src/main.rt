@@ -1,8 +1,10 @@
 // An evening: records from standard input, each after its length in two bytes, go to one book in
-// their order, as `day` takes them; then the book's page goes to standard output. A record that the
-// end of the input cuts is left out. Rests on gateway and words.
+// their order, as `day` takes them; then the book's page goes to standard output, and its net position
+// below it. A record that the end of the input cuts is left out. Rests on gateway, words and decimal.
 ghost use Prim.Native.Nat.{_≤_, _<_};
 ghost use lib.ListN.{length};
+
+mod net; // the net position's lines
 
 // The most ClOrdIDs that a client may use.
 const SETTING: u32 = 10000;
@@ -70,4 +72,5 @@ fn main() {
         left = rest(left, more);
     }
     print(&book);
+    net::print(&book);
 }

@@ -1,12 +1,13 @@
 // The entries of the gateway's book, for a host that calls them as C functions on byte slices:
 // `start` makes an empty book, `event` takes one record and writes the answer, `check` says whether a
-// book keeps its rules, `page` prints the evening page, `open_quantity` gives a client's open quantity.
-// Each is total: whatever the bytes, it returns its number, and a refused call has written nothing.
-// Rests on step, opens, records, store and page.
+// book keeps its rules, `page` prints the evening page, `open_quantity` gives a client's open quantity,
+// `net_position` writes the net position's lines. Each is total: whatever the bytes, it returns its
+// number, and a refused call has written nothing. Rests on step, opens, records, store, page and net.
 ghost use mathlib.Core.Path.{_≡_};
 ghost use Rattle.step.specs.Entries.{startOf, startRefusal, checkOf, outcome, eventOf};
 ghost use Rattle.page.specs.Page.{paged, pageCall};
 ghost use Rattle.opens.specs.Keeps.{openCall};
+ghost use Rattle.net.specs.Net.{IsNet};
 use counted::Counted;
 use opens::Opened;
 use orders::order;
@@ -70,4 +71,12 @@ pub extern "C" fn open_quantity(book: &[u8], client: u16) -> Opened
     ensures { λ r. ⌜ r ≡ openCall (now (book .entry)) client ⌝ }
 {
     opens::open_quantity(book, client)
+}
+
+// Writes a line for each client and symbol to the front of `lines`; the number is their count.
+#[no_mangle]
+pub extern "C" fn net_position(book: &[u8], scratch: &mut [u64], lines: &mut [u8]) -> Counted
+    ensures { λ r. ⌜ IsNet (now (book .entry)) (now (scratch .entry)) (now (lines .entry)) r (now (scratch .exit)) (now (lines .exit)) ⌝ }
+{
+    net::net_position(book, scratch, lines)
 }

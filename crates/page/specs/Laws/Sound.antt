@@ -98,7 +98,7 @@ largest-fits =
 -- ---- the call
 
 -- a byte behind what is written at the front
-behind-front : (s w : List ℕ) (k : ℕ) → length w ≤ k → length w ≤ length s → getD (splice s 0 w) k 0 ≡ getD s k 0
+pub behind-front : (s w : List ℕ) (k : ℕ) → length w ≤ k → length w ≤ length s → getD (splice s 0 w) k 0 ≡ getD s k 0
 behind-front s w k h l =
     ap (λ (j : ℕ). getD (splice s 0 w) j 0) (sym (add-zero k))
     ∙ sym (get-span (splice s 0 w) k 1 0 (omega arith))

@@ -14,6 +14,9 @@ use crate::mirror::{self, Sending};
 /// How many clients the orders of a built book are drawn from.
 const CLIENTS: [u64; 4] = [2, 4, 20, 1 << 16];
 
+/// Symbols that more than one order of a built book may have; some differ only in zeros at the end.
+const SYMBOLS: [&[u8]; 6] = [b"S", b"S\0", b"S\0\0", b"T", b"\0", b"\0\0"];
+
 /// The first seed whose list leaves a full book with orders in every state.
 const FULL_SEED: u64 = 99;
 
@@ -132,7 +135,7 @@ fn order(index: u64, clients: u64, random: &mut Random) -> Order {
         name: Text::new(&name),
         cl_ord_id: any_text(random, 1, 32),
         downstream: none,
-        symbol: any_text(random, 1, 16),
+        symbol: if random.chance(50) { Text::new(*random.pick(&SYMBOLS)) } else { any_text(random, 1, 16) },
         venue_order_id: any_text(random, 0, 32),
         side: code(SIDES, random),
         ord_type,

@@ -1,7 +1,8 @@
 //! A library's `start`, `event`, `check` and `page` against the model: refusal, answer bytes, bytes past
 //! the length, nothing written by a refused event, every field of the book by docs/LAYOUT.md and
-//! no other byte of it, `check` 0, the evening page and the clients' open quantities after each
-//! event, events on copies of the book, and demand 3 counted from the messages.
+//! no other byte of it, `check` 0, the evening page, the clients' open quantities and their nets
+//! after each event, events on copies of the book, and demand 3 and the nets counted from the
+//! messages.
 
 use std::panic::{AssertUnwindSafe, catch_unwind};
 
@@ -18,6 +19,7 @@ use crate::keeps::broken;
 use crate::layout::{self, Book, Header};
 use crate::minimize::minimize;
 use crate::mirror::{self, Sending};
+use crate::net::Told;
 use crate::probes;
 use crate::show;
 use crate::tally::Tally;
@@ -50,6 +52,7 @@ struct Caller<'a> {
     entries: &'a Entries,
     book: Vec<u8>,
     sending: Sending,
+    told: Told,
 }
 
 impl Caller<'_> {
@@ -70,9 +73,13 @@ impl Caller<'_> {
         let right = model.clone().map(|answer| (answer, mirror::book(machine, &self.sending)));
         expected::holds(&right, refusal, (&before, &self.book), (&filled, &answer))?;
         match self.entries.check(&self.book) {
-            0 => views::hold(self.entries, &self.book, Some(machine)),
-            check => Err(format!("check gives {check} after the event")),
+            0 => views::hold(self.entries, &self.book, Some(machine))?,
+            check => return Err(format!("check gives {check} after the event")),
         }
+        if let Ok(told) = model {
+            self.told.hear(&answer[..told.len()]);
+        }
+        self.told.holds(self.entries, &self.book)
     }
 }
 
@@ -133,7 +140,8 @@ impl Built {
     }
 }
 
-/// Runs the events on a built book through both. Demand 3 is counted from a start, and the Rust's
+/// Runs the events on a built book through both. The nets are counted from those that it has; demand
+/// 3 is counted from a start, and the Rust's
 /// own `check()` asks more than docs/SCOPE.md, Rules: here the second decision of these stands alone.
 pub fn compare_built(
     entries: &Entries,
@@ -142,7 +150,8 @@ pub fn compare_built(
 ) -> Result<(), Mismatch> {
     let found = |at: usize| move |what: String| Mismatch { at, what };
     let (mut machine, sending) = mirror::machine(&Book::read(&built.bytes));
-    let mut caller = Caller { entries, book: built.bytes.clone(), sending };
+    let told = Told::since(&machine);
+    let mut caller = Caller { entries, book: built.bytes.clone(), sending, told };
     for (at, item) in built.list.items.iter().enumerate() {
         if let Some(tally) = &mut tally {
             tally.count_half(&machine, &item.record);
@@ -171,7 +180,9 @@ fn started<'a>(entries: &'a Entries, setting: u32) -> Result<Caller<'a>, String>
     let empty = Header { orders: 0, requests: 0, setting: setting.into() };
     views::hold(entries, &book, Some(&Machine::start(setting)))?;
     match Header::read(&book) {
-        header if header == empty => Ok(Caller { entries, book, sending: Sending::default() }),
+        header if header == empty => {
+            Ok(Caller { entries, book, sending: Sending::default(), told: Told::default() })
+        }
         header => Err(format!("start with setting {setting} leaves {header:?}")),
     }
 }

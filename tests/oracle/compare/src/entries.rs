@@ -6,6 +6,7 @@ pub type Check = unsafe extern "C" fn(*const u8, usize) -> u32;
 
 pub type Page = unsafe extern "C" fn(*const u8, usize, *mut u8, usize) -> Counted;
 pub type OpenQuantity = unsafe extern "C" fn(*const u8, usize, u16) -> Opened;
+pub type NetPosition = unsafe extern "C" fn(*const u8, usize, *mut u64, usize, *mut u8, usize) -> Counted;
 
 /// A refusal, or 0 and the number that was asked for.
 #[repr(C)]
@@ -30,6 +31,7 @@ pub struct Entries {
     pub check: Check,
     pub page: Page,
     pub open_quantity: OpenQuantity,
+    pub net_position: NetPosition,
 }
 
 // Each call lends whole slices for its time, which is all that an entry may touch.
@@ -56,6 +58,13 @@ impl Entries {
     pub fn open_quantity(&self, book: &[u8], client: u16) -> Opened {
         unsafe { (self.open_quantity)(book.as_ptr(), book.len(), client) }
     }
+
+    pub fn net_position(&self, book: &[u8], scratch: &mut [u64], lines: &mut [u8]) -> Counted {
+        let (numbers, count) = (scratch.as_mut_ptr(), scratch.len());
+        unsafe {
+            (self.net_position)(book.as_ptr(), book.len(), numbers, count, lines.as_mut_ptr(), lines.len())
+        }
+    }
 }
 
 #[cfg(library)]
@@ -75,6 +84,14 @@ mod linked {
         pub fn check(book: *const u8, book_len: usize) -> u32;
         pub fn page(book: *const u8, book_len: usize, out: *mut u8, out_len: usize) -> Counted;
         pub fn open_quantity(book: *const u8, book_len: usize, client: u16) -> Opened;
+        pub fn net_position(
+            book: *const u8,
+            book_len: usize,
+            scratch: *mut u64,
+            count: usize,
+            lines: *mut u8,
+            lines_len: usize,
+        ) -> Counted;
     }
 }
 
@@ -87,6 +104,7 @@ pub fn library() -> Option<Entries> {
         check: linked::check,
         page: linked::page,
         open_quantity: linked::open_quantity,
+        net_position: linked::net_position,
     })
 }
 

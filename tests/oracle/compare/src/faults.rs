@@ -1,15 +1,17 @@
 //! Faults that can be planted in the stand-in, each of which the comparison must find:
 //! docs/SCOPE.md, Wrong answers, and some of their kin.
 
+use gateway::Decimal;
 use gateway::book::Order;
 use model::Machine;
-use model::answer::{latin1, messages, of_messages};
-use model::codes::is_done;
+use model::answer::{bytes, client_number, latin1, messages, of_messages};
+use model::codes::{is_done, side_code, status_code};
 use model::machine::{ANSWER_BYTES, BOOK_BYTES, MOST_REQUESTS};
 use model::numbers::{Fill, Source, qty_count};
 use model::record::*;
 
 use crate::layout::{self, Book, Header};
+use crate::net::{self, Pair};
 use crate::page::LINE;
 use crate::stand_in::names;
 
@@ -119,6 +121,38 @@ pub enum Fault {
     OpenByLowByte,
     /// A quantity stands beside a refusal.
     OpenBesideRefusal,
+    /// Short sales are netted as purchases.
+    NetShortBought,
+    /// Done orders are left out of the net.
+    NetWithoutDone,
+    /// What was ordered is netted.
+    NetOfOrdered,
+    /// The net has no sign.
+    NetUnsigned,
+    /// Pairs whose net is 0 have no line.
+    NetWithoutZero,
+    /// Pairs stand by their last booking.
+    NetByLastBooking,
+    /// Orders of a symbol are one pair, whosever.
+    NetOfAllClients,
+    /// Orders of a client are one pair, whatever their symbol.
+    NetOfAllSymbols,
+    /// Symbols that differ only in zeros at their end are one.
+    NetTrimmedSymbols,
+    /// The net's bytes are turned round.
+    NetTurnedRound,
+    /// The lines that are not used are cleared.
+    NetPastItsEnd,
+    /// The scratch is written with a refusal.
+    NetScratchRefused,
+    /// A number stands beside a refusal.
+    NetBesideRefusal,
+    /// 11 is said where scratch and output are exactly large enough.
+    ElevenAtJustEnough,
+    /// 11 goes by what is to be written.
+    ElevenByNeed,
+    /// 11 is asked before question 1.
+    ElevenBeforeOne,
     /// Question 2 is asked before question 1.
     TwoBeforeOne,
     /// Question 4 is asked before question 3, of records that are a byte too long.
@@ -131,7 +165,7 @@ pub enum Fault {
 
 impl Fault {
     /// Faults that the comparison finds.
-    pub const COMPARED: [Self; 52] = [
+    pub const COMPARED: [Self; 68] = [
         Self::AddsLastQty,
         Self::AcknowledgesLater,
         Self::SevenEarly,
@@ -184,6 +218,22 @@ impl Fault {
         Self::OpenAtLast,
         Self::OpenByLowByte,
         Self::OpenBesideRefusal,
+        Self::NetShortBought,
+        Self::NetWithoutDone,
+        Self::NetOfOrdered,
+        Self::NetUnsigned,
+        Self::NetWithoutZero,
+        Self::NetByLastBooking,
+        Self::NetOfAllClients,
+        Self::NetOfAllSymbols,
+        Self::NetTrimmedSymbols,
+        Self::NetTurnedRound,
+        Self::NetPastItsEnd,
+        Self::NetScratchRefused,
+        Self::NetBesideRefusal,
+        Self::ElevenAtJustEnough,
+        Self::ElevenByNeed,
+        Self::ElevenBeforeOne,
     ];
 
     /// Faults that calls with bad input find.
@@ -449,6 +499,59 @@ pub fn page(fault: Option<Fault>, machine: &Machine, mut page: Vec<u8>) -> Vec<u
         _ => {}
     }
     page
+}
+
+/// The nets as the fault has them.
+pub fn nets(fault: Option<Fault>, machine: &Machine) -> Vec<(Pair, i64)> {
+    let mut orders: Vec<&Order> = machine.book().order_table().values().collect();
+    orders.sort_by_key(|order| order.id.0);
+    if fault == Some(Fault::NetByLastBooking) {
+        orders.reverse();
+    }
+    let nets = net::added(orders.iter().map(|order| (taken_for(fault, order, &orders), part(fault, order))));
+    match fault {
+        Some(Fault::NetByLastBooking) => nets.into_iter().rev().collect(),
+        Some(Fault::NetWithoutZero) => nets.into_iter().filter(|(_, net)| *net != 0).collect(),
+        Some(Fault::NetUnsigned) => nets.into_iter().map(|(pair, net)| (pair, net.abs())).collect(),
+        _ => nets,
+    }
+}
+
+/// The pair of the first order that this one is taken to share its pair with.
+fn taken_for(fault: Option<Fault>, order: &Order, orders: &[&Order]) -> Pair {
+    let pair = |order: &Order| (client_number(&order.client), bytes(&order.request.symbol));
+    let trimmed =
+        |symbol: &[u8]| symbol.iter().rposition(|&byte| byte != 0).map(|last| symbol[..=last].to_vec());
+    let (client, symbol) = pair(order);
+    let same = |other: &Pair| match fault {
+        Some(Fault::NetOfAllClients) => other.1 == symbol,
+        Some(Fault::NetOfAllSymbols) => other.0 == client,
+        Some(Fault::NetTrimmedSymbols) => other.0 == client && trimmed(&other.1) == trimmed(&symbol),
+        _ => other.0 == client && other.1 == symbol,
+    };
+    orders.iter().map(|order| pair(order)).find(same).expect("the order itself")
+}
+
+/// What an order adds to its net.
+fn part(fault: Option<Fault>, order: &Order) -> i64 {
+    let qty = match fault {
+        Some(Fault::NetOfOrdered) => order.request.qty,
+        Some(Fault::NetWithoutDone) if is_done(status_code(order.status)) => Decimal::ZERO,
+        _ => order.cum_qty,
+    };
+    let side = match (fault, side_code(order.request.side)) {
+        (Some(Fault::NetShortBought), b'5') => b'1',
+        (_, side) => side,
+    };
+    net::signed(side, qty_count(qty))
+}
+
+/// The lines as the fault writes them.
+pub fn lines(fault: Option<Fault>, mut lines: Vec<u8>) -> Vec<u8> {
+    if fault == Some(Fault::NetTurnedRound) {
+        lines.chunks_mut(net::LINE).for_each(|line| line[19..].reverse());
+    }
+    lines
 }
 
 fn write_order(fault: Fault, was: &layout::Order, order: &mut layout::Order) {

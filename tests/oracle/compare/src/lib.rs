@@ -12,6 +12,7 @@ pub mod keeps;
 pub mod layout;
 pub mod minimize;
 pub mod mirror;
+pub mod net;
 pub mod opens;
 pub mod page;
 pub mod probes;

@@ -94,12 +94,26 @@ fn call(
 
 #[cfg(test)]
 mod tests {
+    use model::answer::latin1;
+    use model::numbers::qty;
+
     use super::*;
+    use crate::net::{Pair, nets};
 
     const INPUT: &[u8] = include_bytes!("../../../../crates/evening/stdin");
     const OUTPUT: &[u8] = include_bytes!("../../../../crates/evening/stdout");
 
-    /// The stored evening: the Rust's page after its records is what the program must print.
+    /// A line of the net position as the program prints it: the client in 5 columns and a blank, the
+    /// symbol in 16, the net in 17 with four decimals and a sign where it is not 0.
+    fn net_line(((client, symbol), net): &(Pair, i64)) -> Vec<u8> {
+        let sign = ["-", "", "+"][(net.signum() + 1) as usize];
+        let size = format!("{sign}{:.4}", qty(net.unsigned_abs()));
+        let symbol = columns(&latin1(symbol), 16);
+        [format!("{client:>5} ").as_bytes(), &symbol, format!("{size:>17}\n").as_bytes()].concat()
+    }
+
+    /// The stored evening: the Rust's page after its records, and its nets below it, is what the
+    /// program must print.
     #[test]
     fn the_stored_evening_is_the_rusts() {
         let mut machine = Machine::start(10_000);
@@ -109,6 +123,8 @@ mod tests {
             machine.event(record, 1_024).expect("each event of the evening is taken");
             rest = after;
         }
-        assert_eq!(page(&machine).escape_ascii().to_string(), OUTPUT.escape_ascii().to_string());
+        let mut right = page(&machine);
+        right.extend(nets(&machine).iter().flat_map(net_line));
+        assert_eq!(right.escape_ascii().to_string(), OUTPUT.escape_ascii().to_string());
     }
 }

@@ -1,8 +1,10 @@
 //! Stands in for the ported library: the model behind the C entries, its book written by
 //! docs/LAYOUT.md, with faults that can be planted in it. Each call reads the Rust's book from the
-//! bytes and writes it back, so that nothing is kept between calls.
+//! bytes and writes it back, so that nothing is kept between calls; but where the bytes are those of
+//! the call before, what they were found to be is not worked out again.
 
-use std::cell::Cell;
+use std::cell::{Cell, RefCell};
+use std::rc::Rc;
 
 use model::Machine;
 use model::answer::bytes;
@@ -13,12 +15,17 @@ use crate::faults::{self, Fault};
 use crate::keeps::broken_but;
 use crate::layout::Book;
 use crate::mirror;
+use crate::net::{self, LINES, SCRATCH};
 use crate::page;
 
-pub const STAND_IN: Entries = Entries { start, event, check, page: print, open_quantity };
+pub const STAND_IN: Entries = Entries { start, event, check, page: print, open_quantity, net_position };
 
 thread_local! {
     static FAULT: Cell<Option<Fault>> = const { Cell::new(None) };
+    /// The book that question 1 was asked of last, the fault that it was asked with, and the answer.
+    static ASKED: RefCell<(Vec<u8>, Option<Fault>, bool)> = const { RefCell::new((Vec::new(), None, false)) };
+    /// The book that a machine was made of last, and the machine.
+    static MADE: RefCell<Option<(Vec<u8>, Rc<Machine>)>> = const { RefCell::new(None) };
 }
 
 /// Plants `fault`, or none, in all that follows on this thread.
@@ -58,7 +65,7 @@ unsafe extern "C" fn print(book: *const u8, book_len: usize, out: *mut u8, out_l
     if !keeps(book) {
         return refused(1);
     }
-    let (machine, _) = mirror::machine(&Book::read(book));
+    let machine = machine(book);
     let page = faults::page(FAULT.get(), &machine, page::page(&machine));
     let room = if FAULT.get() == Some(Fault::EightAtJustEnough) { page.len() + 1 } else { page.len() };
     if out.len() < room {
@@ -86,8 +93,83 @@ unsafe extern "C" fn open_quantity(book: *const u8, book_len: usize, client: u16
     Opened { refusal: 0, quantity: place.and_then(|place| book.opens[place]).unwrap_or(0) }
 }
 
+unsafe extern "C" fn net_position(
+    book: *const u8,
+    book_len: usize,
+    scratch: *mut u64,
+    count: usize,
+    lines: *mut u8,
+    lines_len: usize,
+) -> Counted {
+    // SAFETY: what the caller lends, three times; the book is only read.
+    let (book, lines) = unsafe { (lent(book.cast_mut(), book_len), lent(lines, lines_len)) };
+    let scratch = if count == 0 {
+        &mut []
+    } else {
+        // SAFETY: as above.
+        unsafe { std::slice::from_raw_parts_mut(scratch, count) }
+    };
+    net_lines(book, scratch, lines)
+}
+
+fn net_lines(book: &[u8], scratch: &mut [u64], lines: &mut [u8]) -> Counted {
+    let fault = FAULT.get();
+    let least = match fault {
+        Some(Fault::ElevenAtJustEnough) => (SCRATCH + 1, LINES),
+        Some(Fault::ElevenByNeed) => (0, 0),
+        _ => (SCRATCH, LINES),
+    };
+    let short = scratch.len() < least.0 || lines.len() < least.1;
+    let refused = |refusal: u32| {
+        let number = if fault == Some(Fault::NetBesideRefusal) { 1 } else { 0 };
+        Counted { refusal, number }
+    };
+    if fault == Some(Fault::ElevenBeforeOne) && short {
+        return refused(11);
+    }
+    if !keeps(book) {
+        return refused(1);
+    }
+    let machine = machine(book);
+    let nets = faults::nets(fault, &machine);
+    let written = faults::lines(fault, net::lines(&nets));
+    if short || lines.len() < written.len() || scratch.len() < nets.len().min(SCRATCH) {
+        if let (Some(Fault::NetScratchRefused), [first, ..]) = (fault, scratch) {
+            *first = !*first;
+        }
+        return refused(11);
+    }
+    scratch.fill(nets.len() as u64);
+    lines[..written.len()].copy_from_slice(&written);
+    if fault == Some(Fault::NetPastItsEnd) {
+        lines[written.len()..LINES].fill(0);
+    }
+    Counted { refusal: 0, number: nets.len() as u32 }
+}
+
+/// The machine that has the book, which keeps its rules.
+fn machine(book: &[u8]) -> Rc<Machine> {
+    MADE.with_borrow_mut(|made| match made {
+        Some((of, machine)) if of == book => machine.clone(),
+        _ => {
+            let machine = Rc::new(mirror::machine(&Book::read(book)).0);
+            *made = Some((book.to_vec(), machine.clone()));
+            machine
+        }
+    })
+}
+
 /// Question 1, as the planted fault asks it.
 fn keeps(book: &[u8]) -> bool {
+    ASKED.with_borrow_mut(|asked| {
+        if asked.1 != FAULT.get() || asked.0 != book {
+            *asked = (book.to_vec(), FAULT.get(), ask(book));
+        }
+        asked.2
+    })
+}
+
+fn ask(book: &[u8]) -> bool {
     let book = match FAULT.get() {
         Some(Fault::TakesLongerBooks) if book.len() > BOOK_BYTES => &book[..BOOK_BYTES],
         _ => book,

@@ -4,11 +4,12 @@
 use model::Machine;
 
 use crate::entries::Entries;
-use crate::{opens, page};
+use crate::{net, opens, page};
 
 type Holds = fn(&Entries, &[u8], Option<&Machine>) -> Result<(), String>;
 
-const VIEWS: [(&str, Holds); 2] = [("page", page::holds), ("open quantity", opens::holds)];
+const VIEWS: [(&str, Holds); 3] =
+    [("page", page::holds), ("open quantity", opens::holds), ("net position", net::holds)];
 
 pub fn hold(entries: &Entries, book: &[u8], machine: Option<&Machine>) -> Result<(), String> {
     let before = book.to_vec();

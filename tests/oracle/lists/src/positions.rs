@@ -1,5 +1,6 @@
 //! Lists about what clients hold: open quantities that move with and without a message, many clients
-//! and few, the largest sums.
+//! and few, the largest sums; nets of each sign, of pairs that share client or symbol, of symbols that
+//! are nearly the same.
 
 use model::events::{self, Filled, Named};
 use model::numbers::MAX_QTY;
@@ -13,7 +14,8 @@ const STATUSES: &[u8] = b"A0126E4C8";
 
 /// All lists of this module.
 pub fn all() -> Vec<List> {
-    [refusals(), vec![replaces(), clients(), largest()]].concat()
+    let nets = vec![signs(), symbols(), pairs(b'1'), pairs(b'5'), one_pair(b'1'), one_pair(b'5')];
+    [refusals(), vec![replaces(), clients(), largest()], nets].concat()
 }
 
 fn list(drafts: &[Draft]) -> List {
@@ -106,4 +108,53 @@ fn largest() -> List {
     let book = |number: u16| order(number % 2 * 0xFFFF, b"S", b'1', &format!("N{number}"), MAX_QTY);
     let report = |number: u16| filled(&format!("N{number}"), b'1', MAX_QTY - u64::from(number), 1);
     list(&(0..64).map(book).chain((0..64).map(report)).collect::<Vec<_>>())
+}
+
+/// A booking and a fill of so much, done or not.
+fn held(client: u16, symbol: &[u8], side: u8, name: &str, qty: u64, status: u8) -> [Draft; 2] {
+    [order(client, symbol, side, name, 100), filled(name, status, qty, qty)]
+}
+
+/// Nets above 0, 0 and below, by sales and by short sales, of done orders and live ones, for two
+/// clients in two symbols.
+fn signs() -> List {
+    let mut drafts = Vec::new();
+    let fills = [(b'1', 30, b'1'), (b'2', 30, b'4'), (b'5', 40, b'1'), (b'1', 50, b'4'), (b'1', 40, b'2')];
+    for (number, (side, qty, status)) in fills.into_iter().enumerate() {
+        for (client, symbol) in [(1, b"S"), (2, b"S"), (1, b"T"), (2, b"T")] {
+            let name = format!("{}{client}{number}", char::from(symbol[0]));
+            let qty = qty + u64::from(client == 2) * number as u64;
+            drafts.extend(held(client, symbol, side, &name, qty, status));
+        }
+    }
+    list(&drafts)
+}
+
+/// Symbols of each length of zeros, alone and behind a letter: each is its own.
+fn symbols() -> List {
+    let zeros = (1..=16).map(|length| vec![0; length]);
+    let behind = (0..16).map(|zeros| [&b"S"[..], &vec![0; zeros]].concat());
+    let symbols: Vec<Vec<u8>> = zeros.chain(behind).collect();
+    let side = |number: usize| *b"125".get(number % 3).expect("a side");
+    let held = symbols.iter().enumerate().flat_map(|(number, symbol)| {
+        held(3, symbol, side(number), &format!("N{number}"), 1 + number as u64, b'1')
+    });
+    list(&held.collect::<Vec<_>>())
+}
+
+/// 64 pairs: eight clients in eight symbols, each filled otherwise.
+fn pairs(side: u8) -> List {
+    let held = (0..64_u16).flat_map(|number| {
+        let symbol = [b'S', b'0' + (number % 8) as u8];
+        held(number / 8 * 257, &symbol, side, &format!("N{number}"), number.into(), b'1')
+    });
+    list(&held.collect::<Vec<_>>())
+}
+
+/// One pair at its largest: 64 orders filled with the most that there is.
+fn one_pair(side: u8) -> List {
+    let name = |number: u16| format!("N{number}");
+    let books = (0..64).map(|number| order(u16::MAX, b"SIXTEEN-LETTERS!", side, &name(number), MAX_QTY));
+    let fills = (0..64).map(|number| filled(&name(number), b'2', MAX_QTY, MAX_QTY));
+    list(&books.chain(fills).collect::<Vec<_>>())
 }

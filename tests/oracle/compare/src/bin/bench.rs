@@ -6,6 +6,7 @@
 use std::hint::black_box;
 
 use compare::entries::{Entries, library};
+use compare::net::{LINES, SCRATCH};
 use gateway::CompactString;
 use gateway::book::{Book, ClientId, Input, OrderRequest, Output};
 use gateway::risk::RiskReject;
@@ -13,7 +14,7 @@ use lists::{Item, List, PROFILES, list};
 use model::Machine;
 use model::answer::latin1;
 use model::codes;
-use model::events::{self, Named};
+use model::events::{self, Filled, Named};
 use model::machine::{BOOK_BYTES, order_request, venue};
 use model::record::*;
 
@@ -26,6 +27,9 @@ const CALLS: usize = 200;
 
 /// Orders and requests of the books by size.
 const SIZES: [(usize, usize); 4] = [(0, 0), (10, 40), (30, 160), (64, 256)];
+
+/// Clients, each with a symbol of its own, that 64 orders are spread over.
+const PAIRS: [u16; 3] = [1, 8, 64];
 
 /// What the Rust's book is asked for one event.
 #[derive(Clone)]
@@ -49,6 +53,7 @@ fn main() {
         bench.by_size(&what, &sized(orders, requests, usual_id));
     }
     bench.by_size("64 orders, 256 requests, ids that collide", &sized(64, 256, colliding_id));
+    PAIRS.into_iter().for_each(|pairs| bench.by_pairs(pairs));
     if bench.entries.is_none() {
         println!("  no library is linked");
     }
@@ -107,21 +112,39 @@ impl Bench {
             (0..CALLS).for_each(|_| assert_eq!(entries.check(black_box(&book)), 0));
         });
         line("the rules alone", &[("Rust's check()", Some(checked)), ("library's check", ported)]);
-        self.views(&book, ported);
+        self.views(&book, named().client, ported);
+    }
+
+    /// The calls that look at a book of 64 orders, of so many clients.
+    fn by_pairs(&self, pairs: u16) {
+        let Some(entries) = &self.entries else { return };
+        println!("  64 orders, 64 requests, {pairs} pairs of client and symbol");
+        let mut book = vec![0; BOOK_BYTES];
+        entries.start(&mut book, 10_000);
+        run_on(entries, &mut book, &spread(pairs));
+        let check = self.ported(|entries| {
+            (0..CALLS).for_each(|_| assert_eq!(entries.check(black_box(&book)), 0));
+        });
+        self.views(&book, pairs, check);
     }
 
     /// The calls that look at a book, beside the library's `check` of it.
-    fn views(&self, book: &[u8], check: Option<f64>) {
+    fn views(&self, book: &[u8], client: u16, check: Option<f64>) {
         let beside = |what: &str, call: &dyn Fn(&Entries)| {
             let time = self.ported(|entries| (0..CALLS).for_each(|_| call(entries)));
             line(what, &[("library's check", check), ("library", time)]);
         };
-        let client = named().client;
         beside("a client's open quantity", &|entries| {
             assert_eq!(black_box(entries.open_quantity(black_box(book), client)).refusal, 0);
         });
         beside("of a client without orders", &|entries| {
             assert_eq!(black_box(entries.open_quantity(black_box(book), client + 1)).quantity, 0);
+        });
+        beside("the net position", &|entries| {
+            let (mut scratch, mut lines) = ([0; SCRATCH], [0; LINES]);
+            let given = entries.net_position(black_box(book), &mut scratch, &mut lines);
+            assert_eq!(black_box(given).refusal, 0);
+            black_box(&lines);
         });
     }
 
@@ -259,6 +282,20 @@ fn sized(orders: usize, requests: usize, id: fn(usize) -> Vec<u8>) -> List {
         items.push(item(events::cancel_reject(1, &downstream, None, Some(0))));
     }
     List { setting: 10_000, items }
+}
+
+/// Sixty-four bookings, and a fill each, of so many clients; the last client's number is theirs.
+fn spread(pairs: u16) -> Vec<Item> {
+    let mut items = Vec::new();
+    for order in 0..64 {
+        let client = order % pairs + 1;
+        let named = Named { client, symbol: format!("ES{client:02}Z6").into_bytes(), side: b'1' };
+        let name = format!("0A1B2C{order}").into_bytes();
+        let filled = Filled { last_qty: 5, last_px: 10, cum_qty: 5, avg_px: 10 };
+        items.push(item(events::book(1, &named, &name, &usual_id(order.into()), 1_000_000, Some(10))));
+        items.push(item(events::report(1, &name, b'F', Some(b'1'), filled)));
+    }
+    items
 }
 
 /// The Rust's book after the list.

@@ -3,7 +3,7 @@
 //! from books that were built field by field; `compare --faults [LISTS]` plants each fault in the
 //! stand-in and demands that the lists find it.
 
-use std::ops::Range;
+use std::ops::{Range, RangeInclusive};
 use std::process::ExitCode;
 
 use compare::comparison::{Built, Mismatch, Probing, compare, compare_built, explain, explain_built};
@@ -98,22 +98,25 @@ fn find_faults(lists: u64) -> ExitCode {
     let mut missed = 0;
     for fault in Fault::COMPARED {
         plant(Some(fault));
-        let quotients = || {
-            let mut lists = exhaustive::every_quotient().into_iter();
-            lists.find_map(|list| compare(&STAND_IN, &list, PROBING, None).err())
+        // A profile each, then the lists about positions and quotients, then more.
+        let drawn = |seeds: RangeInclusive<u64>| {
+            seeds.map(|seed| {
+                (format!("seed {seed}"), list(&PROFILES[seed as usize % PROFILES.len()], seed, 400))
+            })
         };
-        let by_seed = (1..=lists).find_map(|seed| {
-            let mut tally = Tally::default();
-            let (_, found) = compare_seed(&STAND_IN, seed, 400, PROBING, &mut tally).err()?;
-            Some((format!("at seed {seed}"), found))
+        let about = positions::all().into_iter().map(|list| ("a list about positions".into(), list));
+        let halves = exhaustive::every_quotient().into_iter().map(|list| ("a list of quotients".into(), list));
+        let mut tried = drawn(1..=10).chain(about).chain(halves).chain(drawn(11..=lists));
+        let found = tried.find_map(|(origin, list)| {
+            compare(&STAND_IN, &list, PROBING, None).err().map(|mismatch| (origin, mismatch))
         });
-        match by_seed.or_else(|| Some(("in a list of quotients".into(), quotients()?))) {
-            Some((place, mismatch)) => {
+        match found {
+            Some((origin, mismatch)) => {
                 let what: Vec<&str> = mismatch.what.lines().take(2).map(str::trim).collect();
-                println!("  {fault:?}: found {place}, event {}: {}", mismatch.at + 1, what.join(" "));
+                println!("  {fault:?}: found in {origin}, event {}: {}", mismatch.at + 1, what.join(" "));
             }
             None => {
-                println!("{fault:?} NOT FOUND in {lists} lists");
+                println!("{fault:?} NOT FOUND in {lists} lists and those about positions");
                 missed += 1;
             }
         }

@@ -112,6 +112,7 @@ impl<'a> User<'a> {
                 (entries.event)(null, 0, null, 0, null, 0),
                 (entries.page)(null, 0, null, 0).refusal,
                 (entries.open_quantity)(null, 0, 1).refusal,
+                (entries.net_position)(null, 0, std::ptr::null_mut(), 0, null, 0).refusal,
             ]
         };
         let mut book = self.full.clone();
@@ -121,9 +122,13 @@ impl<'a> User<'a> {
         let (start, length) = (answer.as_mut_ptr(), answer.len());
         // SAFETY: a whole book and an answer buffer are lent.
         let no_record = unsafe { (entries.event)(book.as_mut_ptr(), book.len(), null, 0, start, length) };
-        self.calls += 7;
-        match (given, on_book, no_record) {
-            ([1, 1, 1, 1, 1], 2, 3) => Ok(()),
+        self.calls += 9;
+        // SAFETY: a whole book is lent, and nothing else.
+        let netted = unsafe {
+            (entries.net_position)(book.as_ptr(), book.len(), std::ptr::null_mut(), 0, null, 0).refusal
+        };
+        match (given, on_book, no_record, netted) {
+            ([1, 1, 1, 1, 1, 1], 2, 3, 11) => Ok(()),
             given => Err(format!("on slices of no length: {given:?}")),
         }
     }
