@@ -1,16 +1,19 @@
--- Laws of division rounded to the nearest: how each quotient rounds, then what holds whatever the rule for a half is. The first two and `half-up` open that
--- rule, the rest cite them. Rests on Wide and prelude's Cases.
+-- Laws of division rounded to the nearest: how each quotient rounds, what holds whatever the rule for a half is, and that the two divisions agree. The first
+-- two and `half-up` open that rule, the rest cite them. Rests on Wide, Words and prelude's Cases.
 use Prim.Native.Nat.{ℕ, _+_, _*_, _/_, _%_, _^_, _≤_, _<_}
 use mathlib.Core.Path.{_≡_, refl, sym, ap, _∙_}
 use mathlib.Core.Logic.{_⊎_, inl, inr, ⊎-elim}
 use native.Mathlib.Decide.{decLt}
-use native.Mathlib.Nat.{add-mul, zero-mul, one-mul, mod-lt, div-add-mod', le-mul-of-pos-right, lt-of-mul-lt-mul-right}
+use native.Mathlib.Nat.{lt-of-le-of-lt, add-mul, zero-mul, one-mul, mod-lt, div-add-mod', le-mul-of-pos-right, lt-of-mul-lt-mul-right}
 use native.Mathlib.Omega.{arith}
 use lib.Arith.{digits-div, digits-mod}
 use lib.Dec.{ltb, eqb}
 use borrow.Author.Tests.{ltb-true, ltb-false, eqb-true, ne-eqb, eq-eqb, le-ltb, lt-ltb}
 use Rattle.prelude.specs.Cases.{if_then_else_, split-if, if-false}
-use Rattle.wide.specs.Wide.{atHalf, up, nearest}
+use mathlib.Core.List.{List, [], _∷_}
+use lib.ListN.{getD}
+use Rattle.wide.specs.Wide.{value, words, atHalf, up, nearest}
+use Rattle.wide.specs.Words.{one-word}
 
 -- ---- the rule for a half: it adds 0 or 1, and goes by the lower word
 
@@ -137,3 +140,11 @@ nearest-le n d = by (decLt 0 d)
     by : Dec (0 < d) → nearest n d ≤ n
     by (yes pos) = some pos
     by (no z) = let e : d ≡ 0 = omega arith in omega (arith, ap (nearest n) e ∙ nearest-none n)
+
+-- ---- the two divisions
+
+-- where the high word is 0, what the single word gives and a high word of 0 are the words that the two-word division gives: for every divisor, 0 too
+pub plain-long : (n : List ℕ) (d : ℕ) → getD n 0 0 < 2 ^ 64 → getD n 1 0 ≡ 0 → nearest (getD n 0 0) d ∷ (0 ∷ []) ≡ words (nearest (value n) d)
+plain-long n d fits none =
+    let e : getD n 0 0 ≡ value n = omega arith in
+    one-word (nearest (getD n 0 0) d) (lt-of-le-of-lt (nearest-le (getD n 0 0) d) fits) ∙ ap (λ (x : ℕ). words (nearest x d)) e

@@ -61,22 +61,24 @@ pub fn minus(a: [u64; 2], b: [u64; 2]) -> [u64; 2]
     [u64::MAX - b[0] + 1 + a[0], a[1] - b[1] - 1]
 }
 
-// What rounding adds to a quotient, 0 or 1, where `rest` is left of the division by `d`.
+// What rounding adds to a quotient, 0 or 1, where `rest` is left of the division by `d`: the rest is
+// compared with what lacks to `d`, as its double may pass a word.
 fn round(quotient: u64, rest: u64, d: u64) -> u64
     requires { ⌜ rest < d ⌝ }
     ensures { λ r. ⌜ r ≡ up quotient rest d ⌝ }
 {
-    if d - rest < rest {
+    let back = d - rest;
+    if back < rest {
         return 1;
     }
-    if rest == d - rest {
+    if rest == back {
         return 1; // a half goes up
     }
     0
 }
 
 // `n / d` rounded to the nearest, and 0 where `d` is 0: long division, a word at a time.
-pub fn quotient(n: [u64; 2], d: u64) -> [u64; 2]
+pub fn long(n: [u64; 2], d: u64) -> [u64; 2]
     ensures { λ r. ⌜ r ≡ words (nearest (value n) d) ⌝ }
 {
     if d == 0 {
@@ -92,6 +94,28 @@ pub fn quotient(n: [u64; 2], d: u64) -> [u64; 2]
         return [low.quotient + 1, high];
     }
     [0, high + 1]
+}
+
+// The same of a single word, by the machine's own division.
+pub fn plain(n: u64, d: u64) -> u64
+    ensures { λ r. ⌜ r ≡ nearest n d ⌝ }
+{
+    if d == 0 {
+        return 0;
+    }
+    let whole = n / d;
+    whole + round(whole, n % d, d)
+}
+
+// The same of two words: by the single word where that is all of it. There `long` gives the same
+// words for every `d`, 0 too: `plain-long` in specs/Rounding.antt.
+pub fn quotient(n: [u64; 2], d: u64) -> [u64; 2]
+    ensures { λ r. ⌜ r ≡ words (nearest (value n) d) ⌝ }
+{
+    if n[1] == 0 {
+        return [plain(n[0], d), 0];
+    }
+    long(n, d)
 }
 
 // A tenth, truncated, and the digit that it leaves.

@@ -25,4 +25,4 @@ returns-3 c =
     rw (le-ltb (a .d) (2 * a .rest) (omega arith), ne-eqb (2 * a .rest) (a .d) (λ e. c .if2 .left (omega arith)))
 
 pub round-spec : {M : Type 1} → statement M
-round-spec = tie.close (tie.spec (λ c. search needs) returns (λ c. search needs) returns-2 returns-3)
+round-spec = tie.close (tie.spec (λ c. search needs) returns returns-2 returns-3)

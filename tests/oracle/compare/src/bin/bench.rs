@@ -12,10 +12,11 @@ use gateway::book::{Book, ClientId, Input, OrderRequest, Output};
 use gateway::risk::RiskReject;
 use lists::{Item, List, PROFILES, list};
 use model::Machine;
-use model::answer::latin1;
+use model::answer::{latin1, messages};
 use model::codes;
 use model::events::{self, Filled, Named};
 use model::machine::{BOOK_BYTES, order_request, venue};
+use model::numbers::Source;
 use model::record::*;
 
 const LISTS: u64 = 20;
@@ -67,6 +68,8 @@ impl Bench {
         let events: usize = lists.iter().map(|list| list.items.len()).sum();
         let rounds = self.rounds;
         println!("bench: {LISTS} realistic lists, {events} events that are taken, best of {rounds} rounds");
+        let (asked, one_word) = divisions(&lists);
+        println!("  the divisions for prices: {asked}, in {one_word} the high word is 0");
         let timed = |check: bool| {
             let round = |calls: Vec<Vec<Call>>| calls.into_iter().for_each(|calls| rust(calls, check));
             self.best(events, || calls.clone(), round)
@@ -181,6 +184,25 @@ fn taken(list: &List) -> List {
     let mut machine = Machine::start(list.setting);
     let items = list.items.iter().filter(|item| machine.event(&item.record, item.answer_buffer).is_ok());
     List { setting: list.setting, items: items.cloned().collect() }
+}
+
+/// How many divisions the prices of the reports took, and of how many the dividend is one word.
+fn divisions(lists: &[List]) -> (usize, usize) {
+    let (mut asked, mut one_word) = (0, 0);
+    for list in lists {
+        let mut machine = Machine::start(list.setting);
+        for item in &list.items {
+            let read = Record::read_event(&item.record).expect("a taken event");
+            let fill = machine.fill(&read).filter(|fill| fill.source() != Source::LastPx);
+            let answer = machine.event(&item.record, item.answer_buffer).expect("a taken event");
+            let told = messages(&answer).iter().any(|message| message.kind == REPORT_MESSAGE);
+            if let Some(fill) = fill.filter(|_| told) {
+                asked += 1;
+                one_word += usize::from(fill.paid() >> 64 == 0);
+            }
+        }
+    }
+    (asked, one_word)
 }
 
 fn calls(list: &List) -> Vec<Call> {
