@@ -20,7 +20,7 @@ extern "C" {
 #define JUBAFIYE_PAGE_BYTES 5184 /* what the page of any book has at most: 64 lines */
 #define JUBAFIYE_NET_LINE 27
 #define JUBAFIYE_NET_BYTES 1728 /* what the lines of the net position need, whatever the book: 64 */
-#define JUBAFIYE_NET_SCRATCH 64 /* the numbers that its scratch needs */
+#define JUBAFIYE_NET_SCRATCH 1  /* the numbers that its scratch needs */
 
 /* Makes an empty book. setting: the most ClOrdIDs that a client may use, the reserve included.
  * 0, or 1 where the book has another length. */

@@ -19,7 +19,7 @@ pub(crate) const PAGE_LINE: usize = 81;
 /// A line of the net position, the lines of any book, and the numbers that the scratch must have at least.
 pub(crate) const NET_LINE: usize = 27;
 pub(crate) const NET_LINES: usize = NET_LINE * ORDERS;
-pub(crate) const NET_NUMBERS: usize = 64;
+pub(crate) const NET_NUMBERS: usize = 1;
 
 /// A book's bytes: the type holds their number.
 pub(crate) type BookBytes = [u8; BOOK_BYTES];

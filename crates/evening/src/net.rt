@@ -4,8 +4,8 @@ ghost use mathlib.Core.Path.{_≡_};
 ghost use Prim.Native.Nat.{_≤_};
 ghost use lib.ListN.{length};
 
-// What the call is lent: the numbers of its scratch, and 64 lines of 27 bytes.
-const SCRATCH: usize = 64;
+// What the call is lent: the one number of its scratch, and 64 lines of 27 bytes.
+const SCRATCH: usize = 1;
 
 const LINES: usize = 1728;
 

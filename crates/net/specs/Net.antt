@@ -135,7 +135,7 @@ noPosition = record { client = 0; symbol = textOf []; net = nothing }
 
 -- the numbers that the lent scratch must have at least, and the bytes that the lent lines must have: 64 lines
 abbrev pub leastScratch : ℕ
-leastScratch = 64
+leastScratch = 1
 
 abbrev pub leastLines : ℕ
 leastLines = 1728

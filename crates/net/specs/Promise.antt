@@ -63,8 +63,8 @@ pub record IsWritten (book lines : List ℕ) (r : Written) : Type 0 where
 -- book empty: nothing is written. What is exactly long enough is taken.
 pub record IsCall (book : List ℕ) (scratch : ℕ) (lines : List ℕ) : Type 0 where
   pub bad : keepsOf book ≡ false → netCall book scratch lines ≡ written (refusing 1) lines
-  pub short : keepsOf book ≡ true → ((scratch < 64) ⊎ (length lines < 64 * 27)) → netCall book scratch lines ≡ written (refusing 11) lines
-  pub enough : keepsOf book ≡ true → 64 ≤ scratch → 64 * 27 ≤ length lines → IsWritten book lines (netCall book scratch lines)
+  pub short : keepsOf book ≡ true → ((scratch < 1) ⊎ (length lines < 64 * 27)) → netCall book scratch lines ≡ written (refusing 11) lines
+  pub enough : keepsOf book ≡ true → 1 ≤ scratch → 64 * 27 ≤ length lines → IsWritten book lines (netCall book scratch lines)
 
 abbrev pub SoundCall : Type 0
 SoundCall = (book : List ℕ) (scratch : ℕ) (lines : List ℕ) → IsCall book scratch lines

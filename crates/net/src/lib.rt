@@ -25,7 +25,7 @@ pub struct Amounts {
 const LINE: usize = 27;
 
 // What is lent at least: numbers of scratch, and bytes of lines.
-const LEAST_SCRATCH: usize = 64;
+const LEAST_SCRATCH: usize = 1;
 
 const LEAST_LINES: usize = 1728;
 

@@ -19,7 +19,7 @@ pub const LINE: usize = 27;
 
 /// What must be lent at least: bytes for lines, and numbers for scratch.
 pub const LINES: usize = MOST_ORDERS * LINE;
-pub const SCRATCH: usize = 64;
+pub const SCRATCH: usize = 1;
 
 /// Bytes and numbers before and behind what is lent.
 const GUARD: usize = 96;
@@ -123,7 +123,7 @@ fn show((client, symbol): &Pair) -> String {
 /// is given since the bytes are no book that keeps its rules.
 pub fn holds(entries: &Entries, book: &[u8], machine: Option<&Machine>) -> Result<(), String> {
     let short = [(SCRATCH - 1, LINES), (SCRATCH, LINES - 1), (0, LINES), (SCRATCH, 0), (0, 0)];
-    let enough = [(SCRATCH, LINES), (SCRATCH + 1, LINES + 1), (3 * SCRATCH, LINES), (SCRATCH, 2 * LINES + 5)];
+    let enough = [(SCRATCH, LINES), (SCRATCH + 1, LINES + 1), (64, LINES), (SCRATCH, 2 * LINES + 5)];
     let Some(machine) = machine else {
         return short.into_iter().chain(enough).try_for_each(|lent| call(entries, book, lent, Err(1)));
     };
