@@ -105,7 +105,8 @@ fn find_faults(lists: u64) -> ExitCode {
             })
         };
         let about = positions::all().into_iter().map(|list| ("a list about positions".into(), list));
-        let halves = exhaustive::every_quotient().into_iter().map(|list| ("a list of quotients".into(), list));
+        let halves =
+            exhaustive::every_quotient().into_iter().map(|list| ("a list of quotients".into(), list));
         let mut tried = drawn(1..=10).chain(about).chain(halves).chain(drawn(11..=lists));
         let found = tried.find_map(|(origin, list)| {
             compare(&STAND_IN, &list, PROBING, None).err().map(|mismatch| (origin, mismatch))
