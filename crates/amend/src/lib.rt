@@ -194,8 +194,8 @@ fn cancel_goes(f: Findings, o: Order, e: Record) -> Change
     change::telling(m, number(f, kinds::CANCEL, o, e, order))
 }
 
-// `amendable` stands in `cancel` and in `replace`: a function of its own would hand a change back by
-// value where it goes on, and copying one costs more than the rest of an amendment.
+// `amendable` stands in `cancel` and in `replace`: a function of its own would make a change and hand
+// it back by value where it goes on.
 pub fn cancel(f: Findings, order: u16, full: bool, o: Order, e: Record) -> Change
     ensures { λ r. ⌜ r ≡ cancel f order full o e ⌝ }
 {
