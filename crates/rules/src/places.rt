@@ -66,13 +66,9 @@ fn zeros(s: &[u8], at: usize) -> bool
     requires { ⌜ at + 16 ≤ length (now s) ⌝ }
     ensures { λ r. ⌜ r ≡ allBelow (zeroAt (now (s .entry)) at) 16 ⌝ }
 {
-    let mut acc: u8 = 0;
-    let mut k: usize = 0;
-    while k < 16 {
-        acc = acc | s[at + k];
-        k += 1;
-    }
-    acc == 0
+    let v = get64(s, at);
+    let w = get64(s, at + 8);
+    (v == 0) & (w == 0)
 }
 
 // Whether a text as it is stored stands at an index: zeros after it, up to 16 bytes by two parts

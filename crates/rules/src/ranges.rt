@@ -35,14 +35,14 @@ fn is_alnum(c: u8) -> bool
     ((b'0' <= c) & (c <= b'9')) | (((b'A' <= c) & (c <= b'Z')) | ((b'a' <= c) & (c <= b'z')))
 }
 
-// Letters and digits: always 20 steps, so that they are taken many at a time.
+// Letters and digits: always 32 steps, so that they are taken 16 at a time.
 fn letters(book: &[u8], at: usize, len: u8) -> bool
     requires { ⌜ (at + 33 ≤ length (now book)) × (len ≤ 20) ⌝ }
     ensures { λ r. ⌜ r ≡ allBelow (alnumAt (textAt (now (book .entry)) at)) len ⌝ }
 {
     let mut ok = true;
     let mut k: u8 = 0;
-    while k < 20 {
+    while k < 32 {
         let plain = is_alnum(book[at + (k as usize)]);
         ok = ok & ((len <= k) | plain);
         k += 1;

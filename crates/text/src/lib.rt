@@ -1,9 +1,11 @@
-// Texts: the empty one, comparison, range, and numbered names. Rests on prelude. Every public
-// function is total: an index past the end of a slice has a stated answer.
+// Texts: the empty one, comparison, range, and numbered names. Rests on prelude and words. Every
+// public function is total: an index past the end of a slice has a stated answer.
 ghost use mathlib.Core.Path.{_≡_};
 ghost use Prim.Native.Nat.{_+_, _≤_};
+ghost use lib.Dec.{eqb};
 ghost use lib.ListN.{length};
 ghost use Rattle.prelude.specs.Below.{allBelow};
+ghost use Rattle.prelude.specs.Number.{word64};
 ghost use Rattle.prelude.specs.Texts.{textAt, agreeAt, sameText, isText, contents, textOf};
 ghost use Rattle.text.specs.Words.{noText, textIs, textFine, pushText, pushAll};
 ghost use Rattle.text.specs.Numbered.{decimal, numberedText};
@@ -44,31 +46,27 @@ pub fn same_text(a: Text, b: Text) -> bool
     same_bytes(x, y)
 }
 
-// Its length is looked at first, then its last byte, then all.
+// Whether a word stands in s at x and in b at y.
+fn same_word(s: &[u8], x: usize, b: &[u8], y: usize) -> bool
+    requires { ⌜ (x + 8 ≤ length (now s)) × (y + 8 ≤ length (now b)) ⌝ }
+    ensures { λ r. ⌜ r ≡ eqb (word64 (now (s .entry)) x) (word64 (now (b .entry)) y) ⌝ }
+{
+    let v = words::get64(&s[x..x + 8]);
+    let w = words::get64(&b[y..y + 8]);
+    v == w
+}
+
+// Its length and its four words: short enough to be compiled into the loop of a lookup.
 fn same_here(s: &[u8], at: usize, t: Text) -> bool
     requires { ⌜ at + 33 ≤ length (now s) ⌝ }
     ensures { λ r. ⌜ r ≡ sameText (textAt (now (s .entry)) at) t ⌝ }
 {
-    if s[at + 32] != t.len {
-        return false;
-    }
     let b = t.bytes;
-    let k = t.len as usize;
-    if 0 < k {
-        if k <= 32 {
-            if s[at + (k - 1)] != b[k - 1] {
-                return false;
-            }
-        }
-    }
-    let mut i: usize = 0;
-    while i < 32 {
-        if s[at + i] != b[i] {
-            return false;
-        }
-        i += 1;
-    }
-    true
+    let w0 = same_word(s, at, &b, 0);
+    let w1 = same_word(s, at + 8, &b, 8);
+    let w2 = same_word(s, at + 16, &b, 16);
+    let w3 = same_word(s, at + 24, &b, 24);
+    (s[at + 32] == t.len) & (w0 & w1 & w2 & w3)
 }
 
 // Whether the text at an index is t; false where the slice ends before it.

@@ -50,8 +50,8 @@ pub fn get32(s: &[u8]) -> u32
     (b0 + 256 * (b1 + 256 * (b2 + 256 * b3))) as u32
 }
 
-// The number of the first 8 bytes.
-pub fn get64(s: &[u8]) -> u64
+// The number of the first 8 bytes, some of which may be behind the end.
+fn short64(s: &[u8]) -> u64
     ensures { λ r. ⌜ r ≡ word64 (now (s .entry)) 0 ⌝ }
 {
     let b0 = byte(s, 0);
@@ -63,6 +63,32 @@ pub fn get64(s: &[u8]) -> u64
     let b6 = byte(s, 6);
     let b7 = byte(s, 7);
     b0 + 256 * (b1 + 256 * (b2 + 256 * (b3 + 256 * (b4 + 256 * (b5 + 256 * (b6 + 256 * b7))))))
+}
+
+// The number of the first 8 bytes. Where all are there they are added up in one sum, which becomes one
+// load.
+pub fn get64(s: &[u8]) -> u64
+    ensures { λ r. ⌜ r ≡ word64 (now (s .entry)) 0 ⌝ }
+{
+    if s.len() < 8 {
+        return short64(s);
+    }
+    let b0 = wide(s[0]);
+    let b1 = wide(s[1]);
+    let b2 = wide(s[2]);
+    let b3 = wide(s[3]);
+    let b4 = wide(s[4]);
+    let b5 = wide(s[5]);
+    let b6 = wide(s[6]);
+    let b7 = wide(s[7]);
+    b0
+        + 256 * b1
+        + 65536 * b2
+        + 16777216 * b3
+        + 4294967296 * b4
+        + 1099511627776 * b5
+        + 281474976710656 * b6
+        + 72057594037927936 * b7
 }
 
 // The number of two bytes, the low one first, as programs read a length.

@@ -19,11 +19,12 @@ use Rattle.prelude.specs.Texts.{textAt, sameText, same-text, same-self, isText,
 use Rattle.prelude.specs.Bytes.{bytes-span}
 use Rattle.prelude.specs.declared.Text.{Text}
 use Rattle.text.specs.Numbered.{decimal, numberedText}
+use Rattle.text.specs.Laws.ByWords.{word-span}
 use Rattle.text.specs.Laws.Numbered.{decimal-digit, decimal-more}
 use Rattle.text.specs.Laws.Names.{Fits, numbered-fits, numbered-is-text, numbered-long, numbered-contents, numbered-len}
 use Rattle.format.specs.Codes.{isName, isNone, alnumAt}
 use Rattle.machine.specs.Ranges.{nameRange}
-use Rattle.rules.specs.Laws.Places.{zero-behind, word-span}
+use Rattle.rules.specs.Laws.Places.{zero-behind}
 
 -- the dash and the digits of k, as a word and how many they are
 pub record IsSuffix (k word len : ℕ) : Type 0 where
@@ -95,7 +96,7 @@ module _ (s : List ℕ) (bytes : Bytes s) (x y : ℕ) where
       let v : b + (p - m) ≡ y + p = omega arith in
       let g : getD s (a + (p - m)) 0 ≡ getD s (b + (p - m)) 0 =
       sym (get-span s a 8 (p - m) (omega arith))
-      ∙ ap (λ (w : List ℕ). getD w (p - m) 0) (word-span s bytes a b ha hb e)
+      ∙ ap (λ (w : List ℕ). getD w (p - m) 0) (word-span s s a b bytes bytes ha hb e)
       ∙ get-span s b 8 (p - m) (omega arith) in
       eq-eqb _ _ (ap (λ (n : ℕ). getD s n 0) (sym u) ∙ g ∙ ap (λ (n : ℕ). getD s n 0) v)
 

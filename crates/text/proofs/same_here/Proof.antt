@@ -1,65 +1,71 @@
--- `same_here` meets its contract: the bytes below i agree; a byte that differs settles it. Rests on InPlace.
-use mathlib.Core.Path.{_≡_, sym}
-use mathlib.Core.Bool.{true}
-use Prim.Native.Nat.{_≤_, _-_}
-use borrow.Author.Tests.{eq-eqb, ne-eqb}
-use Rattle.prelude.specs.Below.{allBelow, all-none, all-more, all-done}
-use Rattle.prelude.specs.Span.{span, get-span}
-use Rattle.prelude.specs.Texts.{agreeAt, sameText}
-use Rattle.text.specs.Laws.InPlace.{text-differs, text-agrees}
+-- `same_here` meets its contract: the length and the four words. Rests on ByWords.
+use native.Mathlib.Omega.{arith}
+use mathlib.Core.Path.{_≡_}
+use Prim.Native.Nat.{ℕ}
+use mir.Syntax.{w8}
+use mir.Val.{Fits}
+use lib.ListN.{length, getD}
+use Rattle.text.specs.Laws.ByWords.{same-words}
 use borrow.Author.Needs.{needs}
 use Rattle.text.proofs.same_here.Statement.{statement}
 use Rattle.text.proofs.same_here.Tie as tie
 
-abbrev Inv-loop : tie.InvT-loop
-Inv-loop s at b k i₀ i = (i ≤ 32) × (allBelow (agreeAt (span s at 32) b) i ≡ true)
+long : (s : tie.Start) → length (s .args .t .bytes) ≡ 32
+long s = search needs
 
-abbrev μ-loop : tie.MeasureT-loop
-μ-loop s at b k i₀ i = 32 - i
+each : (s : tie.Start) (n : ℕ) → Fits w8 (getD (s .args .t .bytes) n 0)
+each s n = search needs
 
-returns : tie.Need-returns Inv-loop μ-loop
-unfolding sameText
-returns c = rw (ne-eqb _ _ (c .if1 .taken))
+lent : tie.Need-slice-aggregate-same-word
+lent c = search needs
 
-returns-2 : tie.Need-returns-2 Inv-loop μ-loop
-returns-2 c = let a = c .before .before .before .before .before .before .before .before .before .args in
-    sym (text-differs (a .s .now) (a .at) (a .t) _ (search needs) (c .if4 .taken))
+lent-2 : tie.Need-slice-aggregate-same-word-2
+lent-2 c = search needs
 
-returns-3 : tie.Need-returns-3 Inv-loop μ-loop
-returns-3 c = let a = c .before .before .before .before .before .before .before .before .before .before .args in
-    sym (text-differs (a .s .now) (a .at) (a .t) (c .before .before .before .loop .i) (search needs) (c .if5 .taken))
+lent-3 : tie.Need-slice-aggregate-same-word-3
+lent-3 c = search needs
 
-loop-again : tie.Need-loop-again Inv-loop μ-loop
-loop-again c = let l = c .before .before .before .loop in
-    (search needs, all-more _ _ (l .inv .1) (rw (get-span _ _ 32 (l .i) (search needs)) (eq-eqb _ _ (c .if5 .left))))
+lent-4 : tie.Need-slice-aggregate-same-word-4
+lent-4 c = search needs
 
-returns-4 : tie.Need-returns-4 Inv-loop μ-loop
-returns-4 c = let a = c .before .before .before .before .before .before .before .before .args in
-    let t = c .before .before .before .before .before .if1 .left in
-    sym (text-agrees (a .s .now) (a .at) (a .t) t (all-done _ 32 _ (c .before .loop .inv .1) (search needs) (search needs)))
+same-word-requires : tie.Need-same-word-requires
+same-word-requires c κs = (search needs, omega (arith, lent c))
+
+same-word-requires-2 : tie.Need-same-word-requires-2
+same-word-requires-2 c κs = (search needs, omega (arith, lent-2 c))
+
+same-word-requires-3 : tie.Need-same-word-requires-3
+same-word-requires-3 c κs = (search needs, omega (arith, lent-3 c))
+
+same-word-requires-4 : tie.Need-same-word-requires-4
+same-word-requires-4 c κs = (search needs, omega (arith, lent-4 c))
+
+returns : tie.Need-returns
+returns c =
+    let w4 = c .before .before in
+    let w3 = w4 .before .before in
+    let w2 = w3 .before .before in
+    let w1 = w2 .before .before in
+    let k = w1 .before .before .before in
+    let a = k .before .args in
+    rw (w4 .same-word4 .ensures, w3 .same-word3 .ensures, w2 .same-word2 .ensures, w1 .same-word .ensures)
+    (same-words (a .s .now) (a .at) (a .t) (λ n. k .shared-slice-known .given n .fits) (k .before .pre) (long (k .before)) (λ n. each (k .before) n .fits))
 
 pub same-here-spec : {M : Type 1} → statement M
 same-here-spec =
     tie.close
     (tie.spec
-    Inv-loop
-    μ-loop
+    lent
+    same-word-requires
+    (λ c. search needs)
+    lent-2
+    same-word-requires-2
+    (λ c. search needs)
+    lent-3
+    same-word-requires-3
+    (λ c. search needs)
+    lent-4
+    same-word-requires-4
     (λ c. search needs)
     (λ c. search needs)
-    returns
-    (λ c. search needs)
-    (λ c. search needs)
-    (λ c. search needs)
-    (λ c. search needs)
-    (λ c. search needs)
-    (λ c. search needs)
-    returns-2
-    (λ c. (search needs, all-none _))
-    (λ c. search needs)
-    (λ c. search needs)
-    (λ c. search needs)
-    returns-3
-    (λ c. search needs)
-    (λ c. search needs)
-    loop-again
-    returns-4)
+    returns)

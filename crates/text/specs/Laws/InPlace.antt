@@ -1,32 +1,17 @@
--- Comparison and range of a text, byte by byte: what loops over its bytes show. Rests on Words.
+-- Comparison and range of a text in place, and its range byte by byte: what loops over its bytes show. Rests on Words.
 use mathlib.Core.Path.{_≡_, refl, sym, ap, _∙_}
 use mathlib.Core.Bool.{Bool, true, false, _&&_}
 use mathlib.Core.List.{List}
-use Prim.Native.Nat.{ℕ, _+_, _<_, _≤_}
+use Prim.Native.Nat.{ℕ, _+_, _≤_}
 use native.Mathlib.Omega.{arith}
 use borrow.Author.Tests.{eqb-true, eqb-false, eq-eqb, ne-eqb, lt-ltb, le-ltb, le-leb}
 use lib.Bits.{bitOr, or-add-and, and-le-l, and-le-r}
 use lib.Dec.{eqb}
 use lib.ListN.{length, getD}
-use Rattle.prelude.specs.Below.{allBelow, all-miss, all-intro, all-step}
-use Rattle.prelude.specs.Cases.{both-false}
-use Rattle.prelude.specs.Span.{span, get-span}
-use Rattle.prelude.specs.Texts.{textAt, agreeAt, sameText, filledAt, isText}
+use Rattle.prelude.specs.Below.{allBelow, all-intro, all-step}
+use Rattle.prelude.specs.Texts.{textAt, sameText, filledAt, isText}
 use Rattle.prelude.specs.declared.Text.{Text}
 use Rattle.text.specs.Words.{textIs, textFine}
-
--- a byte that differs, and none that does
-module _ (s : List ℕ) (at : ℕ) (t : Text) where
-  pub text-differs : (k : ℕ) → k < 32 → (getD s (at + k) 0 ≡ getD (t .bytes) k 0 → ⊥) → sameText (textAt s at) t ≡ false
-  unfolding sameText
-  text-differs k h d =
-      ap (λ (b : Bool). eqb (getD s (at + 32) 0) (t .len) && b)
-      (all-miss (agreeAt (span s at 32) (t .bytes)) 32 k h (rw (get-span s at 32 k h) (ne-eqb _ _ d)))
-      ∙ both-false (eqb (getD s (at + 32) 0) (t .len))
-
-  pub text-agrees : getD s (at + 32) 0 ≡ t .len → allBelow (agreeAt (span s at 32) (t .bytes)) 32 ≡ true → sameText (textAt s at) t ≡ true
-  unfolding sameText
-  text-agrees e a = rw (eq-eqb _ _ e) a
 
 -- where the slice goes on far enough, the text in place is the text
 pub text-is-here : (s : List ℕ) (at : ℕ) (t : Text) → at + 33 ≤ length s → textIs s at t ≡ sameText (textAt s at) t

@@ -11,10 +11,10 @@ use Rattle.rules.proofs.ranges.letters.Statement.{statement}
 use Rattle.rules.proofs.ranges.letters.Tie as tie
 
 abbrev Inv-loop : tie.InvT-loop
-Inv-loop book at len ok₀ k₀ ok k = (k ≤ 20) × (ok ≡ allBelow (until len (alnumAt (textAt book at))) k)
+Inv-loop book at len ok₀ k₀ ok k = (k ≤ 32) × (ok ≡ allBelow (until len (alnumAt (textAt book at))) k)
 
 abbrev μ-loop : tie.MeasureT-loop
-μ-loop book at len ok₀ k₀ ok k = 20 - k
+μ-loop book at len ok₀ k₀ ok k = 32 - k
 
 loop-holds : tie.Need-loop-holds Inv-loop μ-loop
 loop-holds c = (search needs, sym (all-none _))
@@ -36,8 +36,8 @@ returns c = let l = c .before .loop in
     let s = c .before .before .before in
     let a = s .args in
     let p = alnumAt (textAt (a .book .now) (a .at)) in
-    let e : l .k ≡ 20 = omega arith in
-    l .inv .1 ∙ ap (allBelow (until (a .len) p)) e ∙ all-until (a .len) p 20 (s .pre .1)
+    let e : l .k ≡ 32 = omega arith in
+    l .inv .1 ∙ ap (allBelow (until (a .len) p)) e ∙ all-until (a .len) p 32 (omega (arith, s .pre .1))
 
 pub letters-spec : {M : Type 1} → statement M
 letters-spec =
