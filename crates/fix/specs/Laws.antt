@@ -1,14 +1,3 @@
-pub mod ReadingPieces
-pub mod ReadingSplit
-pub mod ReadingRows
-pub mod ReadingFits
-pub mod ReadingChecks
-pub mod ReadingWhole
-pub mod ReadingNumbers
-pub mod ReadingClasses
-pub mod ReadingFacts
-pub mod ReadingTable
-pub mod ReadingEnd
 pub mod Plan
 pub mod Planned
 pub mod Putting

@@ -1,4 +1,3 @@
-pub mod Reading
 pub mod Call
 pub mod Claims
 pub mod Laws

@@ -1,21 +1,21 @@
 // FIX 4.4 messages of our records, for a host that calls these entries as C functions on byte slices:
-// `fix_write` writes the message of a record, and `message_at` says where message n of an answer stands.
-// What messages are stands in specs/, with its laws; the modules do the work, and each entry equals a
-// definition there. Each is total: whatever the bytes, it returns its number, and a refused call has
-// written nothing. Rests on records, cut and decimal.
+// `fix_write` writes the message of a record, `fix_read` gives the fields of a message, and `message_at`
+// says where message n of an answer stands. What messages are stands in fix_words, with its laws; the
+// modules do the writing, fix_reader the reading, and each entry equals a definition. Each is total:
+// whatever the bytes, it returns its number, and a refused call has written nothing. Rests on records,
+// cut, decimal, fix_table and fix_reader.
 ghost use mathlib.Core.Path.{_≡_};
 ghost use Rattle.cut.specs.Place.{placeOf};
 ghost use Rattle.fix_words.specs.Record.{session};
+ghost use Rattle.fix_reader.specs.Reading.{fieldsRead};
 ghost use Rattle.fix.specs.Call.{wrote, writeCall};
 use cut::Place;
+use fix_reader::FixFields;
 
-mod pieces; // the reader's fields
 mod put; // the writer's bytes
 mod room; // the writer's length
-mod sum;
 mod table;
 mod value;
-mod value_read; // the reader's values
 mod words_of;
 mod write;
 
@@ -24,36 +24,6 @@ mod write;
 pub struct Written {
     pub refusal: u32,
     pub length: u64,
-}
-
-// The fields of a message: each one's tag, where its value stands and how long it is; zeros behind
-// them and with a refusal.
-#[repr(C)]
-pub struct FixFields {
-    pub refusal: u32,
-    pub count: u32,
-    pub tag: [u32; 32],
-    pub at: [u64; 32],
-    pub length: [u64; 32],
-}
-
-// A tag, 0 where there is none, and where its value starts.
-struct Tag {
-    tag: u32,
-    at: usize,
-}
-
-// A field: its tag, 0 where there is none, where its value starts, and where it ends.
-struct Piece {
-    tag: u32,
-    at: usize,
-    end: usize,
-}
-
-// A number below 2^64, where it fits.
-struct Parsed {
-    fits: bool,
-    value: u64,
 }
 
 // Writes the FIX message of a message record to the front of `out`, with the session's comp IDs,
@@ -70,6 +40,14 @@ pub extern "C" fn fix_write(
     ensures { λ r. ⌜ wrote r (now (out .exit)) ≡ writeCall (now («record» .entry)) (session (now (sender .entry)) (now (target .entry)) sequence (now (time .entry))) (now (out .entry)) ⌝ }
 {
     write::write(record, sender, target, sequence, time, out)
+}
+
+// The fields of a FIX message that a writing yields; 3 for all other bytes.
+#[no_mangle]
+pub extern "C" fn fix_read(message: &[u8]) -> FixFields
+    ensures { λ r. ⌜ r ≡ fieldsRead (now (message .entry)) ⌝ }
+{
+    fix_reader::read(message)
 }
 
 // Where message n of an answer stands, counted from 0.

@@ -9,7 +9,6 @@ ghost use Rattle.fix_words.specs.Spelling.{field, spellings};
 ghost use Rattle.fix_words.specs.Values.{rows};
 ghost use Rattle.fix_words.specs.Message.{sum, trailer};
 ghost use Rattle.fix.specs.Laws.Plan.{saidBy, longOf, fieldLong, fieldShown, rowsLong, rowsShown, planned, firstTwo, headFields, stampFields, Sound};
-use crate::sum::checksum;
 use crate::table;
 use crate::value::Value;
 use crate::value::bytes_from;
@@ -139,7 +138,7 @@ pub(crate) fn put_head(
     requires { ⌜ (16 ≤ kind) × (kind ≤ 20) × (at + length (spellings (headFields kind (now sender) (now target) sequence (now time))) ≤ length (now out)) ⌝ }
     ensures { λ r. ⌜ (r ≡ at + length (spellings (headFields kind (now (sender .entry)) (now (target .entry)) sequence (now (time .entry))))) × (now (out .exit) ≡ splice (now (out .entry)) at (spellings (headFields kind (now (sender .entry)) (now (target .entry)) sequence (now (time .entry))))) ⌝ }
 {
-    let letter = [table::type_of(kind)];
+    let letter = [fix_table::type_of(kind)];
     let a = put_text(out, at, 35, &letter);
     let b = put_text(out, a, 49, sender);
     let c = put_text(out, b, 56, target);
@@ -161,7 +160,7 @@ pub(crate) fn put_body(
     requires { ⌜ (16 ≤ kind) × (kind ≤ 20) × ((b : ℕ) → b < 32 → Sound (now s) (planned kind map (now at) (now numbers) high b)) × (start + rowsLong (rows kind) (planned kind map (now at) (now numbers) high) ≤ length (now out)) ⌝ }
     ensures { λ r. ⌜ (r ≡ start + rowsLong (rows kind) (planned kind map (now (at .entry)) (now (numbers .entry)) high)) × (now (out .exit) ≡ splice (now (out .entry)) start (rowsShown (now (s .entry)) (rows kind) (planned kind map (now (at .entry)) (now (numbers .entry)) high))) ⌝ }
 {
-    let n = table::count_of(kind);
+    let n = fix_table::count_of(kind);
     let mut p = start;
     let mut j = 0;
     while j < n {
@@ -188,7 +187,7 @@ pub(crate) fn put_trailer(out: &mut [u8], at: usize) -> usize
     requires { ⌜ at + 7 ≤ length (now out) ⌝ }
     ensures { λ r. ⌜ (r ≡ at + 7) × (now (out .exit) ≡ splice (now (out .entry)) at (spellings (trailer (span (now (out .entry)) 0 at) ∷ []))) ⌝ }
 {
-    let c = checksum(&out[0..at]);
+    let c = fix_table::sum::checksum(&out[0..at]);
     let digits = [48 + c / 10 / 10 % 10, 48 + c / 10 % 10, 48 + c % 10];
     put_text(out, at, 10, &digits)
 }

@@ -6,11 +6,11 @@ ghost use lib.ListN.{length, getD};
 ghost use mathlib.Core.List.{[]};
 ghost use Rattle.decimal.specs.Decimal.{digits, decimal};
 ghost use Rattle.fix_words.specs.Values.{rows};
-ghost use Rattle.fix.specs.Laws.Plan.{lessBy, spoken, longOf, fieldLong, rowsLong, planned, headLong, stampLong, frameLong};
+ghost use Rattle.fix.specs.Laws.Plan.{lessBy, longOf, fieldLong, rowsLong, planned, headLong, stampLong, frameLong};
+ghost use Rattle.fix_table.specs.Table.{spoken};
 use crate::table;
 use crate::value::Value;
 use crate::value::value_at;
-use crate::words_of;
 
 // Whether what was counted fits, and the room behind it.
 pub(crate) struct Room {
@@ -56,7 +56,7 @@ fn less_value(r: Room, v: Value) -> Room
         return less(r, number_length(v.low, v.high, v.places));
     }
     if v.form == 3 {
-        return less(r, words_of::words_length(v.low));
+        return less(r, fix_table::spoken::words_length(v.low));
     }
     less(less(r, v.count), 1 + decimal::decimal_length(v.low, 0))
 }
@@ -83,7 +83,7 @@ pub(crate) fn less_body(
     requires { ⌜ (16 ≤ kind) × (kind ≤ 20) ⌝ }
     ensures { λ t. ⌜ t ≡ lessBy r (rowsLong (rows kind) (planned kind map (now (at .entry)) (now (numbers .entry)) high)) ⌝ }
 {
-    let n = table::count_of(kind);
+    let n = fix_table::count_of(kind);
     let mut left = less(r, 0);
     let mut j = 0;
     while j < n {

@@ -1,9 +1,9 @@
 // A value planned before it is written: where its bytes stand, or the number or words that it is. Rests
-// on `table` and bits.
+// on fix_table and bits.
 ghost use mathlib.Core.Path.{_≡_};
 ghost use Prim.Native.Nat.{_-_, _<_};
 ghost use Rattle.fix.specs.Laws.Plan.{nothing, bytesFrom, numbered, worded, execFrom, plainPlan, fixedPlan, execPlan, insteadPlan, planned};
-use crate::table::form_of;
+use fix_table::form_of;
 
 // `form` is 0 for none, 1 for bytes of a buffer, 2 for a number of two words, 3 for words of our own,
 // 4 for bytes of a buffer, a point and a number.

@@ -1,4 +1,4 @@
--- The promises of Claims hold. Rests on Made and Trip.
+-- The promises of Claims hold. Rests on Made, Trip and the reader's Table.
 use Prim.Native.Nat.{ℕ, _+_, _%_, _≤_}
 use mathlib.Core.Path.{_≡_, refl, sym, ap, _∙_}
 use mathlib.Core.List.{List}
@@ -14,6 +14,8 @@ use Rattle.decimal.specs.Decimal.{digits, lowDigits}
 use Rattle.fix_words.specs.Spelling.{spellings}
 use Rattle.fix_words.specs.Message.{inner, front, sum, fieldsOf, readOf}
 use Rattle.fix_words.specs.Record.{Session, writingOf, writeOf, sessionTyped, writeRefusal}
+use Rattle.fix_reader.specs.Reading.{TableOf}
+use Rattle.fix_reader.specs.Laws.Table.{written-table}
 use Rattle.fix.specs.Claims.{Claims}
 use Rattle.fix_words.specs.Laws.Trip.{frame}
 use Rattle.fix_words.specs.Laws.Made.{written-read, read-exactly}
@@ -74,11 +76,21 @@ module _ (s : List ℕ) (n : Session) (out : List ℕ) where
       ∙ ap readOf (span-splice-same out 0 (writeOf s n) (length (writeOf s n)) refl (omega (arith, fits z)))
       ∙ written-read s n (length out) w t z
 
+  call-table : Bytes s → sessionTyped n ≡ true → writeCall s n out .returned .refusal ≡ 0
+      → (span (writeCall s n out .out) 0 (writeCall s n out .returned .length) ≡ writeOf s n) × TableOf (writingOf s n)
+  call-table w t e =
+      let z = is-zero e in (
+        ap (λ (c : Wrote). span (c .out) 0 (c .returned .length)) (taken z)
+            ∙ span-splice-same out 0 (writeOf s n) (length (writeOf s n)) refl (omega (arith, fits z)),
+        written-table s n (length out) w t z,
+      )
+
 pub claims : Claims
 claims = record {
   refused = call-refused;
   past = call-past;
   written-read = call-read;
+  written-table = call-table;
   read-exactly = read-exactly;
   frame = λ s n. (digits (length (spellings (inner (writingOf s n)))), lowDigits 3 (sum (spellings (front (inner (writingOf s n)))) % 256), frame (writingOf s n));
 }

@@ -12,24 +12,19 @@ use Rattle.prelude.specs.Below.{allBelow}
 use Rattle.prelude.specs.Number.{number}
 use Rattle.prelude.specs.Span.{span}
 use Rattle.bits.specs.Map.{bit}
-use Rattle.format.specs.Codes.{within}
-use Rattle.format.specs.Format.{range, isTextBit, side, status}
 use Rattle.format.specs.Places.{start, content, value, mapAt}
 use Rattle.format.specs.Refusal.{ranged}
 use Rattle.records.specs.Parts.{wholeMessage}
 use Rattle.decimal.specs.Decimal.{digits, decimal}
 use Rattle.fix_words.specs.Spelling.{Field, field, spellings}
+use Rattle.fix_table.specs.Table.{formOf, spoken, noneNumber}
 use Rattle.fix_words.specs.Rows.{Row, fieldOf}
-use Rattle.fix_words.specs.Values.{rows, texts, noneWord, places, typeOf}
+use Rattle.fix_words.specs.Values.{rows, typeOf}
 use Rattle.fix_words.specs.Message.{version, isText, inner}
 use Rattle.fix_words.specs.Record.{Session, writingOf, writeRefusal}
 use Rattle.fix.specs.declared.value.Value.{Value}
 use Rattle.fix.specs.declared.room.Room.{Room}
 use Rattle.fix.specs.declared.write.Plan.{Plan}
-
--- row j of a kind
-abbrev pub rowAt : ℕ → ℕ → Row
-rowAt k j = getD (rows k) j (record { tag = 0; bit = 0; must = true })
 
 -- ---- a record's parts, as records gives them
 
@@ -62,17 +57,6 @@ worded n = record { form = 3; from = 0; count = 0; low = n; high = 0; places = 0
 -- bytes that stand in a buffer, a point and a number
 abbrev pub execFrom : (from count low : ℕ) → Value
 execFrom f n l = record { form = 4; from = f; count = n; low = l; high = 0; places = 0 }
-
--- the fixed texts, and NONE behind them
-unfoldable pub spoken : List (List ℕ)
-spoken = texts ++ (noneWord ∷ [])
-
-abbrev pub noneNumber : ℕ
-noneNumber = 19
-
--- how a bit is written: 2 a text, 1 a code, else a number with so many decimals
-unfoldable pub formOf : ℕ → ℕ
-formOf b = if isTextBit b then 2 else if within side status (range b) then 1 else places b
 
 -- the value of bit b that stands and ends at `to`, from its number
 unfoldable pub plainPlan : (to n high b : ℕ) → Value

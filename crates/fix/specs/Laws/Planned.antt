@@ -27,7 +27,8 @@ use Rattle.decimal.specs.Decimal.{digits, decimal}
 use Rattle.fix_words.specs.Values.{texts, wordsOf, noneWord, isPlain, places, spelling, over, orElse, either, execId, fixedWords, valueOf}
 use Rattle.fix_words.specs.Record.{fieldAt}
 use Rattle.fix.specs.declared.value.Value.{Value}
-use Rattle.fix.specs.Laws.Plan.{Parted, nothing, bytesFrom, numbered, worded, execFrom, spoken, formOf, plainPlan, fixedPlan, execPlan, insteadPlan, planned, saidBy, shown, Sound}
+use Rattle.fix.specs.Laws.Plan.{Parted, nothing, bytesFrom, numbered, worded, execFrom, plainPlan, fixedPlan, execPlan, insteadPlan, planned, saidBy, shown, Sound}
+use Rattle.fix_table.specs.Table.{spoken, formOf}
 
 -- ---- what each form shows
 

@@ -19,7 +19,8 @@ use Rattle.fix_words.specs.Laws.Rows.{or-right}
 use Rattle.fix_words.specs.Laws.Counting.{field-long, decimal-none}
 use Rattle.fix.specs.declared.value.Value.{Value}
 use Rattle.fix.specs.declared.room.Room.{Room}
-use Rattle.fix.specs.Laws.Plan.{numbered, bytesFrom, spoken, saidBy, shown, longOf, fieldLong, fieldShown, Sound, rowsLong, rowsShown, lessBy, headLong, stampFields, stampLong}
+use Rattle.fix.specs.Laws.Plan.{numbered, bytesFrom, saidBy, shown, longOf, fieldLong, fieldShown, Sound, rowsLong, rowsShown, lessBy, headLong, stampFields, stampLong}
+use Rattle.fix_table.specs.Table.{spoken}
 
 -- ---- lengths
 

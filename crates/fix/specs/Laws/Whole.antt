@@ -37,7 +37,8 @@ use Rattle.fix_words.specs.Laws.Kinds.{row-small}
 use Rattle.fix_words.specs.Laws.Trip.{frame}
 use Rattle.fix.specs.declared.room.Room.{Room}
 use Rattle.fix.specs.declared.value.Value.{Value}
-use Rattle.fix.specs.Laws.Plan.{Parted, formOf, planned, Sound, rowsLong, rowsShown, lessBy, firstTwo, headFields, stampFields, frameLong, innerLong, textRight, textsRight}
+use Rattle.fix.specs.Laws.Plan.{Parted, planned, Sound, rowsLong, rowsShown, lessBy, firstTwo, headFields, stampFields, frameLong, innerLong, textRight, textsRight}
+use Rattle.fix_table.specs.Table.{formOf}
 use Rattle.fix.specs.Laws.Planned.{text-there, plan-right, plan-sound, places-no, on, off}
 use Rattle.fix.specs.Laws.Putting.{rows-long, rows-body, two-fields, head-long, stamp-long, Rest}
 

@@ -1,4 +1,5 @@
 -- `fix::put::put_body`: what is left to be written are the rows not yet passed. Assumes nothing.
+use borrow.Author.Needs.{needs}
 use borrow.Author.Tests.{le-leb}
 use denote.Ref.{now}
 use mathlib.Core.Path.{_≡_, sym, ap, subst, _∙_}
@@ -13,7 +14,8 @@ use Rattle.fix_words.specs.Lists.{same}
 use Rattle.fix_words.specs.Rows.{inRows}
 use Rattle.fix_words.specs.Values.{rows}
 use Rattle.fix_words.specs.Laws.Kinds.{row-small}
-use Rattle.fix.specs.Laws.Plan.{rowAt, planned, Sound, rowsShown}
+use Rattle.fix.specs.Laws.Plan.{planned, Sound, rowsShown}
+use Rattle.fix_table.specs.Table.{rowAt}
 use Rattle.fix.specs.Laws.Putting.{rows-long, shown-last, Rest, rest-start, rest-end, row-room, row-next}
 use Rattle.fix.specs.declared.value.Value.{Value}
 use Rattle.fix.proofs.put.put_body.Statement.{statement}
@@ -45,29 +47,14 @@ sound c = subst (λ (v : Value). Sound (now (c .before .before .before .before .
 inside : (c : tie.After-tag-at Inv-loop μ-loop) → c .before .before .before .before .before .loop .j < length (rows (c .before .before .before .before .before .before .before .before .before .args .kind))
 inside c = omega (arith, c .before .before .before .before .before .before .count-of .ensures .0)
 
-count-of-requires : tie.Need-count-of-requires Inv-loop μ-loop
-count-of-requires c κs = (c .before .before .pre .0, c .before .before .pre .1)
-
 loop-holds : tie.Need-loop-holds Inv-loop μ-loop
 loop-holds c =
     let s = c .before .before .before in
     let a = s .args in
     (omega arith, rest-start (now (a .out)) (a .start) (rowsShown (now (a .s)) (rows (a .kind)) (plan s)) (omega (arith, rows-long (now (a .s)) (plan s) (rows (a .kind)) (sounds s))))
 
-bit-at-requires : tie.Need-bit-at-requires Inv-loop μ-loop
-bit-at-requires c κs =
-    let s = c .before .before .before .before .before in
-    let n = c .before .before .count-of .ensures in
-    (s .pre .0, s .pre .1, omega (arith, n .0), omega (arith, n .1))
-
 value-at-requires : tie.Need-value-at-requires Inv-loop μ-loop
 value-at-requires c κs = c .bit-at .ensures .1
-
-tag-at-requires : tie.Need-tag-at-requires Inv-loop μ-loop
-tag-at-requires c κs =
-    let s = c .before .before .before .before .before .before .before .before in
-    let n = c .before .before .before .before .before .count-of .ensures in
-    (s .pre .0, s .pre .1, omega (arith, n .0), omega (arith, n .1))
 
 put-field-requires : tie.Need-put-field-requires Inv-loop μ-loop
 put-field-requires c κs = (sound c, row-room (now (c .before .before .before .before .before .before .before .before .before .args .s)) (plan (c .before .before .before .before .before .before .before .before .before)) (rows (c .before .before .before .before .before .before .before .before .before .args .kind)) (c .before .before .before .before .before .loop .j) (inside c) (c .tag-at .result) (c .before .before .value-at .result) (c .tag-at .ensures) (the-value c) (sound c) (c .before .before .before .before .before .loop .inv .1))
@@ -102,11 +89,11 @@ put-body-spec =
     (tie.spec
     Inv-loop
     μ-loop
-    count-of-requires
+    (λ c κs. search needs)
     loop-holds
-    bit-at-requires
+    (λ c κs. search needs)
     value-at-requires
-    tag-at-requires
+    (λ c κs. search needs)
     put-field-requires
     add-j
     loop-less

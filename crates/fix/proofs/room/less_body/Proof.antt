@@ -8,7 +8,8 @@ use native.Mathlib.Omega.{arith}
 use lib.ListN.{drop}
 use Rattle.bits.specs.Map.{bit}
 use Rattle.fix_words.specs.Values.{rows}
-use Rattle.fix.specs.Laws.Plan.{rowAt, planned, fieldLong, rowsLong, lessBy}
+use Rattle.fix.specs.Laws.Plan.{planned, fieldLong, rowsLong, lessBy}
+use Rattle.fix_table.specs.Table.{rowAt}
 use Rattle.fix.specs.Laws.Putting.{long-next, long-last, less-more}
 use Rattle.fix.specs.declared.value.Value.{Value}
 use Rattle.fix.specs.declared.room.Room.{Room}
@@ -24,9 +25,6 @@ Inv-loop kind map at numbers high n left₀ j₀ left j =
 abbrev μ-loop : tie.MeasureT-loop
 μ-loop kind map at numbers high n left₀ j₀ left j = n - j
 
-count-of-requires : tie.Need-count-of-requires Inv-loop μ-loop
-count-of-requires c κs = (c .pre .0, c .pre .1)
-
 loop-holds : tie.Need-loop-holds Inv-loop μ-loop
 loop-holds c =
     let a = c .before .before .args in
@@ -34,20 +32,8 @@ loop-holds c =
     let z : T - T ≡ 0 = omega arith in
     (omega arith, le-refl T, c .less .ensures ∙ sym (less-more (a .r) 0 0) ∙ (λ i. lessBy (sym (c .less .ensures) i) (sym z i)))
 
-bit-at-requires : tie.Need-bit-at-requires Inv-loop μ-loop
-bit-at-requires c κs =
-    let s = c .before .before .before .before in
-    let n = c .before .before .before .count-of .ensures in
-    (s .pre .0, s .pre .1, omega (arith, n .0), omega (arith, n .1))
-
 value-at-requires : tie.Need-value-at-requires Inv-loop μ-loop
 value-at-requires c κs = c .bit-at .ensures .1
-
-tag-at-requires : tie.Need-tag-at-requires Inv-loop μ-loop
-tag-at-requires c κs =
-    let s = c .before .before .before .before .before .before in
-    let n = c .before .before .before .before .before .count-of .ensures in
-    (s .pre .0, s .pre .1, omega (arith, n .0), omega (arith, n .1))
 
 add-j : tie.Need-add-j Inv-loop μ-loop
 add-j c = omega arith
@@ -94,12 +80,12 @@ less-body-spec =
     (tie.spec
     Inv-loop
     μ-loop
-    count-of-requires
+    (λ c κs. search needs)
     (λ c κs. search needs)
     loop-holds
-    bit-at-requires
+    (λ c κs. search needs)
     value-at-requires
-    tag-at-requires
+    (λ c κs. search needs)
     (λ c κs. search needs)
     add-j
     loop-less

@@ -7,7 +7,8 @@ use Prim.Native.Nat.{ℕ}
 use native.Mathlib.Omega.{arith}
 use lib.Dec.{eqb}
 use Rattle.prelude.specs.Cases.{if_then_else_}
-use Rattle.fix.specs.Laws.Plan.{bytesFrom, numbered, formOf, plainPlan}
+use Rattle.fix.specs.Laws.Plan.{bytesFrom, numbered, plainPlan}
+use Rattle.fix_table.specs.Table.{formOf}
 use Rattle.fix.proofs.value.plain.Statement.{statement}
 use Rattle.fix.proofs.value.plain.Tie as tie
 

@@ -9,7 +9,8 @@ use lib.ListN.{length}
 use Rattle.prelude.specs.Cases.{if_then_else_}
 use Rattle.prelude.specs.Span.{span, part-span}
 use Rattle.fix_words.specs.Message.{isText}
-use Rattle.fix.specs.Laws.Plan.{formOf, textRight}
+use Rattle.fix.specs.Laws.Plan.{textRight}
+use Rattle.fix_table.specs.Table.{formOf}
 use Rattle.fix.proofs.write.text_right.Statement.{statement}
 use Rattle.fix.proofs.write.text_right.Tie as tie
 
