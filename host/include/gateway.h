@@ -106,15 +106,16 @@ enum {
     JUBAFIYE_MESSAGE_REPLACE = 20        /* 1 5 6 7 8 9 30; 10 11 18 */
 };
 
-/* An answer: its length (2 bytes, these included), the count of messages (1 byte, 0 to 2), an alarm (1 byte), then the
- * messages. */
+/* An answer: its length (2 bytes, these included), the count of messages (1 byte, 0 to 2), an alarm (1 byte), a second
+ * alarm (1 byte), then the messages. Two alarms are FILLED_SHORT and STUCK_CANCEL, in this order. */
 enum {
     JUBAFIYE_ALARM_NONE = 0,
-    JUBAFIYE_ALARM_STUCK_CANCEL = 1,      /* the gateway has given up cancelling an order */
-    JUBAFIYE_ALARM_OVERFILL = 2,          /* a venue reported more than was ordered; nothing was applied */
-    JUBAFIYE_ALARM_UNKNOWN_ORDER = 3,     /* a venue named an order or request that is not known */
-    JUBAFIYE_ALARM_UNKNOWN_AT_VENUE = 4,  /* a venue does not know an order that is live here */
-    JUBAFIYE_ALARM_FILL_ON_DONE_ORDER = 5 /* a venue reported a fill on an order that is done; nothing was applied */
+    JUBAFIYE_ALARM_STUCK_CANCEL = 1,       /* the gateway has given up cancelling an order */
+    JUBAFIYE_ALARM_OVERFILL = 2,           /* a venue reported more than was ordered; nothing was applied */
+    JUBAFIYE_ALARM_UNKNOWN_ORDER = 3,      /* a venue named an order or request that is not known */
+    JUBAFIYE_ALARM_UNKNOWN_AT_VENUE = 4,   /* a venue does not know an order that is live here */
+    JUBAFIYE_ALARM_FILL_ON_DONE_ORDER = 5, /* a venue reported a fill on an order that is done; nothing was applied */
+    JUBAFIYE_ALARM_FILLED_SHORT = 6        /* a venue called an order filled below its quantity; it stays live */
 };
 
 /* Fields by their bit: the bytes, or a text with the lengths that it may have. A code is FIX 4.4's, in ASCII. */

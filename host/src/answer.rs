@@ -20,10 +20,14 @@ listed! {
         UnknownOrder = 3 "a venue named an order or request that is not known",
         UnknownAtVenue = 4 "a venue does not know an order that is live here",
         FillOnDoneOrder = 5 "a venue reported a fill on an order that is done here, and nothing was applied",
+        FilledShort = 6 "a venue called an order filled below its quantity, and it stays live",
     }
 }
 
 impl std::error::Error for Alarm {}
+
+/// The head of an answer: its length in two bytes, the count of messages, and two alarms.
+const HEAD: usize = 5;
 
 /// What follows an event that was taken.
 #[derive(Debug, Clone, PartialEq, Eq, Default)]
@@ -31,7 +35,7 @@ impl std::error::Error for Alarm {}
 pub struct Answer {
     /// What goes out, in order: at most two messages.
     pub messages: Vec<Message>,
-    /// What someone has to look at, in order; one at most so far.
+    /// What someone has to look at, in order: at most two.
     pub alarms: Vec<Alarm>,
 }
 
@@ -41,7 +45,7 @@ impl Answer {
     /// ```
     /// use jubafiye::{Alarm, Answer};
     ///
-    /// let answer = Answer::read(&[4, 0, 0, 2])?;
+    /// let answer = Answer::read(&[5, 0, 0, 2, 0])?;
     /// assert_eq!((answer.messages, answer.alarms), (vec![], vec![Alarm::Overfill]));
     /// assert!(Answer::read(b"no answer").is_err());
     /// # Ok::<(), jubafiye::BadAnswer>(())
@@ -51,8 +55,8 @@ impl Answer {
     }
 
     fn parse(bytes: &[u8]) -> Result<Self, Fault> {
-        let [_, _, count, alarm, ..] = *bytes else { return Err(Fault::Cut) };
-        let mut rest = whole(bytes).and_then(|answer| answer.get(4..)).ok_or(Fault::Cut)?;
+        let [_, _, count, alarm, alarm2, ..] = *bytes else { return Err(Fault::Cut) };
+        let mut rest = whole(bytes).and_then(|answer| answer.get(HEAD..)).ok_or(Fault::Cut)?;
         if count > 2 {
             return Err(Fault::Count(count));
         }
@@ -65,7 +69,7 @@ impl Answer {
         if !rest.is_empty() {
             return Err(Fault::Over);
         }
-        if alarm != 0 {
+        for alarm in [alarm, alarm2].into_iter().filter(|&alarm| alarm != 0) {
             answer.alarms.push(Alarm::from_number(alarm).ok_or(Fault::Alarm(alarm))?);
         }
         Ok(answer)
@@ -95,25 +99,28 @@ mod tests {
     #[test]
     fn each_fault_by_its_bytes() {
         let fault = |bytes: &[u8]| Answer::read(bytes).map_err(|bad| bad.fault());
-        assert_eq!(fault(&[4, 0, 0]), Err(Fault::Cut));
-        assert_eq!(fault(&[3, 0, 0, 0]), Err(Fault::Cut));
         assert_eq!(fault(&[5, 0, 0, 0]), Err(Fault::Cut));
-        assert_eq!(fault(&[5, 0, 0, 0, 0]), Err(Fault::Over));
-        assert_eq!(fault(&[4, 0, 3, 0]), Err(Fault::Count(3)));
-        assert_eq!(fault(&[4, 0, 0, 6]), Err(Fault::Alarm(6)));
-        assert_eq!(fault(&[9, 0, 1, 0, 15, 0, 0, 0, 0]), Err(Fault::Kind(15)));
-        assert_eq!(fault(&[9, 0, 1, 0, 16, 0, 0, 0, 0]), Err(Fault::Missing { kind: 16, bit: 0 }));
+        assert_eq!(fault(&[4, 0, 0, 0, 0]), Err(Fault::Cut));
+        assert_eq!(fault(&[6, 0, 0, 0, 0]), Err(Fault::Cut));
+        assert_eq!(fault(&[6, 0, 0, 0, 0, 0]), Err(Fault::Over));
+        assert_eq!(fault(&[5, 0, 3, 0, 0]), Err(Fault::Count(3)));
+        assert_eq!(fault(&[5, 0, 0, 7, 0]), Err(Fault::Alarm(7)));
+        assert_eq!(fault(&[5, 0, 0, 6, 7]), Err(Fault::Alarm(7)));
+        let both = fault(&[5, 0, 0, 6, 1]).map(|answer| answer.alarms);
+        assert_eq!(both, Ok(vec![Alarm::FilledShort, Alarm::StuckCancel]));
+        assert_eq!(fault(&[10, 0, 1, 0, 0, 15, 0, 0, 0, 0]), Err(Fault::Kind(15)));
+        assert_eq!(fault(&[10, 0, 1, 0, 0, 16, 0, 0, 0, 0]), Err(Fault::Missing { kind: 16, bit: 0 }));
         // A new order with the bit of a cancel's OrigClOrdID.
-        let new = b"\x21\0\x01\0\x12\xe2\x03\0\x40\x03\0\x01A\x01W12\x01\0\0\0\0\0\0\0\x01A";
+        let new = b"\x22\0\x01\0\0\x12\xe2\x03\0\x40\x03\0\x01A\x01W12\x01\0\0\0\0\0\0\0\x01A";
         let mut new = new.to_vec();
         new[0] = u8::try_from(new.len()).unwrap();
         assert_eq!(fault(&new), Err(Fault::Unexpected { kind: 18, map: 1 << 30 }));
-        new[8] = 0;
+        new[9] = 0;
         assert_eq!(fault(&new), Err(Fault::Over));
         let last = new.len() - 2;
         new[0] = u8::try_from(last).unwrap();
         assert_eq!(fault(&new).map(|answer| answer.messages.len()), Ok(1));
-        new[15] = b'9';
+        new[16] = b'9';
         assert_eq!(fault(&new), Err(Fault::Code { bit: 7, code: b'9' }));
     }
 }

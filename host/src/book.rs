@@ -152,7 +152,7 @@ impl Book {
     /// let mut buffer = [0; ANSWER_BYTES];
     /// let record = Event::UnknownAtVenue { venue: 3, downstream: b"G1" }.record();
     /// let answer = book.take_record_into(&record, &mut buffer)?;
-    /// assert_eq!(answer, [4, 0, 0, 3]);
+    /// assert_eq!(answer, [5, 0, 0, 3, 0]);
     /// assert_eq!(Answer::read(answer)?.alarms.len(), 1);
     /// # Ok::<(), Box<dyn std::error::Error>>(())
     /// ```

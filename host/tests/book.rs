@@ -211,6 +211,9 @@ fn alarms() {
         reason: Some(1),
         text: None,
     };
+    let filled = RejectedRequest { status: Some(OrdStatus::Filled), ..gone };
+    let both = book.clone().take(&Event::CancelReject(filled)).unwrap();
+    assert_eq!(both.alarms, [Alarm::FilledShort, Alarm::StuckCancel]);
     assert_eq!(alarm(&mut book, Event::CancelReject(gone)), Some(Alarm::StuckCancel));
     let canceled = VenueReport {
         venue: 3,

@@ -28,7 +28,7 @@ int main(void) {
     expect("start on another length", start(book, sizeof book - 1, 10000) == JUBAFIYE_REFUSED_BOOK);
     expect("check", check(book, sizeof book) == JUBAFIYE_TAKEN);
     expect("event", event(book, sizeof book, booking, sizeof booking, answer, sizeof answer) == JUBAFIYE_TAKEN);
-    expect("the answer", answer[0] == 4 && answer[1] == 0 && answer[2] == 0 && answer[3] == JUBAFIYE_ALARM_NONE);
+    expect("the answer", answer[0] == 5 && answer[1] == 0 && answer[2] == 0 && answer[3] == JUBAFIYE_ALARM_NONE);
     expect("the same event again",
            event(book, sizeof book, booking, sizeof booking, answer, sizeof answer) == JUBAFIYE_REFUSED_IN_USE);
 

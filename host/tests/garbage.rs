@@ -29,7 +29,7 @@ impl Numbers {
 fn read(bytes: &[u8]) -> Option<Answer> {
     match Answer::read(bytes) {
         Ok(answer) => {
-            assert!(answer.messages.len() <= 2 && answer.alarms.len() <= 1);
+            assert!(answer.messages.len() <= 2 && answer.alarms.len() <= 2);
             answer.messages.iter().for_each(|message| assert!(!message.to_string().contains('\n')));
             Some(answer)
         }
@@ -159,7 +159,7 @@ fn an_answer_with_one_byte_changed() {
                 read_still += usize::from(read(&changed).is_some());
             }
         }
-        for (at, value) in [(0, 0xFF), (1, 0xFF), (2, 3), (3, 6)] {
+        for (at, value) in [(0, 0xFF), (1, 0xFF), (2, 3), (3, 7), (4, 7)] {
             let mut changed = answer.clone();
             changed[at] = value;
             assert_eq!(read(&changed), None, "byte {at} made {value}");
@@ -170,11 +170,11 @@ fn an_answer_with_one_byte_changed() {
 
 #[test]
 fn a_price_source_stands_in_every_report_and_in_no_other_message() {
-    const MAP_END: usize = 8;
+    const MAP_END: usize = 9;
     let fault = |bytes: &[u8]| Answer::read(bytes).map_err(|bad| bad.fault());
     let mut kinds = Vec::new();
     for answer in answers().into_iter().filter(|answer| answer[2] == 1) {
-        let kind = answer[4];
+        let kind = answer[5];
         kinds.push(kind);
         let mut changed = answer.clone();
         if kind != 16 {
@@ -233,9 +233,10 @@ fn random_bytes() {
         let length = numbers.below(bound);
         let mut bytes = numbers.bytes(length);
         read(&bytes);
-        // The same behind a head that is right: length, count, alarm, a message's kind.
-        let head =
-            [length as u8, (length >> 8) as u8, 1 + (numbers.next() & 1) as u8, (numbers.next() % 6) as u8];
+        // The same behind a head that is right: length, count, two alarms, a message's kind.
+        let count = 1 + (numbers.next() & 1) as u8;
+        let alarms = [(numbers.next() % 7) as u8, (numbers.next() % 7) as u8];
+        let head = [length as u8, (length >> 8) as u8, count, alarms[0], alarms[1]];
         for (byte, right) in bytes.iter_mut().zip(head.into_iter().chain([16 + (numbers.next() % 5) as u8])) {
             *byte = right;
         }

@@ -53,6 +53,7 @@ fn refusals_and_alarms() {
         ("UNKNOWN_ORDER", Alarm::UnknownOrder),
         ("UNKNOWN_AT_VENUE", Alarm::UnknownAtVenue),
         ("FILL_ON_DONE_ORDER", Alarm::FillOnDoneOrder),
+        ("FILLED_SHORT", Alarm::FilledShort),
     ];
     for (name, alarm) in alarms {
         assert_eq!(number(&format!("ALARM_{name}")), Some(alarm.number().into()), "{name}");

@@ -111,7 +111,7 @@ fn a_refusals_status_counts_with_a_cancel_reject_or_with_nothing_told() -> Resul
         let mut book = book()?;
         book.take(&request)?;
         assert_eq!(book.open_quantity(7), Qty::units(130));
-        let answer = book.take(&refused(b"A-1", Some(OrdStatus::Filled)))?;
+        let answer = book.take(&refused(b"A-1", Some(OrdStatus::Canceled)))?;
         assert_eq!((answer.messages.len(), book.open_quantity(7)), (told, Qty::units(30)), "{request:?}");
         assert!(book.keeps_rules());
     }

@@ -5,7 +5,8 @@ ghost use lib.Dec.{eqb};
 ghost use Rattle.prelude.specs.Cases.{if_then_else_};
 ghost use Rattle.store.specs.Orders.{noPending};
 ghost use Rattle.machine.specs.Messages.{cancelReject};
-ghost use Rattle.machine.specs.Amend.{notPending, refusedOrder, refusedNote, refuseRequest, venueNote, venueCancelReject, firstFailed, sendFailed, resendable, unsent};
+ghost use Rattle.machine.specs.Changes.{unchanged, answering, alarming};
+ghost use Rattle.machine.specs.Amend.{notPending, refusedOrder, refusedAlarm, refusedNote, refuseRequest, venueNote, venueCancelReject, firstFailed, sendFailed, resendable, unsent};
 use crate::OTHER;
 use crate::OURS;
 use crate::has;
@@ -69,6 +70,26 @@ fn refused_order(k: u16, r: Refused, o: Order) -> Order
     not_pending(out)
 }
 
+// The alarm of a short Filled that would be set; 0 is none.
+fn refused_alarm(r: Refused, o: Order) -> u8
+    ensures { λ a. ⌜ a ≡ refusedAlarm r o ⌝ }
+{
+    if order::is_done(o.state.status) {
+        return 0;
+    }
+    order::short_alarm(o.terms.qty, o.state.cumqty, r.status)
+}
+
+// Its request k answered, the order left as it is given, and that alarm.
+fn refused_change(k: u16, place: u16, r: Refused, o: Order, left: Order) -> Change
+    ensures { λ c. ⌜ c ≡ alarming (refusedAlarm r o) (answering k (unchanged place left)) ⌝ }
+{
+    let a = refused_alarm(r, o);
+    let mut out = change::settled(k, place, left);
+    out.output.alarm = a;
+    out
+}
+
 // What the client is told: the text that came, or that the venue rejected it; the venue's reason,
 // or Other.
 fn refused_note(n: Note) -> Note
@@ -115,7 +136,7 @@ pub fn refuse_request(f: Findings, k: u16, q: Request, venue: u16, r: Refused, o
         return change::unchanged(f.place, o);
     }
     let order = refused_order(k, r, o);
-    let c = change::settled(k, f.place, order);
+    let c = refused_change(k, f.place, r, o, order);
     let gateway = change::is_gateway(q);
     if gateway & (o.links.cancel != k) {
         return c;

@@ -16,16 +16,18 @@ use Rattle.machine.specs.declared.Change.{Change}
 use Rattle.machine.specs.Changes.{Event}
 use Rattle.machine.specs.Machine.{stepOf, after}
 use Rattle.machine.specs.Rules.{rules}
-use Rattle.machine.specs.History.{Decoded, unread, readAs, comesTo, messagesOf, leftBy, lineOf, Kinds}
+use Rattle.machine.specs.History.{Decoded, unread, readAs, comesTo, messagesOf, leftBy, lineOf, Kinds, State}
 use Rattle.machine.specs.Said.{Answers}
 use Rattle.machine.specs.Calls.{lineAt, calls, Faithful}
-use Rattle.machine.specs.Claim.{Demand3, OneOrder}
+use Rattle.machine.specs.Claim.{Demand3, OneOrder, Each}
+use Rattle.machine.specs.Short.{isWhole}
+use Rattle.machine.proofs.Claim.Short.{filled-whole}
 use Rattle.machine.proofs.Said.Reads.{event-kind}
 use Rattle.machine.proofs.Said.Steps.{answer-read}
-use Rattle.machine.proofs.Claim.Calls.{demand-of, since-return}
+use Rattle.machine.proofs.Claim.Calls.{run-of, demand-of, since-return}
 use Rattle.machine.proofs.Claim.OneOrder.{stays-one}
 use Rattle.opens.specs.Keeps.{keepsOf}
-use Rattle.claims.specs.Claims.{Call, readCall, heardOf, entries, AnswersOnBytes, Demand3OnBytes, Passes, SinceOnBytes, StaysOneOnBytes}
+use Rattle.claims.specs.Claims.{Call, readCall, heardOf, entries, AnswersOnBytes, Demand3OnBytes, FilledWholeOnBytes, Passes, SinceOnBytes, StaysOneOnBytes}
 use Rattle.claims.proofs.Header.{blank-keeps}
 use Rattle.claims.proofs.Taken.{Asked, broken, short, unreadable, stepped, asked, Taken, call-taken, left, event-refused, returned-is, outcome-taken, either-way, whole, writes, check-kept, kept-check, keeps-after, keeps-sizes}
 use Rattle.step.specs.Entries.{Outcome, callOf, eventOf, startRefusal, startOf}
@@ -164,6 +166,14 @@ pub demand3 : Demand3OnBytes
 demand3 b setting small z cs =
     subst (λ (x : List ℕ). Demand3 (calls entries x [] cs)) (sym (start-is b setting z))
     (demand-of entries Good faithful kinds setting (blank setting) (record { keeps = blank-keeps setting; bytes = bytes-blank setting }) (blank-book setting small) cs)
+
+-- A FILLED ORDER IS FILLED WHOLE, on bytes
+pub filled-whole-on-bytes : FilledWholeOnBytes
+filled-whole-on-bytes b setting small z cs =
+    subst (λ (s : State). Each s isWhole)
+    (sym (ap (λ (x : List ℕ). calls entries x [] cs) (start-is b setting z)
+    ∙ run-of entries Good faithful setting (blank setting) (record { keeps = blank-keeps setting; bytes = bytes-blank setting }) (blank-book setting small) cs))
+    (filled-whole Call readCall kinds setting cs)
 
 -- SINCE A RETURN, on bytes
 good : {b : List ℕ} → Passes b → Good b

@@ -63,11 +63,11 @@ module _ (b : List ℕ) (i : Call) (bytes : Bytes b) (t : Taken b (i .event) (i 
 
 -- the answer is in the change's output
 answer-same : (a : List ℕ) (c d : Change) → c .refusal ≡ 0 → d .refusal ≡ 0 → c .output ≡ d .output
-    → splice a 0 (answerBytes (c .output .alarm) (messagesOf c)) ≡ splice a 0 (answerBytes (d .output .alarm) (messagesOf d))
+    → splice a 0 (answerBytes (c .output .alarm) (c .output .alarm2) (messagesOf c)) ≡ splice a 0 (answerBytes (d .output .alarm) (d .output .alarm2) (messagesOf d))
 unfolding messagesOf
 answer-same a c d p q e =
-    ap (λ (n : ℕ). splice a 0 (answerBytes (c .output .alarm) (if eqb n 0 then chosen (c .output .count) (c .output .first) (c .output .second) else []))) (p ∙ sym q)
-    ∙ ap (λ (o : Output). splice a 0 (answerBytes (o .alarm) (if eqb (d .refusal) 0 then chosen (o .count) (o .first) (o .second) else []))) e
+    ap (λ (n : ℕ). splice a 0 (answerBytes (c .output .alarm) (c .output .alarm2) (if eqb n 0 then chosen (c .output .count) (c .output .first) (c .output .second) else []))) (p ∙ sym q)
+    ∙ ap (λ (o : Output). splice a 0 (answerBytes (o .alarm) (o .alarm2) (if eqb (d .refusal) 0 then chosen (o .count) (o .first) (o .second) else []))) e
 
 -- ---- the two calls
 

@@ -76,7 +76,7 @@ call-taken b r a z = taken-by b r a (callOf b r (length a)) refl (asked b r a) z
 -- ---- the outcome
 
 abbrev pub left : (b a : List ℕ) → Change → Outcome
-left b a c = outcome 0 (bookWith b c) (splice a 0 (answerBytes (c .output .alarm) (messagesOf c)))
+left b a c = outcome 0 (bookWith b c) (splice a 0 (answerBytes (c .output .alarm) (c .output .alarm2) (messagesOf c)))
 
 pub event-taken : (b r a : List ℕ) → eqb (callOf b r (length a) .refusal) 0 ≡ true → eventOf b r a ≡ left b a (callOf b r (length a))
 unfolding eventOf
@@ -178,10 +178,10 @@ keeps-sizes b r a =
     either-way (Sizes b r a) b r a
     (λ t.
     let c : Change = stepOf (bookOf b) (eventIn r) in
-    let w : List ℕ = answerBytes (c .output .alarm) (messagesOf c) in
+    let w : List ℕ = answerBytes (c .output .alarm) (c .output .alarm2) (messagesOf c) in
     let k : (Bytes b → Bytes r → Keeps b (bookWith b c)) = λ x y. writes b r x y (t .keeps) (t .reads) (t .taken) .keeps in
     record {
-      answer = length-splice a 0 w (omega (arith, t .room, answer-most (c .output .alarm) (messagesOf c) (messages-few c)));
+      answer = length-splice a 0 w (omega (arith, t .room, answer-most (c .output .alarm) (c .output .alarm2) (messagesOf c) (messages-few c)));
       book = λ x y. k x y .same;
       bytes = λ x y. k x y .bytes x;
     })

@@ -19,7 +19,8 @@ use Rattle.machine.specs.Machine.{stepOf, after}
 use Rattle.machine.specs.History.{Decoded, unread, readAs}
 use Rattle.machine.specs.Said.{Answers}
 use Rattle.machine.specs.Calls.{Form, lineAt, calls, Step, stateOf, follow, justReturned}
-use Rattle.machine.specs.Claim.{Demand3, OneOrder}
+use Rattle.machine.specs.Claim.{Demand3, OneOrder, Each}
+use Rattle.machine.specs.Short.{isWhole}
 use Rattle.machine.specs.Since.{Demand3From, Net}
 use Rattle.claims.specs.Questions.{isBooking, used, mispriced, adds, firstNo}
 use Rattle.step.specs.Entries.{bookWith, Outcome, eventOf, startOf, startRefusal, checkOf}
@@ -68,7 +69,7 @@ pub record Demand1 : Type 0 where
   -- the records that question 7 is asked about are those that the event adds
   pub grown : (b r a : List ℕ) → Bytes b → Bytes r → eventOf b r a .returned ≡ 0 → Grown (bookOf b) (eventIn r) (bookOf (eventOf b r a .book))
 
--- our reader reads the answer of an event taken: its messages and its alarm are the machine's own, and the alarm is one of the paper's or none
+-- our reader reads the answer of an event taken: its messages and its two alarms are the machine's own; none, one of the paper's alone, or 6 and then 1
 abbrev pub AnswersOnBytes : Type 0
 AnswersOnBytes = (b r a : List ℕ) → Bytes b → Bytes r → eventOf b r a .returned ≡ 0 → Answers (stepOf (bookOf b) (eventIn r)) (eventOf b r a .answer)
 
@@ -122,6 +123,12 @@ entries = record {
 -- DEMAND 3: after start with any setting and any list of calls
 abbrev pub Demand3OnBytes : Type 0
 Demand3OnBytes = (b : List ℕ) (setting : ℕ) → setting < 2 ^ 32 → startRefusal b ≡ 0 → (cs : List Call) → Demand3 (calls entries (startOf b setting) [] cs)
+
+-- ---- wish 8
+
+-- A FILLED ORDER IS FILLED WHOLE: after start with any setting and any list of calls. It is no rule: a book from before may hold one that is short
+abbrev pub FilledWholeOnBytes : Type 0
+FilledWholeOnBytes = (b : List ℕ) (setting : ℕ) → setting < 2 ^ 32 → startRefusal b ≡ 0 → (cs : List Call) → Each (calls entries (startOf b setting) [] cs) isWhole
 
 -- ---- wish 10: since a return
 

@@ -42,7 +42,7 @@ fn written_again(s: &[u8], r: AnswerRead) -> bool {
     let mut out = [0u8; 1024];
     let first = r.first;
     let second = r.second;
-    let n = records::write_answer(&mut out, r.alarm, r.count, first, second) as usize;
+    let n = records::write_answer(&mut out, r.alarm, r.alarm2, r.count, first, second) as usize;
     same(s, &out, n)
 }
 

@@ -3,6 +3,7 @@ pub mod Days
 pub mod Pinned
 pub mod Sources
 pub mod Opens
+pub mod Short
 pub mod Handled
 pub mod Counted
 pub mod Broken

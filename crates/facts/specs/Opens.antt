@@ -76,10 +76,13 @@ record Opens : Type 0 where
   -- a booking moves it, without a message
   booking : moves [] books ≡ moved [] 0 100
   -- the status of a refusal moves it: with the client's cancel by a message 17 alone, with the gateway's by no message at all
-  refusal : moves (books ∷ cancels D ∷ []) (rejectOf (X- 1) (number 13 1 50 ∷ [])) ≡ moved (17 ∷ []) 100 0
-  refusal-silent : moves (books ∷ gatewayCancels ∷ []) (rejectOf (X- 1) (number 13 1 50 ∷ [])) ≡ moved [] 100 0
+  refusal : moves (books ∷ cancels D ∷ []) (rejectOf (X- 1) (number 13 1 52 ∷ [])) ≡ moved (17 ∷ []) 100 0
+  refusal-silent : moves (books ∷ gatewayCancels ∷ []) (rejectOf (X- 1) (number 13 1 52 ∷ [])) ≡ moved [] 100 0
   -- a refusal without a status does not
   refusal-alone : moves (books ∷ cancels D ∷ []) (rejects (X- 1) 99) ≡ moved (17 ∷ []) 100 100
+  -- nor does Filled below the quantity, in a refusal and in a report
+  refusal-short : moves (books ∷ cancels D ∷ []) (rejectOf (X- 1) (number 13 1 50 ∷ [])) ≡ moved (17 ∷ []) 100 100
+  report-short : moves (books ∷ []) (turns X 48 50) ≡ moved (16 ∷ []) 100 100
 
 opened : Opens
 unfolding called
@@ -103,4 +106,6 @@ opened = record {
   refusal = refl;
   refusal-silent = refl;
   refusal-alone = refl;
+  refusal-short = refl;
+  report-short = refl;
 }

@@ -1,4 +1,4 @@
--- The papers' numbers, each by a smallest list of events that gives it: fixed texts 1 to 18, reasons and their origin, alarms 1 to 5, the kinds of messages, and the
+-- The papers' numbers, each by a smallest list of events that gives it: fixed texts 1 to 18, reasons and their origin, alarms 1 to 6, the kinds of messages, and the
 -- codes that end an order. All stand here as they are written in docs/SCOPE.md and none by its name of Constants or Codes, so that a wrong number there is refused. Rests on Play.
 use Prim.Native.Nat.{ℕ}
 use mathlib.Core.Path.{_≡_, refl}
@@ -11,7 +11,7 @@ use Rattle.machine.specs.declared.Change.{Change}
 
 -- ---- the words of the table
 
--- what the last of the calls puts out: how many messages; of the first its kind, ExecType, response-to, reason, the reason's origin, and text number; and the alarm
+-- what the last of the calls puts out: how many messages; of the first its kind, ExecType, response-to, reason, the reason's origin, and text number; and both alarms
 record Said : Type 0 where
   count : ℕ
   kind : ℕ
@@ -21,10 +21,11 @@ record Said : Type 0 where
   origin : ℕ
   text : ℕ
   alarm : ℕ
+  alarm2 : ℕ
 
-abbrev saidOf : List Message → (alarm : ℕ) → Said
-saidOf [] alarm = record { count = 0; kind = 0; exectype = 0; responseto = 0; reason = 0; origin = 0; text = 0; alarm = alarm }
-saidOf (m ∷ ms) alarm = record {
+abbrev saidOf : List Message → (alarm alarm2 : ℕ) → Said
+saidOf [] alarm alarm2 = record { count = 0; kind = 0; exectype = 0; responseto = 0; reason = 0; origin = 0; text = 0; alarm = alarm; alarm2 = alarm2 }
+saidOf (m ∷ ms) alarm alarm2 = record {
   count = length (m ∷ ms);
   kind = m .kind;
   exectype = m .exec .exectype;
@@ -33,10 +34,11 @@ saidOf (m ∷ ms) alarm = record {
   origin = m .told .origin;
   text = m .told .fixedtext;
   alarm = alarm;
+  alarm2 = alarm2;
 }
 
 abbrev changeSays : Change → Said
-changeSays c = saidOf (messagesOf c) (c .output .alarm)
+changeSays c = saidOf (messagesOf c) (c .output .alarm) (c .output .alarm2)
 
 -- first some calls on the empty book, then the one
 abbrev says : (setting : ℕ) → List (List ℕ) → (event : List ℕ) → Said
@@ -53,6 +55,7 @@ tells kind exectype responseto reason origin text = record {
   origin = origin;
   text = text;
   alarm = 0;
+  alarm2 = 0;
 }
 
 -- a cancel, or a replace, is refused for a reason of ours
@@ -64,7 +67,7 @@ replaceRefused reason text = tells 17 0 2 reason 1 text
 
 -- no message, and an alarm
 abbrev alarms : ℕ → Said
-alarms = saidOf []
+alarms n = saidOf [] n 0
 
 -- ---- fixed texts, each with its reason
 
@@ -176,6 +179,9 @@ record Alarms : Type 0 where
   alarm-4 : says 10000 (books ∷ []) (unknownToVenue X) ≡ alarms 4
   -- fill on done order
   alarm-5 : says 10000 (books ∷ turns X 52 52 ∷ []) (fills 40 40 (money 10) (money 10)) ≡ alarms 5
+  -- filled, but short: alone, and before alarm 1 in one answer
+  alarm-6 : says 10000 (books ∷ gatewayCancels ∷ []) (turns (X- 1) 54 50) ≡ alarms 6
+  alarm-6-1 : says 10000 (books ∷ gatewayCancels ∷ []) (rejectOf (X- 1) (number 13 1 50 ∷ number 19 4 1 ∷ [])) ≡ saidOf [] 6 1
 
 alarms-pinned : Alarms
 unfolding called
@@ -190,16 +196,19 @@ alarms-pinned = record {
   none-cancel = refl;
   alarm-4 = refl;
   alarm-5 = refl;
+  alarm-6 = refl;
+  alarm-6-1 = refl;
 }
 
 -- ---- codes: which statuses end an order, the kinds of messages, and ExecTypes of our own
 
 record Codes : Type 0 where
-  -- 2 4 C 8 end it; A 0 1 6 E do not, and a cancel goes out
-  done-filled : says 10000 (books ∷ turns X 70 50 ∷ []) (cancels D) ≡ cancelRefused 0 7
+  -- 2 of all that is ordered, 4 C 8 end it; A 0 1 6 E do not, nor does 2 of less, and a cancel goes out
+  done-filled : says 10000 (books ∷ reportOf X 70 50 100 (money 10) 100 (money 10) [] ∷ []) (cancels D) ≡ cancelRefused 0 7
   done-canceled : says 10000 (books ∷ turns X 52 52 ∷ []) (cancels D) ≡ cancelRefused 0 7
   done-expired : says 10000 (books ∷ turns X 67 67 ∷ []) (cancels D) ≡ cancelRefused 0 7
   done-rejected : says 10000 (books ∷ turns X 56 56 ∷ []) (cancels D) ≡ cancelRefused 0 7
+  live-filled-short : says 10000 (books ∷ turns X 70 50 ∷ []) (cancels D) ≡ tells 19 0 0 0 0 0
   live-pending-new : says 10000 (books ∷ turns X 65 65 ∷ []) (cancels D) ≡ tells 19 0 0 0 0 0
   live-new : says 10000 (books ∷ turns X 48 48 ∷ []) (cancels D) ≡ tells 19 0 0 0 0 0
   live-partial : says 10000 (books ∷ turns X 70 49 ∷ []) (cancels D) ≡ tells 19 0 0 0 0 0
@@ -217,6 +226,7 @@ codes = record {
   done-canceled = refl;
   done-expired = refl;
   done-rejected = refl;
+  live-filled-short = refl;
   live-pending-new = refl;
   live-new = refl;
   live-partial = refl;

@@ -42,7 +42,14 @@ pub extern "C" fn event(book: &mut [u8], record: &[u8], answer: &mut [u8]) -> u3
     write::place_requests(book, c.requests);
     write::place_open(book, c.place, opening);
     let out = c.output;
-    let _ = records::write_answer(answer, out.alarm, out.count, out.first, out.second);
+    let _ = records::write_answer(
+        answer,
+        out.alarm,
+        out.alarm2,
+        out.count,
+        out.first,
+        out.second,
+    );
     0
 }
 

@@ -13,6 +13,7 @@ pub mod Steps
 pub mod Events
 pub mod Whole
 pub mod Start
+pub mod Short
 pub mod Touches
 pub mod OneOrder
 pub mod Calls

@@ -4,4 +4,5 @@ pub mod Rows
 pub mod Messages
 pub mod Orders
 pub mod Changes
+pub mod Alarms
 pub mod Steps

@@ -16,10 +16,10 @@ use Rattle.store.specs.declared.Request.{Request}
 use Rattle.text.specs.Words.{noText}
 use Rattle.machine.specs.Constants.{cancelKind, replaceKind, tooLate, unknown, alreadyPending, duplicate, other, ours, venues, textCancelling, textReplacePending, textBelowFilled, textBlocked, textDuplicate, textUnknownOrder, textDone, textTooMany, textSideOrSymbol, textRejected, textNotSent}
 use Rattle.format.specs.Codes.{pendingNew, new, partiallyFilled, pendingCancel, pendingReplace, rejected, execRejected, execStatus, limit}
-use Rattle.machine.specs.Orders.{oneMore, hasPending, hasGateway, limitPrice, isDone, setStatus, recordVenueOrderId, pendingTerms, nextExec, withPending, withGateway, isEmpty}
+use Rattle.machine.specs.Orders.{oneMore, hasPending, hasGateway, limitPrice, isDone, shortAlarm, setStatus, recordVenueOrderId, pendingTerms, nextExec, withPending, withGateway, isEmpty}
 use Rattle.store.specs.Orders.{noPending}
 use Rattle.machine.specs.Messages.{noPrice, report, cancelReject, newOrder, cancelRequest, replaceRequest, noNote, noLongText}
-use Rattle.machine.specs.Changes.{Event, unchanged, refusing, withOrder, answering, adding, telling, isFirst, isReplace, isGateway, isCancel, isAnswered, nextLink, nextDownstream, nextRequest, numberedOrder}
+use Rattle.machine.specs.Changes.{Event, unchanged, refusing, withOrder, answering, adding, telling, alarming, isFirst, isReplace, isGateway, isCancel, isAnswered, nextLink, nextDownstream, nextRequest, numberedOrder}
 use Rattle.machine.specs.GatewayCancel.{gatewayCancelInFlight, gatewayCancelRefused, resumeGatewayCancel}
 use Rattle.machine.specs.declared.Findings.{Findings}
 use Rattle.machine.specs.declared.Note.{Note}
@@ -181,6 +181,10 @@ refusedOrder k r o =
     else if not (eqb (r .status) 0) then setStatus (r .status) o′
     else notPending o′
 
+-- a short Filled that would be set
+unfoldable pub refusedAlarm : Refused → Order → ℕ
+refusedAlarm r o = if isDone (o .state .status) then 0 else shortAlarm (o .terms .qty) (o .state .cumqty) (r .status)
+
 -- what the client is told: the text that came, or that the venue rejected it; the venue's reason, or Other
 unfoldable pub refusedNote : Note → Note
 refusedNote n = record {
@@ -193,7 +197,7 @@ refusedNote n = record {
 unfoldable pub refuseRequest : Findings → ℕ → Request → (venue : ℕ) → Refused → Order → Change
 refuseRequest f k q venue r o =
     let o′ = refusedOrder k r o in
-    let c = answering k (unchanged (f .place) o′) in
+    let c = alarming (refusedAlarm r o) (answering k (unchanged (f .place) o′)) in
     if isFirst q then unchanged (f .place) o
     else if not (eqb (o .venue) venue) then unchanged (f .place) o
     else if isAnswered q then unchanged (f .place) o

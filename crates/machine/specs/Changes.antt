@@ -49,7 +49,7 @@ abbrev pub noRequests : Requests
 noRequests = record { answered = 0; superseded = 0; added = 0; request = noRequest }
 
 abbrev pub silent : Output
-silent = record { count = 0; first = noMessage; second = noMessage; alarm = 0 }
+silent = record { count = 0; first = noMessage; second = noMessage; alarm = 0; alarm2 = 0 }
 
 -- the order at a place as it stands, and nothing else
 unfoldable pub unchanged : (place : ℕ) → Order → Change
@@ -104,16 +104,24 @@ telling m c = record {
     first = if eqb (c .output .count) 0 then m else c .output .first;
     second = if eqb (c .output .count) 0 then c .output .second else m;
     alarm = c .output .alarm;
+    alarm2 = c .output .alarm2;
   };
 }
 
+-- an alarm is raised, behind the one that is there
 unfoldable pub alarming : ℕ → Change → Change
 alarming a c = record {
   refusal = c .refusal;
   place = c .place;
   order = c .order;
   requests = c .requests;
-  output = record { count = c .output .count; first = c .output .first; second = c .output .second; alarm = a };
+  output = record {
+    count = c .output .count;
+    first = c .output .first;
+    second = c .output .second;
+    alarm = if eqb (c .output .alarm) 0 then a else c .output .alarm;
+    alarm2 = if eqb (c .output .alarm) 0 then c .output .alarm2 else a;
+  };
 }
 
 -- ---- `next_downstream`: the order's next numbered downstream ClOrdID, and the request under it

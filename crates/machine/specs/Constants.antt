@@ -46,9 +46,12 @@ unknownAtVenueAlarm = 4
 abbrev pub fillOnDoneOrder : ℕ
 fillOnDoneOrder = 5
 
+abbrev pub filledShort : ℕ
+filledShort = 6
+
 -- the last of them
 abbrev pub mostAlarm : ℕ
-mostAlarm = fillOnDoneOrder
+mostAlarm = filledShort
 
 -- OrdRejReason(103) and CxlRejReason(102)
 abbrev pub unknownOrderReason : ℕ

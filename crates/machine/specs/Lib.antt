@@ -16,5 +16,6 @@ pub mod Events
 pub mod Kept
 pub mod Whole
 pub mod Reads
+pub mod Short
 pub mod Said
 pub mod Exchange

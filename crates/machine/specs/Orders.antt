@@ -18,6 +18,7 @@ use Rattle.store.specs.declared.GatewayCancel.{GatewayCancel}
 use Rattle.store.specs.declared.Order.{Order}
 use Rattle.store.specs.declared.Request.{Request}
 use Rattle.store.specs.Orders.{noOrder, noPending, noGateway}
+use Rattle.machine.specs.Constants.{filledShort}
 use Rattle.format.specs.Codes.{pendingNew, new, partiallyFilled, filled, canceled, expired, rejected, market, limit}
 
 -- one more, or the same at the top of the field's range, which the book's rules keep away
@@ -72,10 +73,21 @@ leavesQty o = if isDone (o .state .status) then 0 else o .terms .qty - o .state 
 unfoldable pub statusAt : ℕ → ℕ → ℕ
 statusAt cumqty s = if (eqb s new || eqb s pendingNew) && ltb 0 cumqty then partiallyFilled else s
 
+-- a Filled below the quantity
+unfoldable pub isShort : (qty cumqty s : ℕ) → Bool
+isShort qty cumqty s = eqb s filled && ltb cumqty qty
+
+-- it is set as New, and raises its alarm
+unfoldable pub unlessShort : (qty cumqty s : ℕ) → ℕ
+unlessShort qty cumqty s = if isShort qty cumqty s then new else s
+
+unfoldable pub shortAlarm : (qty cumqty s : ℕ) → ℕ
+shortAlarm qty cumqty s = if isShort qty cumqty s then filledShort else 0
+
 -- `set_status`: a done order has nothing pending and no gateway cancel
 unfoldable pub setStatus : ℕ → Order → Order
 setStatus s o =
-    let s′ : ℕ = statusAt (o .state .cumqty) s in
+    let s′ : ℕ = statusAt (o .state .cumqty) (unlessShort (o .terms .qty) (o .state .cumqty) s) in
     record {
       client = o .client;
       venue = o .venue;

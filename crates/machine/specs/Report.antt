@@ -11,7 +11,7 @@ use Rattle.store.specs.declared.Request.{Request}
 use Rattle.text.specs.Words.{noText}
 use Rattle.machine.specs.Constants.{unknownOrderReason, overfill, unknownAtVenueAlarm, fillOnDoneOrder, venues}
 use Rattle.format.specs.Codes.{pendingNew, new, partiallyFilled, pendingCancel, pendingReplace, canceled, rejected, execTrade, execReplaced, execRejected, execRestated, execDoneForDay, execStatus}
-use Rattle.machine.specs.Orders.{isDone, setStatus, recordVenueOrderId, applyReplace, nextExec, withState}
+use Rattle.machine.specs.Orders.{isDone, shortAlarm, setStatus, recordVenueOrderId, applyReplace, nextExec, withState}
 use Rattle.machine.specs.Messages.{report}
 use Rattle.machine.specs.Changes.{Event, Message, unchanged, withOrder, answering, superseding, telling, alarming, isFirst, isReplace, isGateway, isCancel, isAnswered}
 use Rattle.machine.specs.GatewayCancel.{resumeGatewayCancel}
@@ -150,4 +150,4 @@ venueReport f k q o e =
     else if not (eqb (o .venue) (e .venue)) then unchanged (f .place) o
     else dropped f k q o e
     (if ltb (orderedQty (accepts k q o e) o) (max (e .exec .cumqty) (o .state .cumqty)) then alarming overfill (unchanged (f .place) o)
-    else applyReport f k q o e)
+    else alarming (shortAlarm (orderedQty (accepts k q o e) o) (e .exec .cumqty) (statusTaken k q o e)) (applyReport f k q o e))

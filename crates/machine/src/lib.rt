@@ -48,12 +48,13 @@ pub struct Requests {
     pub request: Request,
 }
 
-// What an event puts out: up to two messages, and an alarm.
+// What an event puts out: up to two messages, and up to two alarms.
 pub struct Output {
     pub count: u8,
     pub first: Record,
     pub second: Record,
     pub alarm: u8,
+    pub alarm2: u8,
 }
 
 // What an event does. The order as it is left goes to the place that the link names: 0 is none,

@@ -125,6 +125,7 @@ fn silent() -> Output
         first: m,
         second: m,
         alarm: 0,
+        alarm2: 0,
     }
 }
 
@@ -230,11 +231,16 @@ pub fn sending_on(m: Record, q: Request, o: Order, c: Change) -> Change
     telling(m, adding(q, out))
 }
 
+// An alarm is raised, behind the one that is there.
 pub fn alarming(a: u8, c: Change) -> Change
     ensures { λ r. ⌜ r ≡ alarming a c ⌝ }
 {
     let mut out = c;
-    out.output.alarm = a;
+    if c.output.alarm == 0 {
+        out.output.alarm = a;
+        return out;
+    }
+    out.output.alarm2 = a;
     out
 }
 

@@ -3,7 +3,7 @@
 ghost use mathlib.Core.Path.{_≡_};
 ghost use Prim.Native.Nat.{_-_};
 ghost use Rattle.prelude.specs.Cases.{if_then_else_};
-ghost use Rattle.machine.specs.Orders.{oneMore, isEmpty, hasPending, hasGateway, isDone, leavesQty, statusAt, setStatus, textNone, keptOrderId, recordVenueOrderId, pendingTerms, applyReplace, nextSequence, nextExec};
+ghost use Rattle.machine.specs.Orders.{oneMore, isEmpty, hasPending, hasGateway, isDone, leavesQty, statusAt, isShort, unlessShort, shortAlarm, setStatus, textNone, keptOrderId, recordVenueOrderId, pendingTerms, applyReplace, nextSequence, nextExec};
 use format::codes;
 use prelude::Terms;
 use prelude::Text;
@@ -14,6 +14,9 @@ use store::Order;
 use store::Pending;
 use store::Request;
 use store::State;
+
+// The alarm of a Filled below the quantity.
+const FILLED_SHORT: u8 = 6;
 
 pub const NO_TEXT: Text = Text {
     bytes: [0u8; 32],
@@ -173,11 +176,39 @@ pub fn status_at(cumqty: u64, s: u8) -> u8
     s
 }
 
+// A Filled below the quantity.
+fn is_short(qty: u64, cumqty: u64, s: u8) -> bool
+    ensures { λ r. ⌜ r ≡ isShort qty cumqty s ⌝ }
+{
+    (s == codes::FILLED) & (cumqty < qty)
+}
+
+// It is set as New.
+fn unless_short(qty: u64, cumqty: u64, s: u8) -> u8
+    ensures { λ r. ⌜ r ≡ unlessShort qty cumqty s ⌝ }
+{
+    if is_short(qty, cumqty, s) {
+        return codes::NEW;
+    }
+    s
+}
+
+// And it raises its alarm; 0 is none.
+pub fn short_alarm(qty: u64, cumqty: u64, s: u8) -> u8
+    ensures { λ r. ⌜ r ≡ shortAlarm qty cumqty s ⌝ }
+{
+    if is_short(qty, cumqty, s) {
+        return FILLED_SHORT;
+    }
+    0
+}
+
 // A done order has nothing pending and no gateway cancel.
 pub fn set_status(s: u8, o: Order) -> Order
     ensures { λ r. ⌜ r ≡ setStatus s o ⌝ }
 {
-    let status = status_at(o.state.cumqty, s);
+    let cumqty = o.state.cumqty;
+    let status = status_at(cumqty, unless_short(o.terms.qty, cumqty, s));
     let mut out = o;
     out.state.status = status;
     if is_done(status) {

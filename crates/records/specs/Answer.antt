@@ -15,12 +15,12 @@ use Rattle.records.specs.Fields.{blank}
 use Rattle.records.specs.Record.{recordBytes, recordAt, isMessage}
 use Rattle.format.specs.Refusal.{ranged, refusalBy, messageShaped}
 
--- the head: the whole length in 2 bytes, how many messages, the alarm
-abbrev pub marks : ℕ → ℕ → List ℕ
-marks count alarm = count ∷ alarm ∷ []
+-- the head: the whole length in 2 bytes, how many messages, the alarm, the second alarm
+abbrev pub marks : (count alarm alarm2 : ℕ) → List ℕ
+marks count alarm alarm2 = count ∷ alarm ∷ alarm2 ∷ []
 
 abbrev pub headSize : ℕ
-headSize = 4
+headSize = 5
 
 abbrev pub lengthIn : List ℕ → ℕ
 lengthIn s = word16 s 0
@@ -30,6 +30,9 @@ countIn s = getD s 2 0
 
 abbrev pub alarmIn : List ℕ → ℕ
 alarmIn s = getD s 3 0
+
+abbrev pub alarm2In : List ℕ → ℕ
+alarm2In s = getD s 4 0
 
 -- the most bytes of a record, and of an answer of two
 abbrev pub mostRecord : ℕ
@@ -44,11 +47,11 @@ abbrev pub messagesBytes : List Record → List ℕ
 messagesBytes [] = []
 messagesBytes (m ∷ ms) = recordBytes m ++ messagesBytes ms
 
-unfoldable pub headBytes : ℕ → ℕ → ℕ → List ℕ
-headBytes n count alarm = bytesOf 2 n ++ marks count alarm
+unfoldable pub headBytes : (n count alarm alarm2 : ℕ) → List ℕ
+headBytes n count alarm alarm2 = bytesOf 2 n ++ marks count alarm alarm2
 
-unfoldable pub answerBytes : ℕ → List Record → List ℕ
-answerBytes alarm ms = headBytes (headSize + length (messagesBytes ms)) (length ms) alarm ++ messagesBytes ms
+unfoldable pub answerBytes : (alarm alarm2 : ℕ) → List Record → List ℕ
+answerBytes alarm alarm2 ms = headBytes (headSize + length (messagesBytes ms)) (length ms) alarm alarm2 ++ messagesBytes ms
 
 -- none, the first, or both
 abbrev pub chosen : ℕ → Record → Record → List Record
@@ -90,6 +93,9 @@ answerMessages s = if eqb (answerRefusal s) 0 then messagesFrom (answerIn s) hea
 unfoldable pub answerAlarm : List ℕ → ℕ
 answerAlarm s = if eqb (answerRefusal s) 0 then alarmIn s else 0
 
+unfoldable pub answerAlarm2 : List ℕ → ℕ
+answerAlarm2 s = if eqb (answerRefusal s) 0 then alarm2In s else 0
+
 -- ---- what code reads
 
 -- an answer's messages: the first and the second, blank where there is none
@@ -101,4 +107,5 @@ pub record Holds (ms : List Record) (r : AnswerRead) : Type 0 where
 pub record ReadsAnswer (s : List ℕ) (r : AnswerRead) : Type 0 where
   pub refusal : r .refusal ≡ answerRefusal s
   pub alarm : r .alarm ≡ answerAlarm s
+  pub alarm2 : r .alarm2 ≡ answerAlarm2 s
   pub messages : Holds (answerMessages s) r

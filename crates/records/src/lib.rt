@@ -22,12 +22,14 @@ mod put;
 mod scan;
 mod take;
 
-// The head of an answer: its length in 2 bytes, how many messages, the alarm.
-pub const HEAD: usize = 4;
+// The head of an answer: its length in 2 bytes, how many messages, the alarm, the second alarm.
+pub const HEAD: usize = 5;
 
 const COUNT: usize = 2;
 
 const ALARM: usize = 3;
+
+const ALARM2: usize = 4;
 
 // A field's number and whether it is in range.
 struct Seen {
@@ -102,11 +104,12 @@ struct Shape {
     at: [usize; 33],
 }
 
-// An answer that was read: no messages and no alarm where it is refused, all zero where there is no message.
+// An answer that was read: no messages and no alarms where it is refused, all zero where there is no message.
 pub struct AnswerRead {
     pub refusal: u32,
     pub count: u8,
     pub alarm: u8,
+    pub alarm2: u8,
     pub first: Record,
     pub second: Record,
 }
@@ -250,34 +253,41 @@ fn put_record(dst: &mut [u8], o: usize, r: Record) -> usize
     put::put_fields(dst, q, map, &numbers, high, ids, text)
 }
 
-fn put_head(dst: &mut [u8], n: usize, count: u8, alarm: u8)
+fn put_head(dst: &mut [u8], n: usize, count: u8, alarm: u8, alarm2: u8)
     requires { ⌜ headSize ≤ length (now dst) ⌝ }
-    ensures { λ _. ⌜ now (dst .exit) ≡ splice (now (dst .entry)) 0 (headBytes n count alarm) ⌝ }
+    ensures { λ _. ⌜ now (dst .exit) ≡ splice (now (dst .entry)) 0 (headBytes n count alarm alarm2) ⌝ }
 {
-    let marks = [count, alarm];
+    let marks = [count, alarm, alarm2];
     let p = fields::put_number(dst, 0, n as u64, COUNT);
     fields::copy(dst, p, &marks, 0, HEAD - COUNT);
 }
 
 // Writes an answer of at most two messages, and returns its length; nothing, and 0, where the
 // buffer has not 1,024 bytes.
-pub fn write_answer(answer: &mut [u8], alarm: u8, count: u8, first: Record, second: Record) -> u32
-    ensures { λ r. ⌜ (r ≡ (if leb 1024 (length (now (answer .entry))) then length (answerBytes alarm (chosen count first second)) else 0)) × (now (answer .exit) ≡ (if leb 1024 (length (now (answer .entry))) then splice (now (answer .entry)) 0 (answerBytes alarm (chosen count first second)) else now (answer .entry))) ⌝ }
+pub fn write_answer(
+    answer: &mut [u8],
+    alarm: u8,
+    alarm2: u8,
+    count: u8,
+    first: Record,
+    second: Record,
+) -> u32
+    ensures { λ r. ⌜ (r ≡ (if leb 1024 (length (now (answer .entry))) then length (answerBytes alarm alarm2 (chosen count first second)) else 0)) × (now (answer .exit) ≡ (if leb 1024 (length (now (answer .entry))) then splice (now (answer .entry)) 0 (answerBytes alarm alarm2 (chosen count first second)) else now (answer .entry))) ⌝ }
 {
     if answer.len() < 1024 {
         return 0;
     }
     if count == 0 {
-        put_head(answer, HEAD, 0, alarm);
+        put_head(answer, HEAD, 0, alarm, alarm2);
         return HEAD as u32;
     }
     let p = put_record(answer, HEAD, first);
     if count == 1 {
-        put_head(answer, p, 1, alarm);
+        put_head(answer, p, 1, alarm, alarm2);
         return p as u32;
     }
     let q = put_record(answer, p, second);
-    put_head(answer, q, 2, alarm);
+    put_head(answer, q, 2, alarm, alarm2);
     q as u32
 }
 
@@ -297,20 +307,21 @@ fn read_message(s: &[u8], o: usize) -> Got
 }
 
 fn no_answer(refusal: u32) -> AnswerRead
-    ensures { λ r. ⌜ (r .refusal ≡ refusal) × (r .alarm ≡ 0) × Holds [] r ⌝ }
+    ensures { λ r. ⌜ (r .refusal ≡ refusal) × (r .alarm ≡ 0) × (r .alarm2 ≡ 0) × Holds [] r ⌝ }
 {
     let none = take::no_record();
     AnswerRead {
         refusal,
         count: 0,
         alarm: 0,
+        alarm2: 0,
         first: none,
         second: none,
     }
 }
 
-fn read_none(s: &[u8], alarm: u8) -> AnswerRead
-    ensures { λ r. ⌜ ReadsFrom (now (s .entry)) 0 alarm r ⌝ }
+fn read_none(s: &[u8], alarm: u8, alarm2: u8) -> AnswerRead
+    ensures { λ r. ⌜ ReadsFrom (now (s .entry)) 0 alarm alarm2 r ⌝ }
 {
     if s.len() != HEAD {
         return no_answer(3);
@@ -320,13 +331,14 @@ fn read_none(s: &[u8], alarm: u8) -> AnswerRead
         refusal: 0,
         count: 0,
         alarm,
+        alarm2,
         first: none,
         second: none,
     }
 }
 
-fn read_one(s: &[u8], alarm: u8) -> AnswerRead
-    ensures { λ r. ⌜ ReadsFrom (now (s .entry)) 1 alarm r ⌝ }
+fn read_one(s: &[u8], alarm: u8, alarm2: u8) -> AnswerRead
+    ensures { λ r. ⌜ ReadsFrom (now (s .entry)) 1 alarm alarm2 r ⌝ }
 {
     let got = read_message(s, HEAD);
     if got.refusal == 3 {
@@ -344,14 +356,15 @@ fn read_one(s: &[u8], alarm: u8) -> AnswerRead
         refusal: 0,
         count: 1,
         alarm,
+        alarm2,
         first,
         second,
     }
 }
 
-fn read_two(s: &[u8], alarm: u8) -> AnswerRead
+fn read_two(s: &[u8], alarm: u8, alarm2: u8) -> AnswerRead
     requires { ⌜ length (now s) < 65536 ⌝ }
-    ensures { λ r. ⌜ ReadsFrom (now (s .entry)) 2 alarm r ⌝ }
+    ensures { λ r. ⌜ ReadsFrom (now (s .entry)) 2 alarm alarm2 r ⌝ }
 {
     let one = read_message(s, HEAD);
     if one.refusal == 3 {
@@ -376,6 +389,7 @@ fn read_two(s: &[u8], alarm: u8) -> AnswerRead
         refusal: 0,
         count: 2,
         alarm,
+        alarm2,
         first,
         second,
     }
@@ -397,15 +411,16 @@ pub fn read_answer(s: &[u8]) -> AnswerRead
     }
     let count = s[COUNT];
     let alarm = s[ALARM];
+    let alarm2 = s[ALARM2];
     let a = &s[0..n];
     if count == 0 {
-        return read_none(a, alarm);
+        return read_none(a, alarm, alarm2);
     }
     if count == 1 {
-        return read_one(a, alarm);
+        return read_one(a, alarm, alarm2);
     }
     if count == 2 {
-        return read_two(a, alarm);
+        return read_two(a, alarm, alarm2);
     }
     no_answer(3)
 }

@@ -4,9 +4,9 @@ ghost use mathlib.Core.Path.{_≡_};
 ghost use Prim.Native.Nat.{_-_, max};
 ghost use Rattle.prelude.specs.Cases.{if_then_else_};
 ghost use Rattle.machine.specs.Report.{saysUnknownAtVenue, unknownAtVenue, isRejection, pendingHere, behind, stale, repeats, droppedStale, droppedRepeat, statusTaken, accepts, answersRequest, orderedQty, reportedOrder, fillPriceOf, reportNote, clientReport, settles, applyReport, venueReport, dropped};
-ghost use Rattle.machine.specs.Orders.{applyReplace};
+ghost use Rattle.machine.specs.Orders.{applyReplace, shortAlarm};
 ghost use Rattle.machine.specs.Machine.{onReport};
-ghost use Rattle.machine.specs.Changes.{unchanged};
+ghost use Rattle.machine.specs.Changes.{unchanged, alarming};
 ghost use Rattle.machine.specs.GatewayCancel.{resumeGatewayCancel};
 ghost use Rattle.machine.specs.Amend.{refuseRequest};
 ghost use Rattle.report.specs.Rejection.{rejectionOf};
@@ -261,29 +261,40 @@ fn settles(accepted: bool, s: u8, k: u16, q: Request, o: Order, c: Change) -> Ch
     c
 }
 
-// The change of a report that leaves the order as it is given.
-fn settling(accepted: bool, s: u8, k: u16, q: Request, o: Order, place: u16, left: Order) -> Change
-    ensures { λ r. ⌜ r ≡ settles accepted s k q o (unchanged place left) ⌝ }
+// The change of a report that leaves the order as it is given, with the alarm `a`; 0 is none.
+fn settling(
+    a: u8,
+    accepted: bool,
+    s: u8,
+    k: u16,
+    q: Request,
+    o: Order,
+    place: u16,
+    left: Order,
+) -> Change
+    ensures { λ r. ⌜ r ≡ alarming a (settles accepted s k q o (unchanged place left)) ⌝ }
 {
-    settles(accepted, s, k, q, o, change::unchanged(place, left))
+    settles(accepted, s, k, q, o, change::raising(a, place, left))
 }
 
-// The report is applied. An ack of the gateway's own cancel is not the client's.
-fn apply_report(f: Findings, k: u16, q: Request, o: Order, e: Record) -> Change
-    ensures { λ r. ⌜ r ≡ applyReport f k q o e ⌝ }
+// The report is applied, and a short Filled raises its alarm: `most` is the quantity once an
+// accepted replace is set. An ack of the gateway's own cancel is not the client's.
+fn apply_report(most: u64, f: Findings, k: u16, q: Request, o: Order, e: Record) -> Change
+    ensures { λ r. ⌜ r ≡ alarming (shortAlarm most (e .exec .cumqty) (statusTaken k q o e)) (applyReport f k q o e) ⌝ }
 {
     let accepted = accepts(k, q, o, e);
     let s = status_taken(k, q, o, e);
+    let a = order::short_alarm(most, e.exec.cumqty, s);
     let rise = order::less(e.exec.cumqty, o.state.cumqty);
     let order = reported_order(accepted, s, q, o, e);
     if change::is_gateway(q) & (rise == 0) & !order::is_done(order.state.status) & !accepted {
-        return settling(accepted, s, k, q, o, f.place, order);
+        return settling(a, accepted, s, k, q, o, f.place, order);
     }
     let told = order::next_exec(order);
     let answers = answers_request(k, q, o);
     let price = fill_price(o, e);
     let m = client_report(answers, rise, q, price, told, e);
-    change::telling(m, settling(accepted, s, k, q, o, f.place, told))
+    change::telling(m, settling(a, accepted, s, k, q, o, f.place, told))
 }
 
 // What a rejection of a cancel or replace says: Rejected is not the order's status.
@@ -345,7 +356,7 @@ fn venue_report(f: Findings, k: u16, q: Request, o: Order, e: Record) -> Change
     if most < larger(e.exec.cumqty, o.state.cumqty) {
         return change::raising(OVERFILL, f.place, o);
     }
-    apply_report(f, k, q, o, e)
+    apply_report(most, f, k, q, o, e)
 }
 
 // Event 4, of a request that the book knows.

@@ -75,7 +75,7 @@ callOf b r room =
 unfoldable pub eventOf : (book event answer : List ℕ) → Outcome
 eventOf b r a =
     let c = callOf b r (length a) in
-    if eqb (c .refusal) 0 then outcome 0 (bookWith b c) (splice a 0 (answerBytes (c .output .alarm) (messagesOf c)))
+    if eqb (c .refusal) 0 then outcome 0 (bookWith b c) (splice a 0 (answerBytes (c .output .alarm) (c .output .alarm2) (messagesOf c)))
     else outcome (c .refusal) b a
 
 -- `start`: zeros but for the setting, or nothing where the length is another

@@ -179,9 +179,9 @@ pub fn cut(answer: &[u8]) -> Result<Vec<(usize, &[u8])>, u32> {
 }
 
 fn pieces(answer: &[u8]) -> Option<Vec<(usize, &[u8])>> {
-    let [low, high, count @ 0..=2, _, ..] = *answer else { return None };
+    let [low, high, count @ 0..=2, _, _, ..] = *answer else { return None };
     let answer = answer.get(..usize::from(u16::from_le_bytes([low, high])))?;
-    let mut at = 4;
+    let mut at = 5;
     let mut messages = Vec::new();
     for _ in 0..count {
         let length = length_of(answer.get(at..)?)?;

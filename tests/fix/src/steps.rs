@@ -124,9 +124,9 @@ pub fn cuts(entries: &Entries) -> Outcome {
 }
 
 fn answer(messages: &[&Vec<u8>]) -> Vec<u8> {
-    let length: usize = 4 + messages.iter().map(|message| message.len()).sum::<usize>();
+    let length: usize = 5 + messages.iter().map(|message| message.len()).sum::<usize>();
     let mut bytes = (length as u16).to_le_bytes().to_vec();
-    bytes.extend([messages.len() as u8, 0]);
+    bytes.extend([messages.len() as u8, 0, 0]);
     messages.iter().for_each(|message| bytes.extend(*message));
     bytes
 }

@@ -198,13 +198,13 @@ cut-out s w ok n h =
     }
 
 -- OF AN ANSWER THAT WAS WRITTEN, what is cut out at message n is what the writer put there for it
-pub cut-written : (buf : List ℕ) (a : ℕ) (ms : List Record) → areMessages ms ≡ true → length ms ≤ 2 → length (answerBytes a ms) ≤ length buf
-    → Bytes (splice buf 0 (answerBytes a ms)) → (n : ℕ) → n < length ms
-    → cutAt (splice buf 0 (answerBytes a ms)) (placeOf (splice buf 0 (answerBytes a ms)) n) ≡ recordBytes (getD ms n blank)
-cut-written buf a ms ok few room w n h =
-    let s = splice buf 0 (answerBytes a ms) in
-    let y = answer-accepted buf a ms ok few room in
-    let e = answer-messages buf a ms ok few room in
+pub cut-written : (buf : List ℕ) (a a2 : ℕ) (ms : List Record) → areMessages ms ≡ true → length ms ≤ 2 → length (answerBytes a a2 ms) ≤ length buf
+    → Bytes (splice buf 0 (answerBytes a a2 ms)) → (n : ℕ) → n < length ms
+    → cutAt (splice buf 0 (answerBytes a a2 ms)) (placeOf (splice buf 0 (answerBytes a a2 ms)) n) ≡ recordBytes (getD ms n blank)
+cut-written buf a a2 ms ok few room w n h =
+    let s = splice buf 0 (answerBytes a a2 ms) in
+    let y = answer-accepted buf a a2 ms ok few room in
+    let e = answer-messages buf a a2 ms ok few room in
     let c : n < countIn s = omega (arith, count-in s y, ap length e) in
     cut-out s w y n c .writing ∙ ap (λ (l : List Record). recordBytes (getD l n blank)) e
 

@@ -33,7 +33,7 @@ module _ (b r a : List ℕ) where
 
   -- the answer that the change has
   abbrev said : Change → List ℕ
-  said c = splice a 0 (answerBytes (c .output .alarm) (chosen (c .output .count) (c .output .first) (c .output .second)))
+  said c = splice a 0 (answerBytes (c .output .alarm) (c .output .alarm2) (chosen (c .output .count) (c .output .first) (c .output .second)))
 
   module _ (c : Change) (h : c ≡ callOf b r (length a)) where
     pub left-refused : eqb (c .refusal) 0 ≡ false → Leaves (c .refusal) b a

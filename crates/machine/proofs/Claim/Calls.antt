@@ -20,9 +20,12 @@ module _ {In Held : Type 0} (f : Form In Held) (good : Held → Type 0) (t : Fai
       calls-run (f .next h i) (lineAt f h i ∷ past) is (t .stays h i g)
       ∙ ap (λ (e : Entry). run (f .read) (record { book = e .left; past = e ∷ past }) is) (t .same h i g)
 
+  -- calls from the empty book are a run of the machine
+  pub run-of : (setting : ℕ) (h : Held) → good h → f .bookOf h ≡ start setting .book → (is : List In) → calls f h [] is ≡ run (f .read) (start setting) is
+  run-of setting h g e is = calls-run h [] is g ∙ ap (λ (b : Book). run (f .read) (record { book = b; past = [] }) is) e
+
   pub demand-of : Kinds (f .read) → (setting : ℕ) (h : Held) → good h → f .bookOf h ≡ start setting .book → (is : List In) → Demand3 (calls f h [] is)
-  demand-of kinds setting h g e is =
-      subst Demand3 (sym (calls-run h [] is g ∙ ap (λ (b : Book). run (f .read) (record { book = b; past = [] }) is) e)) (demand In (f .read) kinds setting is)
+  demand-of kinds setting h g e is = subst Demand3 (sym (run-of setting h g e is)) (demand In (f .read) kinds setting is)
 
 -- one call more, at the end
 run-more : {In : Type 0} (read : In → Decoded) (s : State) (is : List In) (i : In) → next (run read s is) (read i) ≡ run read s (is ++ (i ∷ []))

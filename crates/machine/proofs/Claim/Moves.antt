@@ -22,7 +22,7 @@ use Rattle.store.specs.Orders.{noPending}
 use Rattle.machine.specs.Messages.{report, cancelReject, toVenue, newOrder, cancelRequest, replaceRequest}
 use Rattle.machine.specs.Changes.{Event, Message, unchanged, withOrder, answering, superseding, adding, telling, alarming, isGateway, isAnswered, numberedOrder}
 use Rattle.machine.specs.GatewayCancel.{begun, trySent, givenUp, sendGatewayCancel, cancelOrder, resumeGatewayCancel, stuck, retryGatewayCancel, gatewayCancelRefused}
-use Rattle.machine.specs.Amend.{refuse, statusReport, cancelGoes, newTerms, newPending, replaceGoes, notPending, refusedOrder, refuseRequest, venueCancelReject, sendRefused, firstFailed, sendFailed, unsent}
+use Rattle.machine.specs.Amend.{refuse, statusReport, cancelGoes, newTerms, newPending, replaceGoes, notPending, refusedOrder, refusedAlarm, refuseRequest, venueCancelReject, sendRefused, firstFailed, sendFailed, unsent}
 use Rattle.machine.specs.Report.{unknownAtVenue, stale, droppedStale, droppedRepeat, accepts, orderedQty, reportedOrder, clientReport, settles, applyReport, venueReport}
 use Rattle.records.specs.Answer.{chosen}
 use Rattle.machine.specs.Claim.{lastQty}
@@ -286,8 +286,8 @@ refuse-moves f k q venue r o =
     still : M (unchanged (f .place) o)
     still = more-moves 0 1 _ _ _ (omega arith) (unchanged-moves (f .place) o o (same-keeps o))
 
-    answered : Moves 0 (f .place) o (answering k (unchanged (f .place) (refusedOrder k r o)))
-    answered = answering-moves 0 (f .place) o _ (unchanged-moves (f .place) o _ (refused-keeps k r o)) k
+    answered : Moves 0 (f .place) o (alarming (refusedAlarm r o) (answering k (unchanged (f .place) (refusedOrder k r o))))
+    answered = alarming-moves 0 (f .place) o _ (answering-moves 0 (f .place) o _ (unchanged-moves (f .place) o _ (refused-keeps k r o)) k) _
 
 pending-live : (s : ℕ) → s ≡ pendingNew → isDone s ≡ false
 unfolding isDone
@@ -370,12 +370,12 @@ reject-moves f k q o e = resume-moves (f .place) o f _ (refuse-moves f k q (e .v
 -- ---- a report that is applied
 
 -- the order with the report's cumulative quantity, and the quantity that it may not pass
-record Grown (o q : Order) (cum qty : ℕ) : Type 0 where
-  same : whose q ≡ whose o
-  now : q .state .cumqty ≡ cum
-  most : q .terms .qty ≡ qty
+pub record Grown (o q : Order) (cum qty : ℕ) : Type 0 where
+  pub same : whose q ≡ whose o
+  pub now : q .state .cumqty ≡ cum
+  pub most : q .terms .qty ≡ qty
 
-reported-grown : (accepted : Bool) (s : ℕ) (q : Request) (o : Order) (e : Event) → Grown o (reportedOrder accepted s q o e) (e .exec .cumqty) (orderedQty accepted o)
+pub reported-grown : (accepted : Bool) (s : ℕ) (q : Request) (o : Order) (e : Event) → Grown o (reportedOrder accepted s q o e) (e .exec .cumqty) (orderedQty accepted o)
 unfolding reportedOrder setStatus recordVenueOrderId applyReplace pendingTerms orderedQty if_then_else_
 reported-grown true s q o e = record { same = refl; now = refl; most = refl }
 reported-grown false s q o e = record { same = refl; now = refl; most = refl }
@@ -483,7 +483,7 @@ report-moves f k q o e =
     (λ a. split-if M _ (λ s. split-if M _ (λ t. alarming-moves 2 (f .place) o _ still _) (λ t. still))
     (λ s. split-if M _ (λ r. more-moves 0 2 _ _ _ (omega arith) (unchanged-moves (f .place) o _ (named-keeps (e .ids .venueorderid) false o)))
     (λ r. split-if M _ (λ v. alarming-moves 2 (f .place) o _ still _)
-    (λ v. more-moves 1 2 _ _ _ (omega arith) (apply-moves f k q o e (not-stale k q o e s .0) (not-stale k q o e s .1) (let w : max (e .exec .cumqty) (o .state .cumqty) ≤ orderedQty (accepts k q o e) o = ltb-false _ _ v in omega arith)))))))
+    (λ v. more-moves 1 2 _ _ _ (omega arith) (alarming-moves 1 (f .place) o _ (apply-moves f k q o e (not-stale k q o e s .0) (not-stale k q o e s .1) (let w : max (e .exec .cumqty) (o .state .cumqty) ≤ orderedQty (accepts k q o e) o = ltb-false _ _ v in omega arith)) _))))))
   where
     M : Change → Type 0
     M = Moves 2 (f .place) o

@@ -21,7 +21,7 @@ use Rattle.store.specs.Orders.{noPending, noGateway}
 use Rattle.machine.specs.Messages.{report, cancelReject, toVenue, newOrder, cancelRequest, replaceRequest}
 use Rattle.machine.specs.Changes.{Event, Message, unchanged, withOrder, answering, superseding, adding, telling, alarming, isFirst, isReplace, isGateway, isCancel, isAnswered, nextNumber, nextDownstream, nextRequest, numberedOrder}
 use Rattle.machine.specs.GatewayCancel.{begun, trySent, givenUp, sendGatewayCancel, cancelOrder, gatewayCancelInFlight, gatewayCancelWaiting, resumeGatewayCancel, stuck, retryGatewayCancel, gatewayCancelRefused}
-use Rattle.machine.specs.Amend.{refuse, statusReport, cancelGoes, replaceGoes, notPending, refusedOrder, refuseRequest, venueCancelReject, sendRefused, firstFailed, sendFailed, resendable, unsent}
+use Rattle.machine.specs.Amend.{refuse, statusReport, cancelGoes, replaceGoes, notPending, refusedOrder, refusedAlarm, refuseRequest, venueCancelReject, sendRefused, firstFailed, sendFailed, resendable, unsent}
 use Rattle.machine.specs.Report.{unknownAtVenue, droppedStale, droppedRepeat, reportedOrder, clientReport, settles, applyReport, venueReport}
 use Rattle.machine.specs.Rules.{triesRule}
 use Rattle.records.specs.Answer.{chosen}
@@ -286,13 +286,13 @@ module _ (f : Findings) (o : Order) (rule : triesRule (o .gateway) ≡ true) whe
       (λ e. split-if (Rests f o) _ (λ e. still)
       (λ e. split-if (Rests f o) _ (λ h. rests answered)
       (λ h. split-if (Rests f o) _ (λ g. gateway-refused-rests (r .note) _ answered)
-      (λ g. rests (telling-idle o _ answered _ (unfold answering unchanged in refl) (plain-reject _ _ _ _ _ _ _)))))))
+      (λ g. rests (telling-idle o _ answered _ (unfold alarming answering unchanged in refl) (plain-reject _ _ _ _ _ _ _)))))))
     where
       still : Rests f o (unchanged (f .place) o)
       still = rests (unchanged-idle (f .place) o o (near-self o))
 
-      answered : Idle o (answering k (unchanged (f .place) (refusedOrder k r o)))
-      answered = answering-idle o _ (unchanged-idle (f .place) o _ (refused-near k r o)) k
+      answered : Idle o (alarming (refusedAlarm r o) (answering k (unchanged (f .place) (refusedOrder k r o))))
+      answered = alarming-idle o _ (answering-idle o _ (unchanged-idle (f .place) o _ (refused-near k r o)) k) _
 
   pub reject-rests : (k : ℕ) (q : Request) (e : Event) → Rests f o (venueCancelReject f k q o e)
   unfolding venueCancelReject
@@ -323,7 +323,7 @@ module _ (f : Findings) (o : Order) (rule : triesRule (o .gateway) ≡ true) whe
       (λ h. split-if (Rests f o) _ (λ a. rests still)
       (λ a. split-if (Rests f o) _ (λ s. split-if (Rests f o) _ (λ t. rests (alarming-idle o _ still _)) (λ t. rests still))
       (λ s. split-if (Rests f o) _ (λ r. rests (unchanged-idle (f .place) o _ (named-near (e .ids .venueorderid) false o)))
-      (λ r. split-if (Rests f o) _ (λ v. rests (alarming-idle o _ still _)) (λ v. rests (apply-idle k q e))))))
+      (λ r. split-if (Rests f o) _ (λ v. rests (alarming-idle o _ still _)) (λ v. rests (alarming-idle o _ (apply-idle k q e) _))))))
     where
       still : Idle o (unchanged (f .place) o)
       still = unchanged-idle (f .place) o o (near-self o)
@@ -367,9 +367,9 @@ module _ (f : Findings) (o : Order) (rule : triesRule (o .gateway) ≡ true) whe
       (λ e. split-if (Failed k q venue) _ (λ e. still)
       (λ e. split-if (Failed k q venue) _ (λ h. clash _ (both-true (isGateway q) _ h .0) g)
       (λ h. split-if (Failed k q venue) _ (λ t. clash _ t g)
-      (λ t. unfold telling answering unchanged in
+      (λ t. unfold telling alarming answering unchanged in
       record {
-        shape = stays (telling-idle o _ (answering-idle o _ (unchanged-idle (f .place) o _ (refused-near k r o)) k) _ refl (plain-reject _ _ _ _ _ _ _)) (λ z. clash _ z g);
+        shape = stays (telling-idle o _ (alarming-idle o _ (answering-idle o _ (unchanged-idle (f .place) o _ (refused-near k r o)) k) _) _ refl (plain-reject _ _ _ _ _ _ _)) (λ z. clash _ z g);
         answers = inr refl;
         supersedes = refl;
       })))))

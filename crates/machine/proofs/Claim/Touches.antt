@@ -8,7 +8,7 @@ use Rattle.store.specs.declared.Order.{Order}
 use Rattle.store.specs.declared.Request.{Request}
 use Rattle.machine.specs.Changes.{Event, Message, unchanged, answering, superseding, adding, telling, alarming, nextRequest}
 use Rattle.machine.specs.GatewayCancel.{sendGatewayCancel, resumeGatewayCancel, stuck, retryGatewayCancel, gatewayCancelRefused}
-use Rattle.machine.specs.Amend.{refuseRequest, venueCancelReject, firstFailed, sendFailed, unsent}
+use Rattle.machine.specs.Amend.{refusedOrder, refusedAlarm, refuseRequest, venueCancelReject, firstFailed, sendFailed, unsent}
 use Rattle.machine.specs.Report.{unknownAtVenue, droppedStale, droppedRepeat, settles, applyReport, venueReport}
 use Rattle.machine.specs.Machine.{onReport}
 use Rattle.machine.specs.declared.Findings.{Findings}
@@ -74,9 +74,12 @@ module _ (f : Findings) (k : ℕ) (o : Order) where
       split-if (Touches f k o) _ (λ e. none-touched _ o)
       (λ e. split-if (Touches f k o) _ (λ e. none-touched _ o)
       (λ e. split-if (Touches f k o) _ (λ e. none-touched _ o)
-      (λ e. split-if (Touches f k o) _ (λ e. answering-touches _ (none-touched _ _))
-      (λ e. split-if (Touches f k o) _ (λ e. gateway-refused-touches _ (answering-touches _ (none-touched _ _)) _)
-      (λ e. telling-touches _ (answering-touches _ (none-touched _ _)) _)))))
+      (λ e. split-if (Touches f k o) _ (λ e. answered)
+      (λ e. split-if (Touches f k o) _ (λ e. gateway-refused-touches _ answered _)
+      (λ e. telling-touches _ answered _)))))
+    where
+      answered : Touches f k o (alarming (refusedAlarm r o) (answering k (unchanged (f .place) (refusedOrder k r o))))
+      answered = alarming-touches _ (answering-touches _ (none-touched _ _)) _
 
   pub reject-touches : (q : Request) (e : Event) → Touches f k o (venueCancelReject f k q o e)
   unfolding venueCancelReject
@@ -100,7 +103,7 @@ module _ (f : Findings) (k : ℕ) (o : Order) where
       (λ h. split-if (Touches f k o) _ (λ a. none-touched _ o)
       (λ a. split-if (Touches f k o) _ (λ s. split-if (Touches f k o) _ (λ t. alarming-touches _ (none-touched _ o) _) (λ t. none-touched _ o))
       (λ s. split-if (Touches f k o) _ (λ r. none-touched _ _)
-      (λ r. split-if (Touches f k o) _ (λ v. alarming-touches _ (none-touched _ o) _) (λ v. apply-touches q e)))))
+      (λ r. split-if (Touches f k o) _ (λ v. alarming-touches _ (none-touched _ o) _) (λ v. alarming-touches _ (apply-touches q e) _)))))
 
   pub on-report-touches : (q : Request) (e : Event) → Touches f k o (onReport e f k q o)
   unfolding onReport

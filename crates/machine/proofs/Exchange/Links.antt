@@ -19,7 +19,7 @@ use Rattle.store.specs.Orders.{noPending, noGateway}
 use Rattle.machine.specs.Messages.{cancelRequest, replaceRequest, toVenue}
 use Rattle.machine.specs.Changes.{Event, Message, unchanged, refusing, withOrder, answering, superseding, adding, telling, alarming, nextLink, nextRequest, numberedOrder}
 use Rattle.machine.specs.GatewayCancel.{outstandingCancel, gatewayCancelInFlight, begun, trySent, givenUp, sendGatewayCancel, cancelOrder, gatewayCancelWaiting, resumeGatewayCancel, stuck, retryGatewayCancel, gatewayCancelRefused}
-use Rattle.machine.specs.Amend.{amendRefusal, refuse, statusReport, alreadyTaken, cancelRefusal, cancelGoes, cancel, replaceRefusal, newPending, replaceGoes, replace, notPending, refusedOrder, refuseRequest, venueCancelReject, sendRefused, firstFailed, sendFailed, unsent}
+use Rattle.machine.specs.Amend.{amendRefusal, refuse, statusReport, alreadyTaken, cancelRefusal, cancelGoes, cancel, replaceRefusal, newPending, replaceGoes, replace, notPending, refusedOrder, refusedAlarm, refuseRequest, venueCancelReject, sendRefused, firstFailed, sendFailed, unsent}
 use Rattle.machine.specs.Report.{unknownAtVenue, droppedStale, droppedRepeat, reportedOrder, settles, applyReport, venueReport}
 use Rattle.machine.specs.Machine.{onReport}
 use Rattle.machine.specs.declared.Findings.{Findings}
@@ -261,8 +261,8 @@ module _ (t p : ℕ) (x : Request) (m n : ℕ) where
         (λ e. split-two Tried _ (λ e. resting gone)
         (λ e. split-two Tried _ (λ e. refused-tried _ _ gone) (λ e. resting (telling-rests t _ gone _))))))
       where
-        gone : Rests t (answering k (unchanged p (refusedOrder k r o)))
-        gone = answering-rests t _ (unchanged-rests t p _ (refused-within t k r o w)) k
+        gone : Rests t (alarming (refusedAlarm r o) (answering k (unchanged p (refusedOrder k r o))))
+        gone = alarming-rests t _ (answering-rests t _ (unchanged-rests t p _ (refused-within t k r o w)) k) _
 
     pub reject-pair : (q : Request) (e : Event) → Pair (venueCancelReject (findings p x m) k q o e) (venueCancelReject (findings p x n) k q o e)
     unfolding venueCancelReject
@@ -274,20 +274,20 @@ module _ (t p : ℕ) (x : Request) (m n : ℕ) where
         split-two Pair _ (λ h. rest still)
         (λ h. split-two Pair _ (λ h. rest still) (λ h. split-two Pair _ (λ h. rest still) (λ h. rest (alarming-rests t _ still _))))
 
-    apply-pair : (q : Request) (e : Event) → Pair (applyReport (findings p x m) k q o e) (applyReport (findings p x n) k q o e)
+    apply-rests : (q : Request) (e : Event) → Rests t (applyReport (findings p x m) k q o e)
     unfolding applyReport
-    apply-pair q e =
-        split-two Pair _ (λ h. rest (settles-rests t _ _ k q o _ (unchanged-rests t p _ (reported-within t _ _ q o e w))))
-        (λ h. rest (telling-rests t _ (settles-rests t _ _ k q o _ (unchanged-rests t p _ (next-within t _ (reported-within t _ _ q o e w)))) _))
+    apply-rests q e =
+        split-if (Rests t) _ (λ h. settles-rests t _ _ k q o _ (unchanged-rests t p _ (reported-within t _ _ q o e w)))
+        (λ h. telling-rests t _ (settles-rests t _ _ k q o _ (unchanged-rests t p _ (next-within t _ (reported-within t _ _ q o e w)))) _)
 
     report-pair : (q : Request) (e : Event) → Pair (venueReport (findings p x m) k q o e) (venueReport (findings p x n) k q o e)
-    unfolding venueReport droppedStale droppedRepeat
+    unfolding venueReport droppedStale droppedRepeat applyReport
     report-pair q e =
         split-two Pair _ (λ h. resume-pair _ _ (refuse-tried q (e .venue) _))
         (λ h. split-two Pair _ (λ a. rest still)
         (λ a. split-two Pair _ (λ s. split-two Pair _ (λ u. rest (alarming-rests t _ still _)) (λ u. rest still))
         (λ s. split-two Pair _ (λ r. rest (unchanged-rests t p _ (venue-within t o w _ _)))
-        (λ r. split-two Pair _ (λ v. rest (alarming-rests t _ still _)) (λ v. apply-pair q e)))))
+        (λ r. split-two Pair _ (λ v. rest (alarming-rests t _ still _)) (λ v. rest (alarming-rests t _ (apply-rests q e) _))))))
 
     pub on-report-pair : (q : Request) (e : Event) → Pair (onReport e (findings p x m) k q o) (onReport e (findings p x n) k q o)
     unfolding onReport

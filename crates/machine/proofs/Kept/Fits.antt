@@ -23,7 +23,7 @@ use Rattle.text.specs.Words.{noText}
 use Rattle.machine.specs.Orders.{oneMore, setStatus, keptOrderId, recordVenueOrderId, applyReplace, nextSequence, nextExec, withState, withPending, withGateway}
 use Rattle.machine.specs.Changes.{Event, Message, unchanged, refusing, answering, superseding, adding, telling, alarming, nextNumber, nextDownstream, nextRequest, numberedOrder}
 use Rattle.machine.specs.GatewayCancel.{begun, trySent, givenUp, sendGatewayCancel, cancelOrder, resumeGatewayCancel, stuck, retryGatewayCancel, gatewayCancelRefused}
-use Rattle.machine.specs.Amend.{refuse, statusReport, cancelGoes, cancel, replaceGoes, replace, notPending, refusedOrder, refuseRequest, venueCancelReject, sendRefused, firstFailed, sendFailed, unsent}
+use Rattle.machine.specs.Amend.{refuse, statusReport, cancelGoes, cancel, replaceGoes, replace, notPending, refusedOrder, refusedAlarm, refuseRequest, venueCancelReject, sendRefused, firstFailed, sendFailed, unsent}
 use Rattle.machine.specs.Report.{unknownAtVenue, droppedStale, droppedRepeat, reportedOrder, settles, applyReport, venueReport}
 use Rattle.machine.specs.Machine.{orderAtLink, bookedOrder, firstRequest, bookOrder, amending, onRequest, nothing, onReport, onName, changeOf, stepOf, answerLink, ordersAfter, requestsAfter, after, bookAfter}
 use Rattle.machine.specs.Whole.{WholeEvent}
@@ -277,7 +277,7 @@ module _ (laws : NumberedLaws) (f : Findings) where
       refuse-fits : (venue : ℕ) (r : Refused) → WholeText (r .venueorderid) → ChangeFits (refuseRequest f k q venue r o)
       unfolding refuseRequest
       refuse-fits venue r w =
-          let c : ChangeFits (answering k (unchanged (f .place) (refusedOrder k r o))) = answering-fits _ (unchanged-fits (f .place) (refusedOrder k r o) (refused-fits k r o w h)) k in
+          let c : ChangeFits (alarming (refusedAlarm r o) (answering k (unchanged (f .place) (refusedOrder k r o)))) = alarming-fits _ (answering-fits _ (unchanged-fits (f .place) (refusedOrder k r o) (refused-fits k r o w h)) k) _ in
           split-if ChangeFits _ (λ t. still-fits)
           (λ t. split-if ChangeFits _ (λ t. still-fits)
           (λ t. split-if ChangeFits _ (λ t. still-fits)
@@ -329,7 +329,7 @@ module _ (laws : NumberedLaws) (f : Findings) where
             (λ t. split-if ChangeFits _ (λ t. split-if ChangeFits _ (λ t. alarming-fits _ still-fits _) (λ t. still-fits))
             (λ t. split-if ChangeFits _ (λ t. unchanged-fits (f .place) _ (named-fits o h (e .ids .venueorderid) false (w .venueorderid)))
             (λ t. split-if ChangeFits _ (λ t. alarming-fits _ still-fits _)
-            (λ t. split-if ChangeFits _ (λ t. settles-fits _ _ _ (reported-fits _ _)) (λ t. telling-fits _ (settles-fits _ _ _ (exec-fits _ (reported-fits _ _))) _))))))
+            (λ t. alarming-fits _ (split-if ChangeFits _ (λ t. settles-fits _ _ _ (reported-fits _ _)) (λ t. telling-fits _ (settles-fits _ _ _ (exec-fits _ (reported-fits _ _))) _)) _)))))
 
 -- ---- the book
 
@@ -340,14 +340,14 @@ pub record BookFits (b : Book) : Type 0 where
 
 module _ {A : Type 0} (P : A → Type 0) (d : A) (blank : P d) where
   -- what all elements have, they have with one set, with one added, and past the end
-  set-all : (l : List A) (i : ℕ) (x : A) → ((k : ℕ) → P (getD l k d)) → P x → (k : ℕ) → P (getD (set l i x) k d)
+  pub set-all : (l : List A) (i : ℕ) (x : A) → ((k : ℕ) → P (getD l k d)) → P x → (k : ℕ) → P (getD (set l i x) k d)
   set-all [] i x h p k = blank
   set-all (y ∷ l) zero x h p zero = p
   set-all (y ∷ l) zero x h p (suc k) = h (suc k)
   set-all (y ∷ l) (suc i) x h p zero = h zero
   set-all (y ∷ l) (suc i) x h p (suc k) = set-all l i x (λ m. h (suc m)) p k
 
-  more-all : (l : List A) (x : A) → ((k : ℕ) → P (getD l k d)) → P x → (k : ℕ) → P (getD (l ++ (x ∷ [])) k d)
+  pub more-all : (l : List A) (x : A) → ((k : ℕ) → P (getD l k d)) → P x → (k : ℕ) → P (getD (l ++ (x ∷ [])) k d)
   more-all [] x h p zero = p
   more-all [] x h p (suc k) = blank
   more-all (y ∷ l) x h p zero = h zero

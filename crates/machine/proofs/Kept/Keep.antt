@@ -25,7 +25,7 @@ use Rattle.machine.specs.Orders.{oneMore, isEmpty, isDone, hasGateway, s
 use Rattle.store.specs.Orders.{noPending}
 use Rattle.machine.specs.Changes.{Event, Message, unchanged, answering, superseding, adding, telling, alarming, isFirst, isReplace, isGateway, isCancel, isAnswered, nextLink, nextNumber, nextDownstream, nextRequest, numberedOrder}
 use Rattle.machine.specs.GatewayCancel.{outstandingCancel, gatewayCancelInFlight, begun, trySent, givenUp, sendGatewayCancel, cancelOrder, gatewayCancelWaiting, resumeGatewayCancel, stuck, retryGatewayCancel, gatewayCancelRefused}
-use Rattle.machine.specs.Amend.{has, statusReport, cancelGoes, orOwn, newTerms, pricedRight, newPending, replaceGoes, notPending, refusedOrder, refuseRequest, sendRefused, venueCancelReject, firstFailed, sendFailed, unsent}
+use Rattle.machine.specs.Amend.{has, statusReport, cancelGoes, orOwn, newTerms, pricedRight, newPending, replaceGoes, notPending, refusedOrder, refusedAlarm, refuseRequest, sendRefused, venueCancelReject, firstFailed, sendFailed, unsent}
 use Rattle.machine.specs.Report.{unknownAtVenue, isRejection, pendingHere, stale, droppedStale, droppedRepeat, statusTaken, accepts, orderedQty, reportedOrder, settles, applyReport, venueReport}
 use Rattle.machine.specs.Machine.{answerLink, requestsAfter, latestCancel}
 use Rattle.machine.specs.Events.{Ranged}
@@ -283,6 +283,10 @@ record Sent (b : Book) (i : ℕ) (c : Change) : Type 0 where
   sent : c .order .gateway .unsent ≡ false
   free : c .order .gateway .stuck ≡ false
 
+alarming-sent : (b : Book) (i a : ℕ) (c : Change) → Sent b i c → Sent b i (alarming a c)
+unfolding alarming requestsAfter
+alarming-sent b i a c s = record { live = s .live; quiet = s .quiet; sent = s .sent; free = s .free }
+
 stuck-range : (n : ℕ) (o : Order) → hasGateway o ≡ true → o .gateway .unsent ≡ false → gatewayRange n (o .gateway) ≡ true → gatewayRange n (givenUp o) ≡ true
 unfolding gatewayRange givenUp hasGateway
 stuck-range n o g u e =
@@ -293,6 +297,9 @@ stuck-range n o g u e =
 pub record Refuses (b : Book) (i : ℕ) (c : Change) : Type 0 where
   pub kept : Kept b i c
   pub idle : c .order .gateway .unsent ≡ true → eqb (c .requests .added) 0 ≡ true
+
+alarming-refuses : (b : Book) (i a : ℕ) (c : Change) → Refuses b i c → Refuses b i (alarming a c)
+alarming-refuses b i a c r = record { kept = alarming-kept b i a c (r .kept); idle = unfold alarming in r .idle }
 
 telling-refuses : (b : Book) (i : ℕ) (m : Message) (c : Change) → Refuses b i c → Refuses b i (telling m c)
 telling-refuses b i m c r = record { kept = telling-kept b i m c (r .kept); idle = unfold telling in r .idle }
@@ -486,13 +493,13 @@ module _ (b : Book) (i : ℕ) (f : Findings) (o : Order) (here : Here b i f o) (
   refuse-refuses venue r s w =
       let p : Order = refusedOrder (j + 1) r o in
       let a : After i (j + 1) o p (b .requests) = refused-after i o (b .requests) (here .kept) (j + 1) r s w in
-      let c : Refuses b i (answering (j + 1) (unchanged (f .place) p)) = answered-refuses p (a .same) (a .free) (a .kept) in
+      let c : Refuses b i (alarming (refusedAlarm r o) (answering (j + 1) (unchanged (f .place) p))) = alarming-refuses b i _ _ (answered-refuses p (a .same) (a .free) (a .kept)) in
       split-if (Refuses b i) _ (λ e. still-refuses)
       (λ e. split-if (Refuses b i) _ (λ e. still-refuses)
       (λ e. split-if (Refuses b i) _ (λ e. still-refuses)
       (λ unanswered. split-if (Refuses b i) _ (λ e. c)
       (λ e. split-if (Refuses b i) _
-      (λ g. cancel-refused b i f o here _ (c .kept) (r .note) (unfold answering unchanged in refl) (λ h. sent-after p a g unanswered (unfold answering unchanged in h)))
+      (λ g. cancel-refused b i f o here _ (c .kept) (r .note) (unfold alarming answering unchanged in refl) (λ h. alarming-sent b i _ _ (sent-after p a g unanswered (unfold alarming answering unchanged in h))))
       (λ g. telling-refuses b i _ _ c)))))
 
   -- ---- a send that failed
@@ -641,7 +648,7 @@ module _ (b : Book) (i : ℕ) (f : Findings) (o : Order) (here : Here b i f o) (
         (λ stale. split-if (Kept b i) _
         (λ t. named)
         (λ t. split-if (Kept b i) _ (λ t. alarming-kept b i _ _ still)
-        (λ t. applied-kept (not-stale stale) (ltb-false _ _ t))))))
+        (λ t. alarming-kept b i _ _ (applied-kept (not-stale stale) (ltb-false _ _ t)))))))
       where
         named : Kept b i (unchanged (f .place) (recordVenueOrderId (e .ids .venueorderid) false o))
         named = unchanged-kept b i f o here (recordVenueOrderId (e .ids .venueorderid) false o) (unfold recordVenueOrderId in record { name = refl; client = refl })

@@ -19,7 +19,7 @@ use Rattle.store.specs.declared.GatewayCancel.{GatewayCancel}
 use Rattle.store.specs.declared.Order.{Order}
 use Rattle.store.specs.declared.Request.{Request}
 use Rattle.store.specs.Book.{Book, orderIn, answered}
-use Rattle.machine.specs.Orders.{oneMore, isDone, hasPending, hasGateway, statusAt, setStatus, keptOrderId, recordVenueOrderId, pendingTerms, applyReplace, nextExec, withState, withPending, withGateway}
+use Rattle.machine.specs.Orders.{oneMore, isDone, hasPending, hasGateway, statusAt, unlessShort, setStatus, keptOrderId, recordVenueOrderId, pendingTerms, applyReplace, nextExec, withState, withPending, withGateway}
 use Rattle.store.specs.Orders.{noPending, noGateway}
 use Rattle.machine.specs.Changes.{isFirst, isReplace, isGateway, isCancel, isAnswered, nextLink, nextNumber, numberedOrder}
 use Rattle.machine.specs.Machine.{answerLink}
@@ -453,6 +453,10 @@ pub status-coded : (cumqty s : ℕ) → isStatus s ≡ true → isStatus (status
 unfolding statusAt
 status-coded cumqty s e = split-if (λ (t : ℕ). isStatus t ≡ true) _ (λ h. unfold isStatus statuses in refl) (λ h. e)
 
+pub short-coded : (qty cumqty s : ℕ) → isStatus s ≡ true → isStatus (unlessShort qty cumqty s) ≡ true
+unfolding unlessShort
+short-coded qty cumqty s e = split-if (λ (t : ℕ). isStatus t ≡ true) _ (λ h. unfold isStatus statuses in refl) (λ h. e)
+
 neither : (a b : Bool) → (a || b) && true ≡ false → not (b || a) ≡ true
 neither true b e = clash true refl e
 neither false true e = clash true refl e
@@ -495,11 +499,12 @@ pub state-kept : (s cumqty avgpx execseq i : ℕ) (o : Order) (qs : List Request
     → OrderKept i (setStatus s (withState (record { status = o .state .status; cumqty = cumqty; avgpx = avgpx; execseq = execseq }) o)) qs
 unfolding setStatus currentRule filledRule
 state-kept s cumqty avgpx execseq i o qs live coded priced fits l =
-    let d : Bool = isDone (statusAt cumqty s) in
+    let s′ : ℕ = unlessShort (o .terms .qty) cumqty s in
+    let d : Bool = isDone (statusAt cumqty s′) in
     record {
       names = l .names;
       terms = l .terms;
-      coded = status-coded cumqty s coded;
+      coded = status-coded cumqty s′ (short-coded (o .terms .qty) cumqty s coded);
       average = priced;
       waiting = split-if (λ (p : Pending). pendingRange p ≡ true) d (λ e. unfold pendingRange if_then_else_ in refl) (λ e. l .waiting);
       gateway = split-if (λ (g : GatewayCancel). gatewayRange (length qs) g ≡ true) d (λ e. gateway-none (length qs)) (λ e. l .gateway);
@@ -508,7 +513,7 @@ state-kept s cumqty avgpx execseq i o qs live coded priced fits l =
       pending = split-if (λ (p : Pending). pendingRule i (p .request) qs ≡ true) d (λ e. unfold pendingRule in refl) (λ e. l .pending);
       amendments = l .amendments;
       filled = fits;
-      status = status-right cumqty s;
+      status = status-right cumqty s′;
       done = unfold doneRule hasPending hasGateway in done-if d (o .pending) (o .gateway);
       tries = split-if (λ (g : GatewayCancel). triesRule g ≡ true) d (λ e. unfold triesRule if_then_else_ in refl) (λ e. l .tries);
       flight = λ j h e. unfold inFlightRule in flight-if d (settled (at qs j)) (eqb (o .links .cancel) (j + 1)) (o .gateway) (live-flight (j + 1) (at qs j) o live (l .flight j h e));

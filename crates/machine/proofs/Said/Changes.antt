@@ -19,12 +19,12 @@ use Rattle.store.specs.declared.Order.{Order}
 use Rattle.store.specs.declared.Request.{Request}
 use Rattle.store.specs.Orders.{noOrder, noPending}
 use Rattle.text.specs.Words.{noText}
-use Rattle.machine.specs.Constants.{mostAlarm, textRejected, other, venues}
+use Rattle.machine.specs.Constants.{textRejected, other, venues}
 use Rattle.machine.specs.Orders.{isEmpty, setStatus, recordVenueOrderId, pendingTerms, nextExec, withPending, withGateway}
 use Rattle.machine.specs.Messages.{noPrice, noNote}
 use Rattle.machine.specs.Changes.{Event, Message, unchanged, refusing, answering, superseding, adding, telling, alarming, isFirst, isReplace, isGateway, isCancel, nextDownstream, numberedOrder}
 use Rattle.machine.specs.GatewayCancel.{begun, trySent, sendGatewayCancel, cancelOrder, resumeGatewayCancel, stuck, retryGatewayCancel, gatewayCancelRefused}
-use Rattle.machine.specs.Amend.{has, passes, refusal, amendRefusal, refuse, alreadyTaken, statusReport, cancelRefusal, cancelGoes, cancel, orOwn, verdictText, checkReplace, replaceRefusal, newTerms, pricedRight, newPending, replaceGoes, replace, notPending, refusedOrder, refusedNote, refuseRequest, venueNote, venueCancelReject, firstFailed, sendFailed, resendable, unsent}
+use Rattle.machine.specs.Amend.{has, passes, refusal, amendRefusal, refuse, alreadyTaken, statusReport, cancelRefusal, cancelGoes, cancel, orOwn, verdictText, checkReplace, replaceRefusal, newTerms, pricedRight, newPending, replaceGoes, replace, notPending, refusedOrder, refusedAlarm, refusedNote, refuseRequest, venueNote, venueCancelReject, firstFailed, sendFailed, resendable, unsent}
 use Rattle.machine.specs.Report.{unknownAtVenue, isRejection, pendingHere, droppedStale, droppedRepeat, statusTaken, accepts, answersRequest, reportedOrder, fillPriceOf, reportNote, clientReport, settles, applyReport, venueReport}
 use Rattle.machine.specs.Events.{Ranged}
 use Rattle.machine.specs.Rules.{forceRange, pricedRange, termsRange}
@@ -46,11 +46,10 @@ use Rattle.records.specs.Laws.Ranges.{Ranges, ranges}
 
 -- ---- the messages of a change
 
--- those that are put out are right, by their count, and the alarm is one of the paper's
+-- those that are put out are right, by their count
 pub record Says (c : Change) : Type 0 where
   pub first : eqb (c .output .count) 0 ≡ false → isMessage (c .output .first) ≡ true
   pub second : eqb (c .output .count) 0 ≡ false → eqb (c .output .count) 1 ≡ false → isMessage (c .output .second) ≡ true
-  pub alarm : c .output .alarm ≤ mostAlarm
 
 -- and the order that is left can be told
 pub record Speaks (c : Change) : Type 0 where
@@ -59,34 +58,33 @@ pub record Speaks (c : Change) : Type 0 where
 
 pub unchanged-says : (place : ℕ) (o : Order) → Says (unchanged place o)
 unfolding unchanged
-unchanged-says place o = record { first = λ z. clash true refl z; second = λ z. clash true refl z; alarm = omega arith }
+unchanged-says place o = record { first = λ z. clash true refl z; second = λ z. clash true refl z }
 
 pub refusing-says : (n : ℕ) → Says (refusing n)
 unfolding refusing
-refusing-says n = record { first = λ z. clash true refl z; second = λ z. clash true refl z; alarm = omega arith }
+refusing-says n = record { first = λ z. clash true refl z; second = λ z. clash true refl z }
 
-pub alarming-says : (a : ℕ) (c : Change) → a ≤ mostAlarm → Says c → Says (alarming a c)
+pub alarming-says : (a : ℕ) (c : Change) → Says c → Says (alarming a c)
 unfolding alarming
-alarming-says a c l s = record { first = s .first; second = s .second; alarm = l }
+alarming-says a c s = record { first = s .first; second = s .second }
 
 pub adding-says : (q : Request) (c : Change) → Says c → Says (adding q c)
 unfolding adding
-adding-says q c s = record { first = s .first; second = s .second; alarm = s .alarm }
+adding-says q c s = record { first = s .first; second = s .second }
 
 answering-says : (k : ℕ) (c : Change) → Says c → Says (answering k c)
 unfolding answering
-answering-says k c s = record { first = s .first; second = s .second; alarm = s .alarm }
+answering-says k c s = record { first = s .first; second = s .second }
 
 superseding-says : (k : ℕ) (c : Change) → Says c → Says (superseding k c)
 unfolding superseding
-superseding-says k c s = record { first = s .first; second = s .second; alarm = s .alarm }
+superseding-says k c s = record { first = s .first; second = s .second }
 
 telling-says : (m : Message) (c : Change) → isMessage m ≡ true → Says c → Says (telling m c)
 unfolding telling if_then_else_
 telling-says m c r s = record {
   first = λ z. split-if (λ (x : Message). isMessage x ≡ true) (eqb (c .output .count) 0) (λ e. r) (λ e. s .first e);
   second = λ z. behind (eqb (c .output .count) 0);
-  alarm = s .alarm;
 }
   where
     behind : (t : Bool) → eqb (if t then 1 else 2) 1 ≡ false → isMessage (if t then c .output .second else m) ≡ true
@@ -100,6 +98,9 @@ unchanged-speaks place o k = record { order = k; says = unchanged-says place o }
 answering-speaks : (k : ℕ) (c : Change) → Speaks c → Speaks (answering k c)
 answering-speaks k c s = record { order = unfold answering in s .order; says = answering-says k c (s .says) }
 
+alarming-speaks : (a : ℕ) (c : Change) → Speaks c → Speaks (alarming a c)
+alarming-speaks a c s = record { order = unfold alarming in s .order; says = alarming-says a c (s .says) }
+
 telling-speaks : (m : Message) (c : Change) → isMessage m ≡ true → Speaks c → Speaks (telling m c)
 telling-speaks m c r s = record { order = unfold telling in s .order; says = telling-says m c r (s .says) }
 
@@ -112,7 +113,7 @@ module _ (f : Findings) where
       let o : Order = withGateway (trySent (c .order)) (numberedOrder f true (c .order)) in
       let k : Tellable o = gateway-tellable _ _ (numbered-tellable f true (c .order) (s .order)) in
       telling-speaks _ _ (cancel-right o k (nextDownstream (c .order)) (next-fine (c .order) (s .order)))
-      (record { order = unfold adding in k; says = adding-says _ _ (record { first = s .says .first; second = s .says .second; alarm = s .says .alarm }) })
+      (record { order = unfold adding in k; says = adding-says _ _ (record { first = s .says .first; second = s .says .second }) })
 
   pub resume-speaks : (c : Change) → Speaks c → Speaks (resumeGatewayCancel f c)
   unfolding resumeGatewayCancel
@@ -120,7 +121,7 @@ module _ (f : Findings) where
 
   stuck-speaks : (c : Change) → Speaks c → Speaks (stuck c)
   unfolding stuck
-  stuck-speaks c s = record { order = unfold alarming in gateway-tellable _ _ (s .order); says = alarming-says _ _ (omega arith) (record { first = s .says .first; second = s .says .second; alarm = s .says .alarm }) }
+  stuck-speaks c s = record { order = unfold alarming in gateway-tellable _ _ (s .order); says = alarming-says _ _ (record { first = s .says .first; second = s .says .second }) }
 
   refused-speaks : (n : Note) (c : Change) → Speaks c → Speaks (gatewayCancelRefused f n c)
   unfolding gatewayCancelRefused retryGatewayCancel
@@ -233,7 +234,7 @@ module _ (f : Findings) (o : Order) (t : Tellable o) where
     unfolding refuseRequest
     refuse-speaks venue r s v n =
         let p : Tellable (refusedOrder k r o) = refused-tellable k r o s v t in
-        let c : Speaks (answering k (unchanged (f .place) (refusedOrder k r o))) = answering-speaks k _ (unchanged-speaks (f .place) (refusedOrder k r o) p) in
+        let c : Speaks (alarming (refusedAlarm r o) (answering k (unchanged (f .place) (refusedOrder k r o)))) = alarming-speaks _ _ (answering-speaks k _ (unchanged-speaks (f .place) (refusedOrder k r o) p)) in
         let m : Answered (refusedNote (r .note)) = refused-note (r .note) n in
         split-if Speaks _ (λ e. still-speaks)
         (λ first. split-if Speaks _ (λ e. still-speaks)
@@ -285,7 +286,7 @@ module _ (f : Findings) (o : Order) (t : Tellable o) where
   pub unknown-says : (k : ℕ) (e : Event) → Says (unknownAtVenue f k o e)
   unfolding unknownAtVenue
   unknown-says k e =
-      split-if Says _ (λ z. unchanged-says _ o) (λ z. split-if Says _ (λ z. unchanged-says _ o) (λ z. split-if Says _ (λ z. unchanged-says _ o) (λ z. alarming-says _ _ (omega arith) (unchanged-says _ o))))
+      split-if Says _ (λ z. unchanged-says _ o) (λ z. split-if Says _ (λ z. unchanged-says _ o) (λ z. split-if Says _ (λ z. unchanged-says _ o) (λ z. alarming-says _ _ (unchanged-says _ o))))
 
 -- ---- a report
 
@@ -379,8 +380,8 @@ module _ (f : Findings) (o : Order) (t : Tellable o) (k : ℕ) (q : Request) (a 
       let still : Says (unchanged (f .place) o) = unchanged-says (f .place) o in
       split-if Says _ (λ z. resume-speaks f _ (refuse-speaks f o t k q a (e .venue) _ status given (text-noted e h)) .says)
       (λ z. split-if Says _ (λ z. still)
-      (λ z. split-if Says _ (λ z. split-if Says _ (λ z. alarming-says _ _ (omega arith) still) (λ z. still))
-      (λ z. split-if Says _ (λ z. unchanged-says _ _) (λ z. split-if Says _ (λ z. alarming-says _ _ (omega arith) still) (λ z. applied-says)))))
+      (λ z. split-if Says _ (λ z. split-if Says _ (λ z. alarming-says _ _ still) (λ z. still))
+      (λ z. split-if Says _ (λ z. unchanged-says _ _) (λ z. split-if Says _ (λ z. alarming-says _ _ still) (λ z. alarming-says _ _ applied-says)))))
     where
       status : eqb (if eqb (e .exec .status) rejected then 0 else e .exec .status) 0 ≡ false → isStatus (if eqb (e .exec .status) rejected then 0 else e .exec .status) ≡ true
       status = split-if (λ (n : ℕ). eqb n 0 ≡ false → isStatus n ≡ true) _ (λ z y. clash true refl y) (λ z. right-ranged e h .status)

@@ -19,7 +19,7 @@ use Rattle.store.specs.Book.{Book, requestIn}
 use Rattle.store.specs.Orders.{WholeOrder}
 use Rattle.store.specs.Requests.{WholeRequest}
 use Rattle.text.specs.Numbered.{numberedText, decimal}
-use Rattle.machine.specs.Orders.{oneMore, setStatus, keptOrderId, recordVenueOrderId, pendingTerms, applyReplace, nextSequence, nextExec, withState, withPending, withGateway}
+use Rattle.machine.specs.Orders.{oneMore, unlessShort, setStatus, keptOrderId, recordVenueOrderId, pendingTerms, applyReplace, nextSequence, nextExec, withState, withPending, withGateway}
 use Rattle.machine.specs.Changes.{isFirst, isGateway, nextNumber, nextDownstream, numberedOrder}
 use Rattle.machine.specs.Ranges.{textWithin}
 use Rattle.machine.specs.Rules.{termsRange, filledRule}
@@ -27,7 +27,7 @@ use Rattle.machine.specs.Whole.{WholeBook}
 use Rattle.machine.specs.declared.Findings.{Findings}
 use Rattle.machine.proofs.Numbered.{numbered-laws}
 use Rattle.machine.proofs.Kept.Laws.{kept-text, name-short}
-use Rattle.machine.proofs.Kept.Local.{OrderKept, NamesKept, names-kept, TermsKept, terms-kept, pending-parts, status-coded}
+use Rattle.machine.proofs.Kept.Local.{OrderKept, NamesKept, names-kept, TermsKept, terms-kept, pending-parts, status-coded, short-coded}
 use Rattle.machine.proofs.Kept.Lift.{RangeKept, range-kept, BookKept}
 use Rattle.machine.proofs.Kept.Steps.{downstream-within}
 use Rattle.machine.proofs.Said.Rows.{Fine}
@@ -109,7 +109,7 @@ state-tellable s status cumqty avgpx execseq o e q p x k = record {
   venue = k .venue;
   names = k .names;
   terms = k .terms;
-  state = record { status = status-coded cumqty s e; cumqty = q; avgpx = p; execseq = x };
+  state = record { status = status-coded cumqty (unlessShort (o .terms .qty) cumqty s) (short-coded (o .terms .qty) cumqty s e); cumqty = q; avgpx = p; execseq = x };
   amendments = k .amendments;
   pending = split-if (λ (x : Pending). eqb (x .request) 0 ≡ false → termsRange (record { side = o .terms .side; ordtype = x .ordtype; timeinforce = x .timeinforce; qty = x .qty; price = x .price }) ≡ true) _
       (λ d z. clash true refl z) (λ d. k .pending);

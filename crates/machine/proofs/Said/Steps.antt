@@ -13,7 +13,7 @@ use borrow.Author.Tests.{eqb-true, ne-eqb}
 use Rattle.prelude.specs.Below.{first-some}
 use Rattle.prelude.specs.Cases.{if_then_else_, split-if, split-maybe, both-true}
 use Rattle.records.specs.Record.{isMessage}
-use Rattle.records.specs.Answer.{answerBytes, answerAlarm, chosen, areMessages}
+use Rattle.records.specs.Answer.{answerBytes, answerAlarm, answerAlarm2, chosen, areMessages}
 use Rattle.store.specs.declared.Order.{Order}
 use Rattle.store.specs.declared.Request.{Request}
 use Rattle.store.specs.Book.{Book, orderIn, requestIn}
@@ -37,11 +37,12 @@ use Rattle.machine.proofs.Said.Reads.{event-right-facts, right-ranged}
 use Rattle.machine.proofs.Said.Rows.{Fine}
 use Rattle.machine.proofs.Said.Messages.{Tellable}
 use Rattle.machine.proofs.Said.Orders.{Asks, request-asks, order-tellable}
+use Rattle.machine.proofs.Said.Alarms.{step-alarmed}
 use Rattle.machine.proofs.Said.Changes.{Says, unchanged-says, refusing-says, alarming-says, adding-says, text-noted, cancel-order-says, failed-speaks, unsent-speaks, reject-speaks, unknown-says, report-says, cancel-says, replace-says, cancel-none, replace-none}
 use Rattle.machine.specs.declared.Findings.{Findings}
 use Rattle.records.specs.Laws.Right.{Right}
 use Rattle.records.specs.Laws.Writing.{answer-most}
-use Rattle.records.specs.Laws.AnswerBack.{answer-messages, answer-accepted, answer-alarm}
+use Rattle.records.specs.Laws.AnswerBack.{answer-messages, answer-accepted, answer-alarm, answer-alarm2}
 
 -- ---- from a change to its messages
 
@@ -109,7 +110,7 @@ module _ (b : Book) (e : Event) (good : BookKept b) (whole : WholeBook b) (h : R
   unfolding changeOf bookOrder onName onReport
   change-says =
       let still : Says nothing = unchanged-says 0 noOrder in
-      let unknown : Says unknownReport = alarming-says _ _ (omega arith) still in
+      let unknown : Says unknownReport = alarming-says _ _ still in
       let ranged : Ranged e = right-ranged e h in
       split-if Says (eqb (e .kind) 1)
       (λ t. split-if Says _ (λ t. refusing-says 5) (λ t. split-if Says _ (λ t. refusing-says 6) (λ t. adding-says _ _ (unchanged-says _ _))))
@@ -139,13 +140,16 @@ answer-read b e buf k whole ok room =
     let c : Change = stepOf b e in
     let ms : List Message = messagesOf c in
     let a : ℕ = c .output .alarm in
+    let a2 : ℕ = c .output .alarm2 in
     let few : length ms ≤ 2 = messages-few c in
-    let fits : length (answerBytes a ms) ≤ length buf = omega (arith, answer-most a ms few) in
+    let fits : length (answerBytes a a2 ms) ≤ length buf = omega (arith, answer-most a a2 ms few) in
     let right : areMessages ms ≡ true = messages-right b e k whole ok in
-    let heard : answerAlarm (splice buf 0 (answerBytes a ms)) ≡ a = answer-alarm buf a ms right few fits in
+    let heard : answerAlarm (splice buf 0 (answerBytes a a2 ms)) ≡ a = answer-alarm buf a a2 ms right few fits in
+    let heard2 : answerAlarm2 (splice buf 0 (answerBytes a a2 ms)) ≡ a2 = answer-alarm2 buf a a2 ms right few fits in
     record {
-      taken = answer-accepted buf a ms right few fits;
-      messages = answer-messages buf a ms right few fits;
+      taken = answer-accepted buf a a2 ms right few fits;
+      messages = answer-messages buf a a2 ms right few fits;
       alarm = heard;
-      listed = omega (arith, heard, step-says b e (book-kept b k) whole (event-right-facts e ok) .alarm);
+      alarm2 = heard2;
+      alarms = rw (heard, heard2) (step-alarmed b e);
     }

@@ -19,7 +19,7 @@ returns c =
     let p : n .put-number .result ≡ 2 = n .put-number .ensures .0 in
     c .before .before .copy .ensures
     ∙ (rw (p, n .put-number .ensures .1)
-    (splice-append (now (a .dst)) 0 (bytesOf 2 (a .n)) (marks (a .count) (a .alarm)) (omega arith)))
+    (splice-append (now (a .dst)) 0 (bytesOf 2 (a .n)) (marks (a .count) (a .alarm) (a .alarm2)) (omega arith)))
 
 pub put-head-spec : {M : Type 1} → statement M
 put-head-spec =

@@ -33,7 +33,7 @@ returns c =
     let s = c .before .before .before .before .before in
     let g = c .before .before .before .read-message in
     let k = c .no-answer .ensures in
-    from-3 (src s) 1 (s .args .alarm) (c .no-answer .result) (rw (said-3 (src s) headSize (g .result) (g .ensures) (c .before .if1 .taken)) refl) (k .0) (k .1) (k .2)
+    from-3 (src s) 1 (s .args .alarm) (s .args .alarm2) (c .no-answer .result) (rw (said-3 (src s) headSize (g .result) (g .ensures) (c .before .if1 .taken)) refl) (k .0) (k .1) (k .2) (k .3)
 
 returns-2 : tie.Need-returns-2
 unfolding shapedFrom
@@ -41,7 +41,7 @@ returns-2 c =
     let l = c .before .before .before in
     let s = l .before .before .before .before in
     let k = c .no-answer2 .ensures in
-    from-3 (src s) 1 (s .args .alarm) (c .no-answer2 .result) (rw (shape l) (ne-eqb _ _ (λ e. c .before .if2 .taken (ends l ∙ e)))) (k .0) (k .1) (k .2)
+    from-3 (src s) 1 (s .args .alarm) (s .args .alarm2) (c .no-answer2 .result) (rw (shape l) (ne-eqb _ _ (λ e. c .before .if2 .taken (ends l ∙ e)))) (k .0) (k .1) (k .2) (k .3)
 
 returns-3 : tie.Need-returns-3
 unfolding rangedFrom
@@ -51,7 +51,7 @@ returns-3 c =
     let s = l .before .before .before .before in
     let g = l .before .before .read-message in
     let k = c .no-answer3 .ensures in
-    from-4 (src s) 1 (s .args .alarm) (c .no-answer3 .result) (all m) (rw (said-4 (src s) headSize (g .result) (g .ensures) (shape l) (c .before .if3 .taken)) refl) (k .0) (k .1) (k .2)
+    from-4 (src s) 1 (s .args .alarm) (s .args .alarm2) (c .no-answer3 .result) (all m) (rw (said-4 (src s) headSize (g .result) (g .ensures) (shape l) (c .before .if3 .taken)) refl) (k .0) (k .1) (k .2) (k .3)
 
 returns-4 : tie.Need-returns-4
 unfolding rangedFrom messagesFrom
@@ -61,7 +61,7 @@ returns-4 c =
     let s = l .before .before .before .before in
     let g = l .before .before .read-message in
     let q : ranged (src s) headSize ≡ true = said-range (src s) headSize (g .result) (g .ensures) (shape l) (c .before .before .if3 .left) in
-    from-0 (src s) 1 (s .args .alarm) _ (all m) (rw q refl) refl refl
+    from-0 (src s) 1 (s .args .alarm) (s .args .alarm2) _ (all m) (rw q refl) refl refl refl
     (record { count = refl; first = said-record (src s) headSize (g .result) (g .ensures) (shape l) q; second = c .no-record .ensures })
 
 pub read-one-spec : {M : Type 1} → statement M

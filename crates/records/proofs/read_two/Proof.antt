@@ -48,7 +48,7 @@ returns c =
     let s = c .before .before .before .before .before in
     let g = c .before .before .before .read-message in
     let k = c .no-answer .ensures in
-    from-3 (src s) 2 (s .args .alarm) (c .no-answer .result) (rw (said-3 (src s) headSize (g .result) (g .ensures) (c .before .if1 .taken)) refl) (k .0) (k .1) (k .2)
+    from-3 (src s) 2 (s .args .alarm) (s .args .alarm2) (c .no-answer .result) (rw (said-3 (src s) headSize (g .result) (g .ensures) (c .before .if1 .taken)) refl) (k .0) (k .1) (k .2) (k .3)
 
 read-message-requires-2 : tie.Need-read-message-requires-2
 read-message-requires-2 c κs =
@@ -61,8 +61,8 @@ returns-2 c =
     let g = c .before .before .before in
     let s = g .before .before .before .before .before in
     let k = c .no-answer2 .ensures in
-    from-3 (src s) 2 (s .args .alarm) (c .no-answer2 .result)
-    (rw (shape (g .before), said-3 (src s) (endOf (src s) headSize) (g .read-message2 .result) (second g) (c .before .if2 .taken)) refl) (k .0) (k .1) (k .2)
+    from-3 (src s) 2 (s .args .alarm) (s .args .alarm2) (c .no-answer2 .result)
+    (rw (shape (g .before), said-3 (src s) (endOf (src s) headSize) (g .read-message2 .result) (second g) (c .before .if2 .taken)) refl) (k .0) (k .1) (k .2) (k .3)
 
 returns-3 : tie.Need-returns-3
 unfolding shapedFrom
@@ -70,7 +70,7 @@ returns-3 c =
     let l = c .before .before .before in
     let s = l .before .before .before .before .before .before .before in
     let k = c .no-answer3 .ensures in
-    from-3 (src s) 2 (s .args .alarm) (c .no-answer3 .result) (rw (shape (l .before .before .before), shape-2 l) (ne-eqb _ _ (λ e. c .before .if3 .taken (ends-2 l ∙ e)))) (k .0) (k .1) (k .2)
+    from-3 (src s) 2 (s .args .alarm) (s .args .alarm2) (c .no-answer3 .result) (rw (shape (l .before .before .before), shape-2 l) (ne-eqb _ _ (λ e. c .before .if3 .taken (ends-2 l ∙ e)))) (k .0) (k .1) (k .2) (k .3)
 
 -- the first's range
 range : (c : tie.Else4) → ranged (src (c .before .before .before .before .before .before .before .before .before .before .before)) headSize ≡ true
@@ -87,7 +87,7 @@ returns-4 c =
     let s = l .before .before .before .before in
     let g = l .before .before .read-message in
     let k = c .no-answer4 .ensures in
-    from-4 (src s) 2 (s .args .alarm) (c .no-answer4 .result) (all m) (rw (said-4 (src s) headSize (g .result) (g .ensures) (shape l) (c .before .if4 .taken)) refl) (k .0) (k .1) (k .2)
+    from-4 (src s) 2 (s .args .alarm) (s .args .alarm2) (c .no-answer4 .result) (all m) (rw (said-4 (src s) headSize (g .result) (g .ensures) (shape l) (c .before .if4 .taken)) refl) (k .0) (k .1) (k .2) (k .3)
 
 returns-5 : tie.Need-returns-5
 unfolding rangedFrom
@@ -98,8 +98,8 @@ returns-5 c =
     let g = l .before .before in
     let s = l .before .before .before .before .before .before .before in
     let k = c .no-answer5 .ensures in
-    from-4 (src s) 2 (s .args .alarm) (c .no-answer5 .result) (all m)
-    (rw (range n, said-4 (src s) (endOf (src s) headSize) (g .read-message2 .result) (second g) (shape-2 l) (c .before .if5 .taken)) refl) (k .0) (k .1) (k .2)
+    from-4 (src s) 2 (s .args .alarm) (s .args .alarm2) (c .no-answer5 .result) (all m)
+    (rw (range n, said-4 (src s) (endOf (src s) headSize) (g .read-message2 .result) (second g) (shape-2 l) (c .before .if5 .taken)) refl) (k .0) (k .1) (k .2) (k .3)
 
 returns-6 : tie.Need-returns-6
 unfolding rangedFrom messagesFrom
@@ -112,7 +112,7 @@ returns-6 c =
     let f = l .before .before .before in
     let e = endOf (src s) headSize in
     let q : ranged (src s) e ≡ true = said-range (src s) e (g .read-message2 .result) (second g) (shape-2 l) (c .before .before .if5 .left) in
-    from-0 (src s) 2 (s .args .alarm) _ (all m) (rw (range n, q) refl) refl refl
+    from-0 (src s) 2 (s .args .alarm) (s .args .alarm2) _ (all m) (rw (range n, q) refl) refl refl refl
     (record {
       count = refl;
       first = said-record (src s) headSize (f .before .before .read-message .result) (f .before .before .read-message .ensures) (shape f) (range n);

@@ -26,7 +26,7 @@ returns-2 c =
     let l = c .before .before .before .before .before in
     let s = l .before .before in
     rw (le-leb _ _ (l .if1 .left), eq-eqb _ 0 (c .before .before .before .before .if2 .taken))
-    (sym (length-answer (s .args .alarm) []), c .before .before .put-head .ensures ∙ none-splice (dst s) (s .args .alarm) (l .if1 .left))
+    (sym (length-answer (s .args .alarm) (s .args .alarm2) []), c .before .before .put-head .ensures ∙ none-splice (dst s) (s .args .alarm) (s .args .alarm2) (l .if1 .left))
 
 put-record-requires : tie.Need-put-record-requires
 put-record-requires c κs = omega (arith, record-most (c .before .before .before .before .args .first))
@@ -42,8 +42,8 @@ returns-3 c =
     let a = s .args in
     let r = c .before .before .before .before .before .before .before .put-record in
     rw (le-leb _ _ (l .if1 .left), ne-eqb _ 0 (c .before .before .before .before .before .before .before .before .before .if2 .left), eq-eqb _ 1 (c .before .before .before .before .if3 .taken)) (
-      one-length (dst s) (a .alarm) (l .if1 .left) (a .first) (r .result) (r .ensures .0),
-      c .before .before .put-head2 .ensures ∙ (rw (r .ensures .1) (one-splice (dst s) (a .alarm) (l .if1 .left) (a .first) (r .result) (r .ensures .0))),
+      one-length (dst s) (a .alarm) (a .alarm2) (l .if1 .left) (a .first) (r .result) (r .ensures .0),
+      c .before .before .put-head2 .ensures ∙ (rw (r .ensures .1) (one-splice (dst s) (a .alarm) (a .alarm2) (l .if1 .left) (a .first) (r .result) (r .ensures .0))),
     )
 
 put-record-requires-2 : tie.Need-put-record-requires-2
@@ -71,10 +71,10 @@ returns-4 c =
     let q = c .before .before .before .before .before .before .put-record2 in
     let d = dst s in
     rw (le-leb _ _ (l .if1 .left), ne-eqb _ 0 (c .before .before .before .before .before .before .before .before .before .before .before .before .before .if2 .left), ne-eqb _ 1 (c .before .before .before .before .before .before .before .before .if3 .left)) (
-      two-length d (a .alarm) (l .if1 .left) (a .first) (r .result) (r .ensures .0) (a .second) (q .result) (q .ensures .0),
+      two-length d (a .alarm) (a .alarm2) (l .if1 .left) (a .first) (r .result) (r .ensures .0) (a .second) (q .result) (q .ensures .0),
       c .before .before .put-head3 .ensures
           ∙ (rw (q .ensures .1, r .ensures .1)
-          (two-splice d (a .alarm) (l .if1 .left) (a .first) (r .result) (r .ensures .0) (a .second) (q .result) (q .ensures .0))),
+          (two-splice d (a .alarm) (a .alarm2) (l .if1 .left) (a .first) (r .result) (r .ensures .0) (a .second) (q .result) (q .ensures .0))),
     )
 
 pub write-answer-spec : {M : Type 1} → statement M

@@ -13,7 +13,7 @@ use Rattle.format.specs.Places.{endOf}
 use Rattle.records.specs.declared.Record.{Record}
 use Rattle.records.specs.Record.{recordBytes, isRecord, isMessage, messageOf}
 use Rattle.format.specs.Refusal.{messageShaped, messageRefusal}
-use Rattle.records.specs.Answer.{headSize, lengthIn, countIn, alarmIn, areMessages, messagesBytes, headBytes, answerBytes, messagesFrom, shapedFrom, rangedFrom, answerIn, headRight, answerRefusal, answerMessages, answerAlarm}
+use Rattle.records.specs.Answer.{headSize, lengthIn, countIn, alarmIn, alarm2In, areMessages, messagesBytes, headBytes, answerBytes, messagesFrom, shapedFrom, rangedFrom, answerIn, headRight, answerRefusal, answerMessages, answerAlarm, answerAlarm2}
 use Rattle.records.specs.Laws.Right.{Right, right}
 use Rattle.records.specs.Laws.Back.{kind-here, record-here, end-here, shaped-here, ranged-here}
 use Rattle.records.specs.Laws.Writing.{length-head, length-answer, answer-most}
@@ -65,29 +65,29 @@ from-back (m ∷ ms) ok pre =
 
 -- ---- an answer at the front of a buffer
 
-module _ (buf : List ℕ) (a : ℕ) (ms : List Record) (ok : areMessages ms ≡ true) (few : length ms ≤ 2)
-    (room : length (answerBytes a ms) ≤ length buf) where
+module _ (buf : List ℕ) (a a2 : ℕ) (ms : List Record) (ok : areMessages ms ≡ true) (few : length ms ≤ 2)
+    (room : length (answerBytes a a2 ms) ≤ length buf) where
   abbrev written : List ℕ
-  written = splice buf 0 (answerBytes a ms)
+  written = splice buf 0 (answerBytes a a2 ms)
 
   abbrev long : ℕ
   long = headSize + length (messagesBytes ms)
 
   -- byte k of what was written
-  byte : (k : ℕ) → k < headSize → getD written k 0 ≡ getD (headBytes long (length ms) a) k 0
+  byte : (k : ℕ) → k < headSize → getD written k 0 ≡ getD (headBytes long (length ms) a a2) k 0
   unfolding splice answerBytes
   byte k h =
-      let w = answerBytes a ms in
-      List·getD-append w (drop (length w) buf) 0 k (omega (arith, length-answer a ms))
-      ∙ List·getD-append (headBytes long (length ms) a) (messagesBytes ms) 0 k (omega (arith, length-head long (length ms) a))
+      let w = answerBytes a a2 ms in
+      List·getD-append w (drop (length w) buf) 0 k (omega (arith, length-answer a a2 ms))
+      ∙ List·getD-append (headBytes long (length ms) a a2) (messagesBytes ms) 0 k (omega (arith, length-head long (length ms) a a2))
 
   length-there : lengthIn written ≡ long
   unfolding headBytes
   length-there =
-      let m = answer-most a ms few in
+      let m = answer-most a a2 ms few in
       let b0 : getD written 0 0 ≡ long % 256 = byte 0 (omega arith) in
       let b1 : getD written 1 0 ≡ long / 256 % 256 = byte 1 (omega arith) in
-      rw (b0, b1) (omega (arith, length-answer a ms))
+      rw (b0, b1) (omega (arith, length-answer a a2 ms))
 
   count-there : countIn written ≡ length ms
   unfolding headBytes
@@ -97,25 +97,29 @@ module _ (buf : List ℕ) (a : ℕ) (ms : List Record) (ok : areMessages ms ≡ 
   unfolding headBytes
   alarm-there = byte 3 (omega arith)
 
-  answer-there : answerIn written ≡ answerBytes a ms
-  answer-there =
-      rw length-there (span-splice-same buf 0 (answerBytes a ms) long (length-answer a ms) (omega (arith, length-answer a ms)))
+  alarm2-there : alarm2In written ≡ a2
+  unfolding headBytes
+  alarm2-there = byte 4 (omega arith)
 
-  from-there : From (answerBytes a ms) headSize ms
+  answer-there : answerIn written ≡ answerBytes a a2 ms
+  answer-there =
+      rw length-there (span-splice-same buf 0 (answerBytes a a2 ms) long (length-answer a a2 ms) (omega (arith, length-answer a a2 ms)))
+
+  from-there : From (answerBytes a a2 ms) headSize ms
   unfolding answerBytes
-  from-there = rw (length-head long (length ms) a) at (from-back ms ok (headBytes long (length ms) a))
+  from-there = rw (length-head long (length ms) a a2) at (from-back ms ok (headBytes long (length ms) a a2))
 
   length-written : length written ≡ length buf
-  length-written = length-splice buf 0 (answerBytes a ms) (omega arith)
+  length-written = length-splice buf 0 (answerBytes a a2 ms) (omega arith)
 
   head-there : headRight written ≡ true
   unfolding headRight
   head-there =
-      let n : headSize ≤ length written = omega (arith, length-written, length-answer a ms) in
-      let l : long ≤ length written = omega (arith, length-written, length-answer a ms) in
+      let n : headSize ≤ length written = omega (arith, length-written, length-answer a a2 ms) in
+      let l : long ≤ length written = omega (arith, length-written, length-answer a a2 ms) in
       rw (le-leb headSize (length written) n, length-there, count-there, le-leb headSize long (omega arith), le-leb long (length written) l) (le-leb (length ms) 2 few)
 
-  -- it is accepted, and its messages and its alarm are read as they were written
+  -- it is accepted, and its messages and its alarms are read as they were written
   pub answer-accepted : answerRefusal written ≡ 0
   unfolding answerRefusal if_then_else_
   answer-accepted = rw (head-there, answer-there, count-there, from-there .shapes, from-there .ranges) refl
@@ -127,3 +131,7 @@ module _ (buf : List ℕ) (a : ℕ) (ms : List Record) (ok : areMessages ms ≡ 
   pub answer-alarm : answerAlarm written ≡ a
   unfolding answerAlarm if_then_else_
   answer-alarm = rw answer-accepted alarm-there
+
+  pub answer-alarm2 : answerAlarm2 written ≡ a2
+  unfolding answerAlarm2 if_then_else_
+  answer-alarm2 = rw answer-accepted alarm2-there

@@ -16,7 +16,7 @@ use Rattle.records.specs.Record.{recordAt, messageOf}
 use Rattle.format.specs.Refusal.{ranged, recordRefusal, messageShaped, messageRefusal}
 use Rattle.records.specs.Laws.Seen.{Reads, ReadsMessage, ReadsFrom}
 use Rattle.records.specs.Laws.Reading.{whole-of}
-use Rattle.records.specs.Answer.{headSize, lengthIn, countIn, alarmIn, messagesFrom, shapedFrom, rangedFrom, answerIn, headRight, answerRefusal, answerMessages, answerAlarm, Holds, ReadsAnswer}
+use Rattle.records.specs.Answer.{headSize, lengthIn, countIn, alarmIn, alarm2In, messagesFrom, shapedFrom, rangedFrom, answerIn, headRight, answerRefusal, answerMessages, answerAlarm, answerAlarm2, Holds, ReadsAnswer}
 
 -- ---- one message
 
@@ -91,29 +91,29 @@ module _ (s : List ℕ) (o : ℕ) (r : Got) where
 
 -- ---- messages behind a head
 
-module _ (s : List ℕ) (n alarm : ℕ) (r : AnswerRead) where
-  pub from-3 : shapedFrom s headSize n ≡ false → r .refusal ≡ 3 → r .alarm ≡ 0 → Holds [] r → ReadsFrom s n alarm r
+module _ (s : List ℕ) (n alarm alarm2 : ℕ) (r : AnswerRead) where
+  pub from-3 : shapedFrom s headSize n ≡ false → r .refusal ≡ 3 → r .alarm ≡ 0 → r .alarm2 ≡ 0 → Holds [] r → ReadsFrom s n alarm alarm2 r
   unfolding if_then_else_
-  from-3 h a b c = record { refusal = rw h a; alarm = rw h b; messages = rw h c }
+  from-3 h a b c d = record { refusal = rw h a; alarm = rw h b; alarm2 = rw h c; messages = rw h d }
 
-  pub from-4 : shapedFrom s headSize n ≡ true → rangedFrom s headSize n ≡ false → r .refusal ≡ 4 → r .alarm ≡ 0 → Holds [] r → ReadsFrom s n alarm r
+  pub from-4 : shapedFrom s headSize n ≡ true → rangedFrom s headSize n ≡ false → r .refusal ≡ 4 → r .alarm ≡ 0 → r .alarm2 ≡ 0 → Holds [] r → ReadsFrom s n alarm alarm2 r
   unfolding if_then_else_
-  from-4 h g a b c = record { refusal = rw (h, g) a; alarm = rw (h, g) b; messages = rw (h, g) c }
+  from-4 h g a b c d = record { refusal = rw (h, g) a; alarm = rw (h, g) b; alarm2 = rw (h, g) c; messages = rw (h, g) d }
 
-  pub from-0 : shapedFrom s headSize n ≡ true → rangedFrom s headSize n ≡ true → r .refusal ≡ 0 → r .alarm ≡ alarm → Holds (messagesFrom s headSize n) r → ReadsFrom s n alarm r
+  pub from-0 : shapedFrom s headSize n ≡ true → rangedFrom s headSize n ≡ true → r .refusal ≡ 0 → r .alarm ≡ alarm → r .alarm2 ≡ alarm2 → Holds (messagesFrom s headSize n) r → ReadsFrom s n alarm alarm2 r
   unfolding if_then_else_
-  from-0 h g a b c = record { refusal = rw (h, g) a; alarm = rw (h, g) b; messages = rw (h, g) c }
+  from-0 h g a b c d = record { refusal = rw (h, g) a; alarm = rw (h, g) b; alarm2 = rw (h, g) c; messages = rw (h, g) d }
 
 -- ---- answers
 
 module _ (s : List ℕ) (r : AnswerRead) where
-  pub answer-no : headRight s ≡ false → r .refusal ≡ 3 → r .alarm ≡ 0 → Holds [] r → ReadsAnswer s r
-  unfolding answerRefusal answerAlarm answerMessages if_then_else_
-  answer-no h a b c = record { refusal = rw h a; alarm = rw h b; messages = rw h c }
+  pub answer-no : headRight s ≡ false → r .refusal ≡ 3 → r .alarm ≡ 0 → r .alarm2 ≡ 0 → Holds [] r → ReadsAnswer s r
+  unfolding answerRefusal answerAlarm answerAlarm2 answerMessages if_then_else_
+  answer-no h a b c d = record { refusal = rw h a; alarm = rw h b; alarm2 = rw h c; messages = rw h d }
 
-  pub answer-yes : (n : ℕ) → headRight s ≡ true → countIn s ≡ n → ReadsFrom (answerIn s) n (alarmIn s) r → ReadsAnswer s r
-  unfolding answerRefusal answerAlarm answerMessages if_then_else_
-  answer-yes n h e g = record { refusal = rw (h, e) (g .refusal); alarm = rw (h, e) (g .alarm); messages = rw (h, e) (g .messages) }
+  pub answer-yes : (n : ℕ) → headRight s ≡ true → countIn s ≡ n → ReadsFrom (answerIn s) n (alarmIn s) (alarm2In s) r → ReadsAnswer s r
+  unfolding answerRefusal answerAlarm answerAlarm2 answerMessages if_then_else_
+  answer-yes n h e g = record { refusal = rw (h, e) (g .refusal); alarm = rw (h, e) (g .alarm); alarm2 = rw (h, e) (g .alarm2); messages = rw (h, e) (g .messages) }
 
 pub head-short : (s : List ℕ) → length s < headSize → headRight s ≡ false
 unfolding headRight

@@ -16,7 +16,7 @@ use Rattle.records.specs.RoundTrip.{ReadBack, RoundTrip}
 use Rattle.records.specs.Laws.Writing.{answer-most}
 use Rattle.records.specs.Laws.Right.{Right, right}
 use Rattle.records.specs.Laws.Back.{kind-here, record-here, end-here, shaped-here, ranged-here}
-use Rattle.records.specs.Laws.AnswerBack.{message-back, answer-accepted, answer-messages, answer-alarm}
+use Rattle.records.specs.Laws.AnswerBack.{message-back, answer-accepted, answer-messages, answer-alarm, answer-alarm2}
 use Rattle.records.specs.Laws.Accepted.{message-right, message-writing, event-right, event-writing}
 
 module _ (r : Record) (ok : isEvent r ≡ true) where
@@ -50,12 +50,13 @@ pub round-trip : RoundTrip
 round-trip = record {
   event = λ r ok. (event-accepted r ok, event-back r ok);
   message = λ m ok pre post. message-back m ok pre post;
-  answer = λ buf a ms ok few room. record {
-    refusal = answer-accepted buf a ms ok few room;
-    messages = answer-messages buf a ms ok few room;
-    alarm = answer-alarm buf a ms ok few room;
+  answer = λ buf a a2 ms ok few room. record {
+    refusal = answer-accepted buf a a2 ms ok few room;
+    messages = answer-messages buf a a2 ms ok few room;
+    alarm = answer-alarm buf a a2 ms ok few room;
+    alarm2 = answer-alarm2 buf a a2 ms ok few room;
   };
   taken = λ s w ok. (event-right s w ok, event-writing s w ok);
   accepted = λ s o w ok. (message-right s o w ok, message-writing s o w ok);
-  most = λ alarm ms few. answer-most alarm ms few;
+  most = λ alarm alarm2 ms few. answer-most alarm alarm2 ms few;
 }

@@ -100,7 +100,8 @@ pub record ReadsMessage (s : List ℕ) (o : ℕ) (r : Got) : Type 0 where
 abbrev pub refusalFrom : List ℕ → ℕ → ℕ
 refusalFrom s n = refusalBy (shapedFrom s headSize n) (rangedFrom s headSize n)
 
-pub record ReadsFrom (s : List ℕ) (n a : ℕ) (r : AnswerRead) : Type 0 where
+pub record ReadsFrom (s : List ℕ) (n a a2 : ℕ) (r : AnswerRead) : Type 0 where
   pub refusal : r .refusal ≡ refusalFrom s n
   pub alarm : r .alarm ≡ (if eqb (refusalFrom s n) 0 then a else 0)
+  pub alarm2 : r .alarm2 ≡ (if eqb (refusalFrom s n) 0 then a2 else 0)
   pub messages : Holds (if eqb (refusalFrom s n) 0 then messagesFrom s headSize n else []) r

@@ -127,15 +127,15 @@ record-most r = let h : length (body (r .map) (held r) 32) ≤ mostRecord - 5 = 
 
 -- ---- answers
 
-pub length-head : (n count alarm : ℕ) → length (headBytes n count alarm) ≡ headSize
+pub length-head : (n count alarm alarm2 : ℕ) → length (headBytes n count alarm alarm2) ≡ headSize
 unfolding headBytes
-length-head n count alarm = refl
+length-head n count alarm alarm2 = refl
 
-pub length-answer : (alarm : ℕ) (ms : List Record) → length (answerBytes alarm ms) ≡ headSize + length (messagesBytes ms)
+pub length-answer : (alarm alarm2 : ℕ) (ms : List Record) → length (answerBytes alarm alarm2 ms) ≡ headSize + length (messagesBytes ms)
 unfolding answerBytes
-length-answer alarm ms =
-    length-append (headBytes (headSize + length (messagesBytes ms)) (length ms) alarm) (messagesBytes ms)
-    ∙ omega (arith, length-head (headSize + length (messagesBytes ms)) (length ms) alarm)
+length-answer alarm alarm2 ms =
+    length-append (headBytes (headSize + length (messagesBytes ms)) (length ms) alarm alarm2) (messagesBytes ms)
+    ∙ omega (arith, length-head (headSize + length (messagesBytes ms)) (length ms) alarm alarm2)
 
 messages-most : (ms : List Record) (n : ℕ) → length ms ≤ n → length (messagesBytes ms) ≤ mostRecord * n
 messages-most [] n h = omega arith
@@ -143,49 +143,49 @@ messages-most (m ∷ ms) zero h = absurd (omega arith)
 messages-most (m ∷ ms) (suc n) h = simp length-append (omega (arith, record-most m, messages-most ms n (omega arith)))
 
 -- and an answer of at most two this
-pub answer-most : (alarm : ℕ) (ms : List Record) → length ms ≤ 2 → length (answerBytes alarm ms) ≤ mostAnswer
-answer-most alarm ms h = omega (arith, length-answer alarm ms, messages-most ms 2 h)
+pub answer-most : (alarm alarm2 : ℕ) (ms : List Record) → length ms ≤ 2 → length (answerBytes alarm alarm2 ms) ≤ mostAnswer
+answer-most alarm alarm2 ms h = omega (arith, length-answer alarm alarm2 ms, messages-most ms 2 h)
 
 -- the messages written, then the head before them
-pub answer-splice : (d : List ℕ) (alarm : ℕ) (ms : List Record) → headSize + length (messagesBytes ms) ≤ length d
-    → splice (splice d headSize (messagesBytes ms)) 0 (headBytes (headSize + length (messagesBytes ms)) (length ms) alarm) ≡ splice d 0 (answerBytes alarm ms)
+pub answer-splice : (d : List ℕ) (alarm alarm2 : ℕ) (ms : List Record) → headSize + length (messagesBytes ms) ≤ length d
+    → splice (splice d headSize (messagesBytes ms)) 0 (headBytes (headSize + length (messagesBytes ms)) (length ms) alarm alarm2) ≡ splice d 0 (answerBytes alarm alarm2 ms)
 unfolding answerBytes
-answer-splice d alarm ms h =
-    let w = headBytes (headSize + length (messagesBytes ms)) (length ms) alarm in
-    let e : length w ≡ headSize = length-head (headSize + length (messagesBytes ms)) (length ms) alarm in
+answer-splice d alarm alarm2 ms h =
+    let w = headBytes (headSize + length (messagesBytes ms)) (length ms) alarm alarm2 in
+    let e : length w ≡ headSize = length-head (headSize + length (messagesBytes ms)) (length ms) alarm alarm2 in
     let z : headSize ≡ 0 + length w = omega arith in
     ap (λ (k : ℕ). splice (splice d k (messagesBytes ms)) 0 w) z ∙ splice-before d 0 w (messagesBytes ms) (omega arith)
 
-module _ (d : List ℕ) (alarm : ℕ) (room : 1024 ≤ length d) where
+module _ (d : List ℕ) (alarm alarm2 : ℕ) (room : 1024 ≤ length d) where
   -- no message
-  pub none-splice : splice d 0 (headBytes headSize 0 alarm) ≡ splice d 0 (answerBytes alarm [])
+  pub none-splice : splice d 0 (headBytes headSize 0 alarm alarm2) ≡ splice d 0 (answerBytes alarm alarm2 [])
   unfolding answerBytes
-  none-splice = ap (splice d 0) (sym (append-nil (headBytes headSize 0 alarm)))
+  none-splice = ap (splice d 0) (sym (append-nil (headBytes headSize 0 alarm alarm2)))
 
   module _ (a : Record) (p : ℕ) (pe : p ≡ headSize + length (recordBytes a)) where
     length-one : p ≡ headSize + length (messagesBytes (a ∷ []))
     length-one = simp append-nil pe
 
-    pub one-length : p ≡ length (answerBytes alarm (a ∷ []))
-    one-length = length-one ∙ sym (length-answer alarm (a ∷ []))
+    pub one-length : p ≡ length (answerBytes alarm alarm2 (a ∷ []))
+    one-length = length-one ∙ sym (length-answer alarm alarm2 (a ∷ []))
 
     -- one message
-    pub one-splice : splice (splice d headSize (recordBytes a)) 0 (headBytes p 1 alarm) ≡ splice d 0 (answerBytes alarm (a ∷ []))
+    pub one-splice : splice (splice d headSize (recordBytes a)) 0 (headBytes p 1 alarm alarm2) ≡ splice d 0 (answerBytes alarm alarm2 (a ∷ []))
     one-splice =
         let n : recordBytes a ≡ messagesBytes (a ∷ []) = sym (append-nil (recordBytes a)) in
-        rw (n, length-one) (answer-splice d alarm (a ∷ []) (omega (arith, messages-most (a ∷ []) 1 (omega arith))))
+        rw (n, length-one) (answer-splice d alarm alarm2 (a ∷ []) (omega (arith, messages-most (a ∷ []) 1 (omega arith))))
 
     module _ (b : Record) (q : ℕ) (qe : q ≡ p + length (recordBytes b)) where
       length-two : q ≡ headSize + length (messagesBytes (a ∷ b ∷ []))
       length-two = simp (append-nil, length-append) (omega arith)
 
-      pub two-length : q ≡ length (answerBytes alarm (a ∷ b ∷ []))
-      two-length = length-two ∙ sym (length-answer alarm (a ∷ b ∷ []))
+      pub two-length : q ≡ length (answerBytes alarm alarm2 (a ∷ b ∷ []))
+      two-length = length-two ∙ sym (length-answer alarm alarm2 (a ∷ b ∷ []))
 
       -- two messages
-      pub two-splice : splice (splice (splice d headSize (recordBytes a)) p (recordBytes b)) 0 (headBytes q 2 alarm) ≡ splice d 0 (answerBytes alarm (a ∷ b ∷ []))
+      pub two-splice : splice (splice (splice d headSize (recordBytes a)) p (recordBytes b)) 0 (headBytes q 2 alarm alarm2) ≡ splice d 0 (answerBytes alarm alarm2 (a ∷ b ∷ []))
       two-splice =
           let n : recordBytes a ++ recordBytes b ≡ messagesBytes (a ∷ b ∷ []) = ap (λ (l : List ℕ). recordBytes a ++ l) (sym (append-nil (recordBytes b))) in
           let j : splice (splice d headSize (recordBytes a)) p (recordBytes b) ≡ splice d headSize (recordBytes a ++ recordBytes b) =
           rw pe (splice-append d headSize (recordBytes a) (recordBytes b) (omega (arith, record-most a))) in
-          rw (j, n, length-two) (answer-splice d alarm (a ∷ b ∷ []) (omega (arith, messages-most (a ∷ b ∷ []) 2 (omega arith))))
+          rw (j, n, length-two) (answer-splice d alarm alarm2 (a ∷ b ∷ []) (omega (arith, messages-most (a ∷ b ∷ []) 2 (omega arith))))

@@ -2,13 +2,14 @@
 //! docs/SCOPE.md, Wrong answers, and some of their kin.
 
 use gateway::Decimal;
-use gateway::book::Order;
+use gateway::book::{Order, Status};
 use model::Machine;
-use model::answer::{bytes, client_number, latin1, messages, of_messages};
+use model::answer::{alarms, bytes, client_number, latin1, messages, of_messages};
 use model::codes::{is_done, side_code, status_code};
 use model::machine::{ANSWER_BYTES, BOOK_BYTES, MOST_REQUESTS};
 use model::numbers::{Fill, Source, qty_count};
 use model::record::*;
+use model::short;
 
 use crate::layout::{self, Book, Header};
 use crate::net::{self, Pair};
@@ -93,6 +94,14 @@ pub enum Fault {
     Truncated,
     /// An implied price that is no half goes up too.
     AllUp,
+    /// Of two alarms, 1 stands before 6.
+    OneBeforeSix,
+    /// New is put for a short Filled before the questions are asked.
+    ShortBeforeQuestions,
+    /// A short Filled ends pending terms and the gateway's cancel.
+    ShortEndsPending,
+    /// A refusal's Filled is judged by the CumQty of its report.
+    ShortByItsReport,
     /// The page's last digit of a quantity is one higher.
     PageDigitOff,
     /// The page's leaves of a done order are ordered less cumulative.
@@ -165,7 +174,7 @@ pub enum Fault {
 
 impl Fault {
     /// Faults that the comparison finds.
-    pub const COMPARED: [Self; 68] = [
+    pub const COMPARED: [Self; 72] = [
         Self::AddsLastQty,
         Self::AcknowledgesLater,
         Self::SevenEarly,
@@ -204,6 +213,10 @@ impl Fault {
         Self::HalfToEven,
         Self::Truncated,
         Self::AllUp,
+        Self::OneBeforeSix,
+        Self::ShortBeforeQuestions,
+        Self::ShortEndsPending,
+        Self::ShortByItsReport,
         Self::PageDigitOff,
         Self::PageLeavesOfDone,
         Self::PageReversed,
@@ -247,8 +260,8 @@ impl Fault {
     ];
 }
 
-const EMPTY_ANSWER: [u8; 4] = [4, 0, 0, 0];
-const OVERFILL_ANSWER: [u8; 4] = [4, 0, 0, 2];
+const EMPTY_ANSWER: [u8; 5] = [5, 0, 0, 0, 0];
+const OVERFILL_ANSWER: [u8; 5] = [5, 0, 0, 2, 0];
 
 /// The event as the machine with that fault takes it.
 pub fn event(fault: Fault, machine: &mut Machine, record: &[u8], buffer: usize) -> Result<Vec<u8>, u32> {
@@ -286,6 +299,15 @@ pub fn event(fault: Fault, machine: &mut Machine, record: &[u8], buffer: usize) 
             *machine = before;
             Ok(OVERFILL_ANSWER.to_vec())
         }
+        Fault::OneBeforeSix
+        | Fault::ShortBeforeQuestions
+        | Fault::ShortEndsPending
+        | Fault::ShortByItsReport
+            if outcome.as_ref().is_ok_and(|answer| alarms(answer)[0] == short::ALARM) =>
+        {
+            let name = bytes(&order.expect("a Filled is under a request").name);
+            filled_short(fault, machine, before, (&name, &read), outcome, buffer)
+        }
         Fault::SourceByPrice
         | Fault::NoSourceWithoutRise
         | Fault::SourceWithoutReport
@@ -299,6 +321,35 @@ pub fn event(fault: Fault, machine: &mut Machine, record: &[u8], buffer: usize) 
             outcome
         }
     }
+}
+
+/// What a fault makes of a short Filled on the order of that name.
+fn filled_short(
+    fault: Fault,
+    machine: &mut Machine,
+    before: Machine,
+    (name, event): (&[u8], &Record<'_>),
+    outcome: Result<Vec<u8>, u32>,
+    buffer: usize,
+) -> Result<Vec<u8>, u32> {
+    let mut answer = outcome?;
+    let [alarm, alarm2] = alarms(&answer);
+    let order = machine.order_mut(name).expect("a booked order");
+    match fault {
+        Fault::OneBeforeSix if alarm2 > 0 => answer[3..5].copy_from_slice(&[alarm2, alarm]),
+        Fault::ShortBeforeQuestions => {
+            *machine = before;
+            answer = machine.event(&Draft::of(event).number(ORD_STATUS, b'0').bytes(), buffer)?;
+            answer[3..5].copy_from_slice(&[alarm, alarm2]);
+        }
+        Fault::ShortEndsPending => (order.pending, order.gateway_cancel) = (None, None),
+        Fault::ShortByItsReport if event.number(CUM_QTY) >= qty_count(order.request.qty) => {
+            order.status = Status::Filled;
+            (order.pending, order.gateway_cancel) = (None, None);
+        }
+        _ => {}
+    }
+    Ok(answer)
 }
 
 /// The answer with the sources of its prices as the fault has them.
@@ -315,7 +366,7 @@ fn other_source(fault: Fault, event: &Record<'_>, answer: &[u8]) -> Vec<u8> {
         draft.number(PRICE_SOURCE, source)
     };
     let messages: Vec<Draft> = messages(answer).into_iter().map(other).collect();
-    of_messages(&messages, answer[3])
+    of_messages(&messages, alarms(answer))
 }
 
 /// The answer with the implied prices rounded as the fault has it.
@@ -338,7 +389,7 @@ fn other_price(fault: Fault, fill: &Fill, answer: &[u8]) -> Vec<u8> {
         _ => Draft::of(&message),
     };
     let messages: Vec<Draft> = messages(answer).into_iter().map(other).collect();
-    of_messages(&messages, answer[3])
+    of_messages(&messages, alarms(answer))
 }
 
 fn by_price(report: &Record<'_>, price: u128) -> Source {

@@ -4,7 +4,8 @@ use std::collections::BTreeMap;
 
 use gateway::LOG_SITES;
 use model::Machine;
-use model::answer::messages;
+use model::answer::{alarms, messages};
+use model::filled::Met;
 use model::record::{PRICE_SOURCE, Record};
 
 #[derive(Debug, Clone, Default)]
@@ -16,10 +17,12 @@ pub struct Tally {
     pub taken: BTreeMap<u8, u64>,
     pub refused: BTreeMap<u32, u64>,
     pub messages: BTreeMap<u8, u64>,
-    pub alarms: BTreeMap<u8, u64>,
+    pub alarms: BTreeMap<[u8; 2], u64>,
     pub sources: BTreeMap<u8, u64>,
     /// Events that ask a price which the rule for a half decides, and not the Rust.
     pub halves: u64,
+    /// What events with status Filled met.
+    pub met: Met,
 }
 
 impl Tally {
@@ -29,7 +32,7 @@ impl Tally {
             Err(refusal) => *self.refused.entry(*refusal).or_default() += 1,
             Ok(answer) => {
                 *self.taken.entry(record[0]).or_default() += 1;
-                *self.alarms.entry(answer[3]).or_default() += 1;
+                *self.alarms.entry(alarms(answer)).or_default() += 1;
                 for message in messages(answer) {
                     *self.messages.entry(message.kind).or_default() += 1;
                     if message.has(PRICE_SOURCE) {

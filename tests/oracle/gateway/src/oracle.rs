@@ -116,6 +116,11 @@ impl Book {
         self.orders.get_mut(&id)
     }
 
+    /// Marks a request answered, or not.
+    pub fn set_answered(&mut self, downstream: &str, answered: bool) {
+        self.downstream.get_mut(downstream).expect("a request").answered = answered;
+    }
+
     pub fn request_table(&self) -> &HashMap<CompactString, Sent> {
         &self.downstream
     }

@@ -37,8 +37,8 @@ fn samples() -> Vec<Draft> {
 
 /// All lists of this module.
 pub fn all() -> Vec<List> {
-    [vec![every_damage(), every_code(), every_length(), every_range()], every_pair(), every_quotient()]
-        .concat()
+    let single = vec![every_damage(), every_code(), every_length(), every_range(), full(), refused_filled()];
+    [single, every_pair(), every_quotient()].concat()
 }
 
 fn list(records: Vec<Vec<u8>>) -> List {
@@ -186,6 +186,27 @@ pub fn every_quotient() -> Vec<List> {
         List { setting: SETTING, items: orders.iter().enumerate().flat_map(of).collect() }
     };
     orders.map(list).collect()
+}
+
+/// 256 requests, one of them the gateway's cancel: refused with a short Filled it would go again and
+/// gets 7, and refused for good it is stuck, with two alarms.
+pub fn full() -> List {
+    let named = Named { client: 1, symbol: b"S".to_vec(), side: b'1' };
+    let cancel = |i: u32| events::cancel(&named, format!("c{i}").as_bytes(), b"b").bytes();
+    let refused = |reason: u32| events::cancel_reject(1, b"A-1", Some(b'2'), Some(reason)).bytes();
+    let mut records = vec![events::gateway_cancel(b"A").bytes()];
+    records.push(events::book(1, &named, b"B", b"b", 9, Some(9)).bytes());
+    records.extend((0..253).map(cancel));
+    records.extend([refused(99), refused(1)]);
+    list(records)
+}
+
+/// A cancel that a report refuses with Filled and a CumQty that would be whole: the book's counts.
+pub fn refused_filled() -> List {
+    let named = Named { client: 1, symbol: b"S".to_vec(), side: b'1' };
+    let whole = Filled { last_qty: 9, last_px: 1, cum_qty: 9, avg_px: 1 };
+    let refused = events::report(1, b"A-1", b'8', Some(b'2'), whole);
+    list(vec![events::cancel(&named, b"c", b"a").bytes(), refused.bytes()])
 }
 
 /// Every ExecType with every OrdStatus, with and without a rise, under each kind of request: the

@@ -87,7 +87,7 @@ pub const PROFILES: [Profile; 10] = [
         name: "full-tables",
         orders: 70,
         setting: (300, 300),
-        weights: [24, 96, 16, 10, 1, 12, 2, 2, 8],
+        weights: [36, 96, 16, 10, 1, 12, 2, 2, 8],
         fitting: 94,
         ..MIXED
     },

@@ -1,4 +1,4 @@
-//! Answers: their whole length in two bytes, the count of messages, the alarm's kind, then the
+//! Answers: their whole length in two bytes, the count of messages, the kinds of two alarms, then the
 //! messages as records. The Rust's outputs become messages here.
 
 use gateway::CompactString;
@@ -8,7 +8,10 @@ use crate::codes;
 use crate::numbers::{Fill, price_count, qty_count};
 use crate::record::*;
 
-pub const HEAD: usize = 4;
+pub const HEAD: usize = 5;
+
+/// The alarms of an answer, 0 for none: the second follows the first.
+pub type Alarms = [u8; 2];
 
 /// The alarm's number.
 pub fn alarm_code(kind: AlarmKind) -> u8 {
@@ -33,18 +36,23 @@ pub struct Brought<'a> {
 }
 
 /// The whole answer: all of it the Rust's, but for the price source and the price at an exact half.
-pub fn write(outputs: &[Output], alarm: u8, brought: Brought<'_>) -> Vec<u8> {
+pub fn write(outputs: &[Output], alarms: Alarms, brought: Brought<'_>) -> Vec<u8> {
     let messages: Vec<Draft> = outputs.iter().map(|output| message(output, brought)).collect();
-    of_messages(&messages, alarm)
+    of_messages(&messages, alarms)
 }
 
 /// The answer with these messages.
-pub fn of_messages(messages: &[Draft], alarm: u8) -> Vec<u8> {
-    let mut bytes = vec![0, 0, messages.len() as u8, alarm];
+pub fn of_messages(messages: &[Draft], alarms: Alarms) -> Vec<u8> {
+    let mut bytes = vec![0, 0, messages.len() as u8, alarms[0], alarms[1]];
     messages.iter().for_each(|message| bytes.extend(message.bytes()));
     let length = u16::try_from(bytes.len()).expect("an answer is short");
     bytes[..2].copy_from_slice(&length.to_le_bytes());
     bytes
+}
+
+/// The alarms of a whole answer.
+pub fn alarms(answer: &[u8]) -> Alarms {
+    [answer[3], answer[4]]
 }
 
 /// The messages of a whole answer.

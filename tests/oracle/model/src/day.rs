@@ -39,9 +39,15 @@ impl Day {
         self.0.event(&event.bytes(), 1_024).expect("rules, check() and demand 3 hold")
     }
 
-    /// Refusal, message count, alarm.
+    /// Refusal, message count, and the alarm, of which there is one at most.
     pub fn send(&mut self, event: &Draft) -> (u32, u8, u8) {
-        self.outcome(event).map_or_else(|refusal| (refusal, 0, 0), |answer| (0, answer[2], answer[3]))
+        self.outcome(event).map_or_else(
+            |refusal| (refusal, 0, 0),
+            |answer| {
+                assert_eq!(answer[4], 0, "one alarm");
+                (0, answer[2], answer[3])
+            },
+        )
     }
 
     /// Numbers of the event's only message; the most of all where a field does not stand.

@@ -6,10 +6,12 @@ pub mod codes;
 pub mod day;
 pub mod demand;
 pub mod events;
+pub mod filled;
 pub mod machine;
 pub mod numbers;
 pub mod record;
 pub mod rules;
+pub mod short;
 pub mod watch;
 
 pub use machine::Machine;

@@ -11,10 +11,11 @@ use gateway::book::{
 };
 use gateway::{CompactString, book};
 
-use crate::answer::{self, Brought, latin1};
+use crate::answer::{self, Alarms, Brought, latin1};
 use crate::codes;
 use crate::numbers::{Fill, price, price_count, qty, qty_count};
 use crate::record::*;
+use crate::short::{self, Short};
 
 pub const BOOK_BYTES: usize = 65_536;
 pub const ANSWER_BYTES: usize = 1_024;
@@ -100,21 +101,29 @@ impl Machine {
         }
         self.book.enter(latin1(record.text(NAME)), client, venue(record), request);
         self.book.discard_changes();
-        Ok(answer::write(&[], 0, Brought::default()))
+        Ok(answer::write(&[], [0, 0], Brought::default()))
     }
 
     /// Events 2 to 9: the book handles them, and gets its tables back where question 6 or 7 says no.
     fn handle(&mut self, record: &Record<'_>) -> Result<Vec<u8>, u32> {
-        let input = self.input(record);
+        let mut input = self.input(record);
+        let short = Short::of(&self.book, record);
         let fill = self.fill(record);
         let price_fits = record.kind != REPLACE || self.price_fits(record);
         let full = self.book.request_table().len() == MOST_REQUESTS;
         let before = (!price_fits || full).then(|| self.book.tables());
         self.book.judge_next(record.has(BLOCKED), codes::verdict(record.code(VERDICT)));
+        if let Some(short) = &short {
+            short.put(&mut self.book);
+            set_status(&mut input, short.status);
+        }
         let mut outputs = Vec::new();
         self.book.handle(input, &mut outputs);
         self.book.discard_changes();
-        let alarm = self.alarm();
+        if let Some(short) = &short {
+            short.left(&mut self.book, &mut outputs);
+        }
+        let alarms = self.alarms(short.is_some());
         let goes_out = outputs.iter().any(|output| matches!(output, Output::Replace { .. }));
         let refusal = match () {
             () if goes_out && !price_fits => Some(6),
@@ -127,7 +136,7 @@ impl Machine {
         }
         self.wrap_sequence(&mut outputs);
         let brought = Brought { text: record.maybe(TEXT, |r| r.text(TEXT)), fill };
-        Ok(answer::write(&outputs, alarm, brought))
+        Ok(answer::write(&outputs, alarms, brought))
     }
 
     /// What decides the price of a venue report's fill: the report's numbers and the order's as
@@ -157,14 +166,15 @@ impl Machine {
         ord_type.is_none_or(|ord_type| record.has(PRICE) == (ord_type == OrdType::Limit))
     }
 
-    /// The kind of the one alarm that the event raised, 0 for none.
-    fn alarm(&mut self) -> u8 {
+    /// The alarms that the event raised: a short Filled's before the one of the Rust.
+    fn alarms(&mut self, short: bool) -> Alarms {
         let events: Vec<GatewayEvent> = self.book.take_events().collect();
-        match &events[..] {
+        let raised = match &events[..] {
             [] => 0,
             [GatewayEvent::Alarm(alarm)] => answer::alarm_code(alarm.kind),
             events => panic!("more than one alarm: {events:?}"),
-        }
+        };
+        if short { [short::ALARM, raised] } else { [raised, 0] }
     }
 
     /// After the report sequence 2^64 - 1 comes 0, where the Rust stays at the last number.
@@ -281,6 +291,15 @@ pub fn venue(record: &Record<'_>) -> CompactString {
 
 fn status(record: &Record<'_>) -> Option<book::Status> {
     record.maybe(ORD_STATUS, |r| codes::status(r.code(ORD_STATUS)))
+}
+
+/// The status of a venue's report or refusal.
+fn set_status(input: &mut Input, other: book::Status) {
+    match input {
+        Input::VenueReport { report, .. } => report.status = Some(other),
+        Input::VenueCancelReject { status, .. } => *status = Some(other),
+        input => panic!("no status: {input:?}"),
+    }
 }
 
 fn venue_report(record: &Record<'_>) -> VenueReport {

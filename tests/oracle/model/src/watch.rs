@@ -1,32 +1,38 @@
 //! A machine under watch: after every event the Rust's own `check()`, the book's rules, demand
-//! 3, and the rules of docs/SCOPE.md, Over the Rust, are asserted. The Rust keeps the last
+//! 3, what a Filled leaves, and the rules of docs/SCOPE.md, Over the Rust, are asserted. The Rust keeps the last
 //! by itself in all that is run; a run where it does not ends in an error that names the rule.
 
 use std::panic::{AssertUnwindSafe, catch_unwind};
 
-use crate::answer::messages;
+use crate::answer::{alarms, messages};
 use crate::demand::{Before, History};
+use crate::filled::{self, Filled, Met};
 use crate::machine::Machine;
 use crate::numbers::Fill;
 use crate::record::*;
 use crate::rules;
+use crate::short;
 
 #[derive(Clone)]
 pub struct Watched {
     pub machine: Machine,
     history: History,
+    /// What events with status Filled met.
+    pub met: Met,
 }
 
 impl Watched {
     pub fn start(setting: u32) -> Self {
-        Self { machine: Machine::start(setting), history: History::default() }
+        Self { machine: Machine::start(setting), history: History::default(), met: Met::new() }
     }
 
     /// The event's outcome, or what does not hold after it.
     pub fn event(&mut self, record: &[u8], answer_buffer: usize) -> Result<Result<Vec<u8>, u32>, String> {
         let read = Record::read_event(record).filter(Record::in_range);
         let before = read.as_ref().map(|read| (Before::of(&self.machine, read), self.machine.fill(read)));
+        let filled = read.as_ref().and_then(|read| Filled::of(self.machine.book(), read));
         let outcome = self.machine.event(record, answer_buffer);
+        self.judge(filled, &outcome)?;
         let (Ok(answer), Some(read), Some((before, fill))) = (&outcome, &read, before) else {
             return Ok(outcome);
         };
@@ -36,6 +42,25 @@ impl Watched {
         let book = self.machine.book();
         catch_unwind(AssertUnwindSafe(|| book.check_invariants())).map_err(|_| "the Rust's check()")?;
         Ok(outcome)
+    }
+}
+
+impl Watched {
+    /// Alarm 6 and a second alarm come with a short Filled alone; Filled orders are whole.
+    fn judge(&mut self, filled: Option<Filled>, outcome: &Result<Vec<u8>, u32>) -> Result<(), String> {
+        let book = self.machine.book();
+        let met = match (filled, outcome) {
+            (Some(filled), Ok(answer)) => Some(filled.judge(book, answer)?),
+            (Some(filled), Err(refusal)) => filled.refused(*refusal),
+            (None, Ok(answer)) if alarms(answer)[0] == short::ALARM || alarms(answer)[1] > 0 => {
+                return Err(format!("alarms {:?} without a Filled", alarms(answer)));
+            }
+            (None, _) => None,
+        };
+        if let Some(met) = met {
+            *self.met.entry(met).or_default() += 1;
+        }
+        filled::whole(book).map_err(|order| format!("{order:?} is Filled and not whole"))
     }
 }
 

@@ -1,6 +1,6 @@
 //! docs/SCOPE.md, Days in small, line by line, and what it states in passing, through the model.
 
-use model::answer::messages;
+use model::answer::{HEAD, messages};
 use model::day::*;
 use model::events::{self, Filled};
 use model::record::*;
@@ -122,7 +122,7 @@ fn questions_come_in_order() {
     assert_eq!(outcome(&mut day, &again.clone().without(PRICE).bytes(), 1_024), Err(5));
     let other = again.text(NAME, "B").text(CL_ORD_ID, "b1");
     assert_eq!(outcome(&mut day, &other.clone().without(PRICE).bytes(), 1_024), Err(6));
-    assert_eq!(outcome(&mut day, &other.bytes(), usize::MAX).map(|answer| answer.len()), Ok(4));
+    assert_eq!(outcome(&mut day, &other.bytes(), usize::MAX).map(|answer| answer.len()), Ok(HEAD));
 }
 
 #[test]

@@ -13,21 +13,6 @@ fn code(character: u8) -> u128 {
 }
 
 #[test]
-fn filled_below_its_quantity_has_leaves_0() {
-    let mut day = Day::booked();
-    let short = report(b'F', b'2', fill(1, 1, 10 * UNIT, 10 * UNIT));
-    assert_eq!(day.told(&short, [ORD_STATUS, CUM_QTY, LEAVES_QTY]), [code(b'2'), 10_000, 0]);
-}
-
-#[test]
-fn a_refusals_status_ends_an_order() {
-    let mut day = Day::booked();
-    day.send(&cancel("c2"));
-    assert_eq!(day.told(&refused("A-1", Some(b'2'), None), [ORD_STATUS]), [code(b'2')]);
-    assert_eq!(day.stands(), (b'2', 0, 0));
-}
-
-#[test]
 fn a_gateway_cancel_refused_as_unknown_and_rejected_ends_an_order_unheard() {
     let mut day = Day::booked();
     day.send(&filled(40, 40, 10 * UNIT, 10 * UNIT));

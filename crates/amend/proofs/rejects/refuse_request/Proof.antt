@@ -42,7 +42,7 @@ returns-4 c =
     let c6 = c5 .before in
     let c7 = c6 .before .before in
     let c8 = c7 .before in
-    rw (← c8 .is-first .ensures, c7 .if1 .left, eq-eqb _ _ (c6 .if2 .left), ← c5 .is-answered .ensures, c4 .if3 .left, ← c3 .refused-order .ensures, ← c2 .settled .ensures, ← c1 .is-gateway .ensures, c .if4 .taken)
+    rw (← c8 .is-first .ensures, c7 .if1 .left, eq-eqb _ _ (c6 .if2 .left), ← c5 .is-answered .ensures, c4 .if3 .left, ← c3 .refused-order .ensures, ← c2 .refused-change .ensures, ← c1 .is-gateway .ensures, c .if4 .taken)
 
 returns-5 : tie.Need-returns-5
 unfolding refuseRequest if_then_else_
@@ -57,7 +57,7 @@ returns-5 c =
     let c8 = c7 .before in
     let c9 = c8 .before .before in
     let c10 = c9 .before in
-    rw (← c10 .is-first .ensures, c9 .if1 .left, eq-eqb _ _ (c8 .if2 .left), ← c7 .is-answered .ensures, c6 .if3 .left, ← c5 .refused-order .ensures, ← c4 .settled .ensures, ← c3 .is-gateway .ensures, c2 .if4 .left, c1 .if5 .taken, ← c .gateway-cancel-refused .ensures)
+    rw (← c10 .is-first .ensures, c9 .if1 .left, eq-eqb _ _ (c8 .if2 .left), ← c7 .is-answered .ensures, c6 .if3 .left, ← c5 .refused-order .ensures, ← c4 .refused-change .ensures, ← c3 .is-gateway .ensures, c2 .if4 .left, c1 .if5 .taken, ← c .gateway-cancel-refused .ensures)
 
 returns-6 : tie.Need-returns-6
 unfolding refuseRequest if_then_else_
@@ -73,7 +73,7 @@ returns-6 c =
     let c9 = c8 .before in
     let c10 = c9 .before .before in
     let c11 = c10 .before in
-    rw (← c11 .is-first .ensures, c10 .if1 .left, eq-eqb _ _ (c9 .if2 .left), ← c8 .is-answered .ensures, c7 .if3 .left, ← c6 .refused-order .ensures, ← c5 .settled .ensures, ← c4 .is-gateway .ensures, c3 .if4 .left, c2 .if5 .left, ← c1 .refused-message .ensures, ← c .telling .ensures)
+    rw (← c11 .is-first .ensures, c10 .if1 .left, eq-eqb _ _ (c9 .if2 .left), ← c8 .is-answered .ensures, c7 .if3 .left, ← c6 .refused-order .ensures, ← c5 .refused-change .ensures, ← c4 .is-gateway .ensures, c3 .if4 .left, c2 .if5 .left, ← c1 .refused-message .ensures, ← c .telling .ensures)
 
 pub refuse-request-spec : {M : Type 1} → statement M
 refuse-request-spec = tie.close (tie.spec (λ c κs. search needs) (λ c κs. search needs) returns (λ c κs. search needs) returns-2 (λ c κs. search needs) (λ c κs. search needs) returns-3 (λ c κs. search needs) (λ c κs. search needs) (λ c κs. search needs) returns-4 (λ c κs. search needs) returns-5 (λ c κs. search needs) (λ c κs. search needs) returns-6)

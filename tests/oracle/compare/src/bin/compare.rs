@@ -98,7 +98,7 @@ fn find_faults(lists: u64) -> ExitCode {
     let mut missed = 0;
     for fault in Fault::COMPARED {
         plant(Some(fault));
-        // A profile each, then the lists about positions and quotients, then more.
+        // A profile each, then the lists about positions, quotients and a refusal, then more.
         let drawn = |seeds: RangeInclusive<u64>| {
             seeds.map(|seed| {
                 (format!("seed {seed}"), list(&PROFILES[seed as usize % PROFILES.len()], seed, 400))
@@ -107,7 +107,9 @@ fn find_faults(lists: u64) -> ExitCode {
         let about = positions::all().into_iter().map(|list| ("a list about positions".into(), list));
         let halves =
             exhaustive::every_quotient().into_iter().map(|list| ("a list of quotients".into(), list));
-        let mut tried = drawn(1..=10).chain(about).chain(halves).chain(drawn(11..=lists));
+        let filled = [("a refusal with Filled".into(), exhaustive::refused_filled())];
+        let fixed = about.chain(halves).chain(filled);
+        let mut tried = drawn(1..=10).chain(fixed).chain(drawn(11..=lists));
         let found = tried.find_map(|(origin, list)| {
             compare(&STAND_IN, &list, PROBING, None).err().map(|mismatch| (origin, mismatch))
         });

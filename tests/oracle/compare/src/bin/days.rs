@@ -8,6 +8,7 @@ use std::process::ExitCode;
 
 use lists::{Generator, PROFILES, Profile};
 use model::Machine;
+use model::answer::alarms;
 use model::day::{SHARE, UNIT, VENUE_1, fill, filled, named, report};
 use model::events;
 
@@ -118,16 +119,16 @@ impl Day {
 
     fn output(&self) -> String {
         let mut machine = Machine::start(SETTING);
-        let mut lines = vec!["event refusal messages alarm".to_string()];
+        let mut lines = vec!["event refusal messages alarm alarm2".to_string()];
         for record in &self.records {
-            let (refusal, messages, alarm) = match machine.event(record, 1_024) {
-                Ok(answer) => (0, answer[2], answer[3]),
-                Err(refusal) => (refusal, 0, 0),
+            let (refusal, messages, [alarm, alarm2]) = match machine.event(record, 1_024) {
+                Ok(answer) => (0, answer[2], alarms(&answer)),
+                Err(refusal) => (refusal, 0, [0, 0]),
             };
-            lines.push(format!("{} {refusal} {messages} {alarm}", lines.len()));
+            lines.push(format!("{} {refusal} {messages} {alarm} {alarm2}", lines.len()));
         }
         if !self.cut.is_empty() {
-            lines.push(format!("{} 3 0 0", lines.len()));
+            lines.push(format!("{} 3 0 0 0", lines.len()));
         }
         lines.iter().map(|line| format!("{line}\n")).collect()
     }
@@ -136,11 +137,11 @@ impl Day {
 /// How many events were refused with each number, and how many had messages and alarms.
 fn counts(output: &str) -> String {
     let numbers = |line: &str| line.split(' ').map(str::parse).collect::<Result<Vec<usize>, _>>().ok();
-    let (mut refusals, mut messages, mut alarms) = ([0; 8], [0; 3], [0; 6]);
+    let (mut refusals, mut messages, mut alarms) = ([0; 8], [0; 3], [0; 7]);
     for line in output.lines().filter_map(numbers) {
         refusals[line[1]] += 1;
         messages[line[2]] += 1;
         alarms[line[3]] += 1;
     }
-    format!("refusals 0 to 7 {refusals:?}, messages 0 to 2 {messages:?}, alarms 0 to 5 {alarms:?}")
+    format!("refusals 0 to 7 {refusals:?}, messages 0 to 2 {messages:?}, alarms 0 to 6 {alarms:?}")
 }

@@ -18,9 +18,7 @@ const EVENTS: usize = 60;
 const LOOKED_AT: u64 = 12;
 
 /// The classes that docs/DIFFERENCES.md lists.
-const LISTED: [Objection; 17] = [
-    Objection::Leaves,
-    Objection::FilledShort,
+const LISTED: [Objection; 15] = [
     Objection::PartiallyFilledNone,
     Objection::PartiallyFilledWhole,
     Objection::RejectedWithFills,

@@ -6,7 +6,8 @@ use std::process::ExitCode;
 
 use compare::tally::{Tally, log_sites};
 use compare::{minimize::minimize, show};
-use lists::{List, PROFILES, list};
+use lists::{List, PROFILES, exhaustive, list};
+use model::filled::MEETINGS;
 use model::watch::Watched;
 
 fn main() -> ExitCode {
@@ -24,14 +25,18 @@ fn main() -> ExitCode {
             return ExitCode::FAILURE;
         }
     }
+    // Drawn lists seldom refuse the gateway's cancel with both a short Filled and a full table.
+    watch(&exhaustive::full(), Some(&mut tally)).expect("its rules are kept");
     tally.print();
+    println!("  a status Filled {:?}", tally.met);
+    let unmet: Vec<_> = MEETINGS.iter().filter(|&&met| !tally.met.contains_key(met)).collect();
     let (reached, all, missed) = log_sites();
     let (lists, events) = (tally.lists, tally.events);
     println!("lists: {lists} lists, {events} events, all rules kept; {reached} of {all} log sites reached");
-    if missed.is_empty() {
+    if missed.is_empty() && unmet.is_empty() {
         return ExitCode::SUCCESS;
     }
-    println!("log sites that the lists should have reached: {missed:?}");
+    println!("log sites that the lists should have reached: {missed:?}; of a Filled: {unmet:?}");
     ExitCode::FAILURE
 }
 
@@ -42,6 +47,11 @@ fn watch(list: &List, mut tally: Option<&mut Tally>) -> Result<(), (usize, Strin
         let outcome = watched.event(&item.record, item.answer_buffer).map_err(|error| (at, error))?;
         if let Some(tally) = &mut tally {
             tally.add(&item.record, &outcome);
+        }
+    }
+    if let Some(tally) = tally {
+        for (met, count) in watched.met {
+            *tally.met.entry(met).or_default() += count;
         }
     }
     Ok(())

@@ -7,7 +7,7 @@
 use std::process::ExitCode;
 
 use lists::{PROFILES, exhaustive, list};
-use model::answer::{messages, of_messages};
+use model::answer::{HEAD, alarms, messages, of_messages};
 use model::machine::Machine;
 use model::record::{Draft, PRICE_SOURCE, REPORT_MESSAGE, Record};
 
@@ -101,7 +101,7 @@ fn other_sources(answer: &[u8]) -> Vec<(Vec<u8>, u8)> {
         let mut put = |draft: Draft, refusal: u8| {
             let mut drafts = drafts.clone();
             drafts[at] = draft;
-            altered.push((of_messages(&drafts, answer[3]), refusal));
+            altered.push((of_messages(&drafts, alarms(answer)), refusal));
         };
         let report = message.kind == REPORT_MESSAGE;
         if report {
@@ -121,6 +121,6 @@ fn other_sources(answer: &[u8]) -> Vec<(Vec<u8>, u8)> {
 
 /// The longest answer for each kind of first message.
 fn longest_by_kind(answers: &[Vec<u8>]) -> Vec<&Vec<u8>> {
-    let of_kind = |kind: u8| answers.iter().filter(move |answer| answer.get(4) == Some(&kind));
+    let of_kind = |kind: u8| answers.iter().filter(move |answer| answer.get(HEAD) == Some(&kind));
     (16..=20).filter_map(|kind| of_kind(kind).max_by_key(|answer| answer.len())).collect()
 }

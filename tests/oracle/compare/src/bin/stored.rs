@@ -44,7 +44,7 @@ fn replay_files(files: &[&str]) -> ExitCode {
 }
 
 /// Short lists of every profile and the pairs, chosen for coverage; one list with both tables
-/// full; each cut and each bit of the head of each kind of record; fields at and past their ranges.
+/// full, one whose full table refuses a short Filled; each cut and each bit of the head of each kind of record; fields at and past their ranges.
 fn fixed() -> Vec<List> {
     let profile = |seed: u64| &PROFILES[seed as usize % PROFILES.len()];
     let short =
@@ -52,6 +52,7 @@ fn fixed() -> Vec<List> {
     let mut lists = choose(short.chain(exhaustive::every_pair()).collect(), EVENTS);
     let full = PROFILES.iter().find(|profile| profile.name == "full-tables").expect("a profile");
     lists.push(list(full, FIRST_SEED, 420));
+    lists.push(exhaustive::full());
     lists.push(exhaustive::every_head());
     lists.push(exhaustive::every_range());
     lists

@@ -72,6 +72,9 @@ impl Generator {
             (b'C', Some(b'C')),
             (b'8', Some(b'8')),
             (b'F', None),
+            (b'F', Some(b'2')),
+            (b'5', Some(b'2')),
+            (b'8', Some(b'2')),
         ];
         let usual = if self.random.chance(12) { rare } else { pairs };
         *self.random.pick(usual)
@@ -83,7 +86,9 @@ impl Generator {
         let pending = order.pending.as_ref().map_or(ordered, |pending| qty_count(pending.qty));
         let cum_qty = match exec_type {
             _ if self.wrong() => draw::near(&mut self.random, &[old, ordered, pending], 10_000),
-            b'F' if status == Some(b'2') => ordered,
+            // A venue may say Filled below the quantity, and by the terms that are pending.
+            _ if status == Some(b'2') && self.random.chance(30) => self.random.range(old, pending.max(old)),
+            b'F' if status == Some(b'2') => *self.random.pick(&[ordered, ordered, pending]),
             b'F' => self.random.range(old, ordered.max(old)),
             _ if self.random.chance(90) => old,
             _ => draw::near(&mut self.random, &[old, ordered, pending], 10_000),
@@ -147,7 +152,7 @@ impl Generator {
             1 => self.request(&order, |request| request.kind.is_some() && !request.answered),
             _ => self.request(&order, |request| request.kind == Some(CancelKind::Cancel)),
         };
-        let live = [b'0', b'1', status_code(order.status)];
+        let live = [b'0', b'1', b'2', status_code(order.status), status_code(order.status)];
         let status = match self.random.below(5) {
             0 if !self.fits() => Some(self.any_status()),
             0 | 1 => Some(*self.random.pick(&live)),
