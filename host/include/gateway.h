@@ -1,4 +1,4 @@
-/* The proved order book: six functions over lent slices, each a pointer and then a length. What they do stands in
+/* The proved order book: eight functions over lent slices, each a pointer and then a length. What they do stands in
  * docs/SCOPE.md, the book's bytes in docs/LAYOUT.md.
  *
  * Each pointer must be valid for its length, and the slices of one call must not overlap. Any bytes may be passed. A call
@@ -21,6 +21,8 @@ extern "C" {
 #define JUBAFIYE_NET_LINE 27
 #define JUBAFIYE_NET_BYTES 1728 /* what the lines of the net position need, whatever the book: 64 */
 #define JUBAFIYE_NET_SCRATCH 1  /* the numbers that its scratch needs */
+#define JUBAFIYE_MARK_NAME 32   /* a place: a name, filled with zeros, and the image of a book */
+#define JUBAFIYE_PLACE_BYTES 65568
 
 /* Makes an empty book. setting: the most ClOrdIDs that a client may use, the reserve included.
  * 0, or 1 where the book has another length. */
@@ -67,6 +69,20 @@ Opened open_quantity(const uint8_t *book, size_t book_len, uint16_t client);
 Counted net_position(const uint8_t *book, size_t book_len, uint64_t *scratch, size_t count, uint8_t *lines,
                      size_t lines_len);
 
+/* Sets a mark in a buffer of whole places of JUBAFIYE_PLACE_BYTES, a last part that is shorter not used: the name, filled with
+ * zeros, and the book's image go to the first place of that name, else to the first free one, whose name is all zero. No other
+ * byte changes. A place whose name is no name belongs to nobody. Refused with JUBAFIYE_REFUSED_BOOK, then with
+ * JUBAFIYE_REFUSED_MARK_NAME where the name is not 1 to 16 letters or digits, then with JUBAFIYE_REFUSED_NO_PLACE where no place
+ * is of that name and none is free. */
+uint32_t set_mark(const uint8_t *book, size_t book_len, const uint8_t *name, size_t name_len, uint8_t *places,
+                  size_t places_len);
+
+/* Makes the book the image of a mark: the first place of that name whose image keeps the book's rules, byte for byte. The report
+ * sequences are the image's again, so that ExecIDs that were sent before come again with other contents. Refused with
+ * JUBAFIYE_REFUSED_BOOK, then with JUBAFIYE_REFUSED_MARK_NAME, then with JUBAFIYE_REFUSED_NO_MARK where there is no such place. */
+uint32_t return_to_mark(uint8_t *book, size_t book_len, const uint8_t *name, size_t name_len, const uint8_t *places,
+                        size_t places_len);
+
 /* What the functions return. */
 enum {
     JUBAFIYE_TAKEN = 0,
@@ -78,7 +94,10 @@ enum {
     JUBAFIYE_REFUSED_PRICE = 6,         /* a price without a limit, or a limit without a price */
     JUBAFIYE_REFUSED_FULL = 7,          /* no free order or request record */
     JUBAFIYE_REFUSED_PAGE_BUFFER = 8,   /* the page's buffer is shorter than JUBAFIYE_PAGE_LINE bytes for each order */
-    JUBAFIYE_REFUSED_NET_BUFFERS = 11   /* the net position's scratch or output is smaller than it must be */
+    JUBAFIYE_REFUSED_NET_BUFFERS = 11,  /* the net position's scratch or output is smaller than it must be */
+    JUBAFIYE_REFUSED_MARK_NAME = 13,    /* a mark's name is not 1 to 16 letters or digits */
+    JUBAFIYE_REFUSED_NO_MARK = 14,      /* no mark of that name has an image that keeps the book's rules */
+    JUBAFIYE_REFUSED_NO_PLACE = 15      /* no place is free for a mark of a new name */
 };
 
 /* A record: a kind (1 byte), a map of 32 bits (4 bytes), then the fields whose bit stands, in bit order. All numbers are

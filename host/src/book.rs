@@ -98,6 +98,11 @@ impl Book {
         &self.bytes
     }
 
+    /// For a call that leaves a book which keeps its rules.
+    pub(crate) fn bytes_mut(&mut self) -> &mut BookBytes {
+        &mut self.bytes
+    }
+
     /// Whether the book keeps its rules, which it always does.
     ///
     /// ```

@@ -21,6 +21,11 @@ pub(crate) const NET_LINE: usize = 27;
 pub(crate) const NET_LINES: usize = NET_LINE * ORDERS;
 pub(crate) const NET_NUMBERS: usize = 1;
 
+/// A place of a mark: 32 bytes for a name, which has 16 letters at most, and the image of a book.
+pub(crate) const MARK_NAME: usize = 32;
+pub(crate) const MARK_LETTERS: usize = 16;
+pub(crate) const MARK_PLACE: usize = MARK_NAME + BOOK_BYTES;
+
 /// A book's bytes: the type holds their number.
 pub(crate) type BookBytes = [u8; BOOK_BYTES];
 
@@ -60,6 +65,22 @@ mod c {
             lines: *mut u8,
             lines_len: usize,
         ) -> Counted;
+        pub fn set_mark(
+            book: *const u8,
+            book_len: usize,
+            name: *const u8,
+            name_len: usize,
+            places: *mut u8,
+            places_len: usize,
+        ) -> u32;
+        pub fn return_to_mark(
+            book: *mut u8,
+            book_len: usize,
+            name: *const u8,
+            name_len: usize,
+            places: *const u8,
+            places_len: usize,
+        ) -> u32;
     }
 }
 
@@ -133,4 +154,29 @@ pub(crate) fn net_position(
     Refusal::of(counted.refusal)?;
     // A number that is past the address space is past any buffer.
     Ok(usize::try_from(counted.number).unwrap_or(usize::MAX))
+}
+
+/// Sets a mark in a buffer of places; a refused call has changed nothing.
+#[allow(unsafe_code)]
+pub(crate) fn set_mark(book: &BookBytes, name: &[u8], places: &mut [u8]) -> Result<(), Refusal> {
+    // SAFETY: three slices, of which the one that is written overlaps no other, since it is lent as `&mut`; each with its length.
+    Refusal::of(unsafe {
+        c::set_mark(book.as_ptr(), book.len(), name.as_ptr(), name.len(), places.as_mut_ptr(), places.len())
+    })
+}
+
+/// Makes the book the image of a mark; a refused call has changed nothing.
+#[allow(unsafe_code)]
+pub(crate) fn return_to_mark(book: &mut BookBytes, name: &[u8], places: &[u8]) -> Result<(), Refusal> {
+    // SAFETY: three slices, of which the one that is written overlaps no other, since it is lent as `&mut`; each with its length.
+    Refusal::of(unsafe {
+        c::return_to_mark(
+            book.as_mut_ptr(),
+            book.len(),
+            name.as_ptr(),
+            name.len(),
+            places.as_ptr(),
+            places.len(),
+        )
+    })
 }

@@ -40,6 +40,12 @@ pub enum Refusal {
     Room,
     /// 11: the net position's scratch or output is smaller than it must be.
     NetBuffers,
+    /// 13: a mark's name is not 1 to 16 letters or digits.
+    MarkName,
+    /// 14: no mark of that name has an image that keeps the book's rules.
+    NoMark,
+    /// 15: no place is free for a mark of a new name.
+    NoPlace,
     /// Another number, which this crate does not know: the library is of another version.
     Other(u32),
 }
@@ -59,6 +65,9 @@ impl Refusal {
             Self::Text => 9,
             Self::Room => 10,
             Self::NetBuffers => 11,
+            Self::MarkName => 13,
+            Self::NoMark => 14,
+            Self::NoPlace => 15,
             Self::Other(number) => number,
         }
     }
@@ -84,6 +93,9 @@ impl Refusal {
             9 => Self::Text,
             10 => Self::Room,
             11 => Self::NetBuffers,
+            13 => Self::MarkName,
+            14 => Self::NoMark,
+            15 => Self::NoPlace,
             _ => Self::Other(number),
         })
     }
@@ -108,6 +120,9 @@ impl fmt::Display for Refusal {
             Self::Text => "a text for FIX is empty or has a byte below 32",
             Self::Room => "the buffer cannot hold the FIX message",
             Self::NetBuffers => "the net position's scratch or output is too small",
+            Self::MarkName => "a mark's name is not 1 to 16 letters or digits",
+            Self::NoMark => "no mark of that name has an image that keeps the rules",
+            Self::NoPlace => "no place is free for a new mark",
             Self::Other(_) => "a number that is not known here",
         };
         write!(f, "refused with {}: {why}", self.number())

@@ -55,6 +55,8 @@ mod fields;
 #[cfg(feature = "fix")]
 pub mod fix;
 mod list;
+#[cfg(feature = "book")]
+mod marks;
 mod message;
 #[cfg(feature = "book")]
 mod net;
@@ -74,6 +76,8 @@ pub use entries::{ANSWER_BYTES, BOOK_BYTES};
 pub use error::{BadAnswer, Error, Fault, Refusal};
 pub use event::{Amend, Booking, Event, RejectedRequest, Replace, VenueReport};
 pub use fields::{ExecType, OrdStatus, OrdType, Side, TimeInForce};
+#[cfg(feature = "book")]
+pub use marks::{Marks, PLACE_BYTES};
 pub use message::{CancelReject, Message, PriceSource, Report, RequestKind, ToVenue};
 #[cfg(feature = "book")]
 pub use net::{NetLine, NET_BYTES, NET_SCRATCH};

@@ -9,6 +9,7 @@ static uint8_t answer[JUBAFIYE_ANSWER_BYTES];
 static uint8_t out[JUBAFIYE_PAGE_BYTES];
 static uint8_t lines[JUBAFIYE_NET_BYTES];
 static uint64_t scratch[JUBAFIYE_NET_SCRATCH];
+static uint8_t places[JUBAFIYE_PLACE_BYTES];
 
 /* Client 0x0107 books 5 of W for venue 3 at the market, named A, ClOrdID C. */
 static const uint8_t booking[] = {JUBAFIYE_EVENT_BOOK, 0xCF, 0x03, 0, 0, 0x07, 0x01, 3, 0, 1, 'A', 1, 'C', 1, 'W', '1', '1',
@@ -54,6 +55,19 @@ int main(void) {
     expect("net_position, lines short", netted.refusal == JUBAFIYE_REFUSED_NET_BUFFERS && netted.number == 0);
     netted = net_position(book, sizeof book - 1, scratch, 0, lines, 0);
     expect("net_position, refused", netted.refusal == JUBAFIYE_REFUSED_BOOK && netted.number == 0);
+
+    static const uint8_t name[] = {'M'}, sign[] = {'-'}, other[] = {'N'};
+    expect("set_mark", set_mark(book, sizeof book, name, 1, places, sizeof places) == JUBAFIYE_TAKEN);
+    expect("its place", places[0] == 'M' && places[1] == 0 && memcmp(places + JUBAFIYE_MARK_NAME, book, sizeof book) == 0);
+    expect("set_mark, no name", set_mark(book, sizeof book, sign, 1, places, sizeof places) == JUBAFIYE_REFUSED_MARK_NAME);
+    expect("set_mark, no place", set_mark(book, sizeof book, other, 1, places, sizeof places) == JUBAFIYE_REFUSED_NO_PLACE);
+    expect("start again", start(book, sizeof book, 7) == JUBAFIYE_TAKEN && page(book, sizeof book, out, 0).number == 0);
+    expect("return_to_mark", return_to_mark(book, sizeof book, name, 1, places, sizeof places) == JUBAFIYE_TAKEN);
+    expect("the book again", memcmp(places + JUBAFIYE_MARK_NAME, book, sizeof book) == 0);
+    expect("return_to_mark, no mark",
+           return_to_mark(book, sizeof book, other, 1, places, sizeof places) == JUBAFIYE_REFUSED_NO_MARK);
+    expect("return_to_mark, refused",
+           return_to_mark(book, sizeof book - 1, sign, 1, places, sizeof places) == JUBAFIYE_REFUSED_BOOK);
 
     if (!failed) {
         printf("calls: each function from C\n");

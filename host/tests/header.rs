@@ -1,6 +1,8 @@
 //! The numbers of include/gateway.h against those of this crate; the fields' bits are compared in src/record.rs.
 
-use jubafiye::{Alarm, Event, Refusal, ANSWER_BYTES, BOOK_BYTES, NET_BYTES, NET_SCRATCH, PAGE_BYTES};
+use jubafiye::{
+    Alarm, Event, Refusal, ANSWER_BYTES, BOOK_BYTES, NET_BYTES, NET_SCRATCH, PAGE_BYTES, PLACE_BYTES,
+};
 
 const HEADER: &str = include_str!("../include/gateway.h");
 
@@ -27,7 +29,7 @@ fn lengths() {
     assert_eq!((number("BOOK_BYTES"), number("ANSWER_BYTES")), (Some(BOOK_BYTES), Some(ANSWER_BYTES)));
     assert_eq!((number("PAGE_LINE"), number("PAGE_BYTES")), (Some(PAGE_BYTES / 64), Some(PAGE_BYTES)));
     assert_eq!((number("NET_LINE"), number("NET_BYTES")), (Some(NET_BYTES / 64), Some(NET_BYTES)));
-    assert_eq!(number("NET_SCRATCH"), Some(NET_SCRATCH));
+    assert_eq!((number("NET_SCRATCH"), number("PLACE_BYTES")), (Some(NET_SCRATCH), Some(PLACE_BYTES)));
 }
 
 #[test]
@@ -42,6 +44,9 @@ fn refusals_and_alarms() {
         ("FULL", Refusal::Full),
         ("PAGE_BUFFER", Refusal::PageBuffer),
         ("NET_BUFFERS", Refusal::NetBuffers),
+        ("MARK_NAME", Refusal::MarkName),
+        ("NO_MARK", Refusal::NoMark),
+        ("NO_PLACE", Refusal::NoPlace),
     ];
     for (name, refusal) in refusals {
         assert_eq!(number(&format!("REFUSED_{name}")), Some(refusal.number() as usize), "{name}");

@@ -8,3 +8,4 @@ pub mod Calls
 pub mod OpenQuantity
 pub mod Exchange
 pub mod Net
+pub mod Marks

@@ -69,7 +69,7 @@ calls-image : (s : SinceReturn entries) (cs : List Call) → follow entries s (o
 calls-image s [] = refl
 calls-image s (c ∷ cs) = calls-image _ cs
 
-start-passes : (b : List ℕ) (setting : ℕ) → startRefusal b ≡ 0 → Passes (startOf b setting)
+pub start-passes : (b : List ℕ) (setting : ℕ) → startRefusal b ≡ 0 → Passes (startOf b setting)
 start-passes b setting z =
     subst Passes (sym (start-is b setting z)) (record { bytes = bytes-blank setting; passes = check-kept (blank setting) (blank-keeps setting) })
 

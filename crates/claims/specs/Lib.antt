@@ -3,3 +3,4 @@ pub mod Claims
 pub mod Opens
 pub mod Exchange
 pub mod Net
+pub mod Marks

@@ -2,7 +2,7 @@
 use Prim.Native.Nat.{ℕ, _+_}
 use mathlib.Core.Path.{_≡_, refl}
 use mathlib.Core.Bool.{Bool, true, false}
-use mathlib.Core.List.{List, [], _∷_, map}
+use mathlib.Core.List.{List, [], _∷_, _++_, map}
 use Rattle.prelude.specs.Texts.{textOf, contents}
 use Rattle.prelude.specs.Totals.{howMany}
 use Rattle.prelude.specs.declared.Text.{Text}
@@ -125,6 +125,12 @@ sinceOf before after =
 abbrev counted : (new held : List (List ℕ)) (base failures tries : ℕ) → Since
 counted new held base failures tries = record { new = new; held = held; base = base; failures = failures; tries = tries }
 
+-- a near reading: the new requests by the messages of both, those after the return and those between the mark and it
+abbrev newOfBoth : (before meanwhile after : List (List ℕ)) → List (List ℕ)
+newOfBoth before meanwhile after =
+    let image : Book = run decoded (start 10000) before .book in
+    map contents (newOut image (textOf X) (run decoded (startFrom image) after .past ++ run decoded (startFrom image) meanwhile .past))
+
 -- each rules out a near reading
 record SinceFacts : Type 0 where
   -- the image's request sent again is not new
@@ -142,7 +148,11 @@ record SinceFacts : Type 0 where
   -- nor is an event 8; and the client's cancel is not the gateway's
   eight : sinceOf (books ∷ gatewayCancels ∷ []) (canceled ∷ sendsAgain (X- 1) ∷ []) ≡ counted [] (X- 1 ∷ []) 1 0 0
   clients : sinceOf (books ∷ gatewayCancels ∷ rejects (X- 1) 1 ∷ []) (cancels D ∷ []) ≡ counted [] (X- 1 ∷ []) 1 0 1
+  -- a request that is not in the image is new, even where its downstream ClOrdID went out between the mark and the return: one try, which the messages of
+  -- both would not account for
+  meanwhile : sinceOf (books ∷ []) (gatewayCancels ∷ []) ≡ counted (X- 1 ∷ []) [] 0 0 1
+  both : newOfBoth (books ∷ []) (gatewayCancels ∷ []) (gatewayCancels ∷ []) ≡ []
 
 since-facts : SinceFacts
 unfolding called starts cancelsIn once downstreams putOutBy
-since-facts = record { again = refl; unsent! = refl; client = refl; over = refl; before = refl; refused = refl; eight = refl; clients = refl }
+since-facts = record { again = refl; unsent! = refl; client = refl; over = refl; before = refl; refused = refl; eight = refl; clients = refl; meanwhile = refl; both = refl }

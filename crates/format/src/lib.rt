@@ -49,7 +49,8 @@ pub fn is_exectype(code: u8) -> bool
     in_map(41550201, code)
 }
 
-fn is_alnum(c: u8) -> bool
+// Whether a byte is a digit, a capital or a small letter.
+pub fn is_alnum(c: u8) -> bool
     ensures { λ r. ⌜ r ≡ isAlnum c ⌝ }
 {
     if c < 48 {

@@ -1,13 +1,15 @@
 // The entries of the gateway's book, for a host that calls them as C functions on byte slices:
 // `start` makes an empty book, `event` takes one record and writes the answer, `check` says whether a
 // book keeps its rules, `page` prints the evening page, `open_quantity` gives a client's open quantity,
-// `net_position` writes the net position's lines. Each is total: whatever the bytes, it returns its
-// number, and a refused call has written nothing. Rests on step, opens, records, store, page and net.
+// `net_position` writes the net position's lines, `set_mark` marks the book and `return_to_mark` makes it
+// what it was then. Each is total: whatever the bytes, it returns its number, and a refused call has
+// written nothing. Rests on step, opens, records, store, page, net and marks.
 ghost use mathlib.Core.Path.{_≡_};
 ghost use Rattle.step.specs.Entries.{startOf, startRefusal, checkOf, outcome, eventOf};
 ghost use Rattle.page.specs.Page.{paged, pageCall};
 ghost use Rattle.opens.specs.Keeps.{openCall};
 ghost use Rattle.net.specs.Net.{IsNet};
+ghost use Rattle.marks.specs.Marks.{marked, setMarkOf, returnOf};
 use counted::Counted;
 use opens::Opened;
 use orders::order;
@@ -86,4 +88,22 @@ pub extern "C" fn net_position(book: &[u8], scratch: &mut [u64], lines: &mut [u8
     ensures { λ r. ⌜ IsNet (now (book .entry)) (now (scratch .entry)) (now (lines .entry)) r (now (scratch .exit)) (now (lines .exit)) ⌝ }
 {
     net::net_position(book, scratch, lines)
+}
+
+// Sets a mark in `places`: the name and an image of the book, in the first place of that name, else in
+// the first free one.
+#[no_mangle]
+pub extern "C" fn set_mark(book: &[u8], name: &[u8], places: &mut [u8]) -> u32
+    ensures { λ r. ⌜ marked r (now (book .entry)) (now (places .exit)) ≡ setMarkOf (now (book .entry)) (now (name .entry)) (now (places .entry)) ⌝ }
+{
+    marks::set_mark(book, name, places)
+}
+
+// Returns to a mark: the book becomes the image of the first place of that name whose image keeps the
+// rules.
+#[no_mangle]
+pub extern "C" fn return_to_mark(book: &mut [u8], name: &[u8], places: &[u8]) -> u32
+    ensures { λ r. ⌜ marked r (now (book .exit)) (now (places .entry)) ≡ returnOf (now (book .entry)) (now (name .entry)) (now (places .entry)) ⌝ }
+{
+    marks::return_to_mark(book, name, places)
 }

@@ -7,7 +7,7 @@
 use std::panic::{AssertUnwindSafe, catch_unwind};
 
 use lists::random::Random;
-use lists::{Generator, List, PROFILES};
+use lists::{Generator, Item, List, PROFILES};
 use model::Machine;
 use model::machine::BOOK_BYTES;
 use model::watch::Watched;
@@ -48,17 +48,24 @@ pub struct Mismatch {
 
 /// A library with its book in hand.
 #[derive(Clone)]
-struct Caller<'a> {
+pub(crate) struct Caller<'a> {
     entries: &'a Entries,
-    book: Vec<u8>,
+    pub(crate) book: Vec<u8>,
     sending: Sending,
     told: Told,
 }
 
-impl Caller<'_> {
+impl<'a> Caller<'a> {
+    /// With a book that keeps its rules, and the machine that has it; the nets are told from those that it has.
+    pub(crate) fn on(entries: &'a Entries, book: Vec<u8>) -> (Self, Machine) {
+        let (machine, sending) = mirror::machine(&Book::read(&book));
+        let told = Told::since(&machine);
+        (Self { entries, book, sending, told }, machine)
+    }
+
     /// Calls `event` and holds what it gives, and every byte that it writes, against the model's
     /// outcome and the model's book after it.
-    fn event(
+    pub(crate) fn event(
         &mut self,
         item: (&[u8], usize),
         model: &Result<Vec<u8>, u32>,
@@ -140,8 +147,7 @@ impl Built {
     }
 }
 
-/// Runs the events on a built book through both. The nets are counted from those that it has; demand
-/// 3 is counted from a start, and the Rust's
+/// Runs the events on a built book through both. The nets and demand 3 are counted from what it holds. The Rust's
 /// own `check()` asks more than docs/SCOPE.md, Rules: here the second decision of these stands alone.
 pub fn compare_built(
     entries: &Entries,
@@ -149,20 +155,13 @@ pub fn compare_built(
     mut tally: Option<&mut Tally>,
 ) -> Result<(), Mismatch> {
     let found = |at: usize| move |what: String| Mismatch { at, what };
-    let (mut machine, sending) = mirror::machine(&Book::read(&built.bytes));
-    let told = Told::since(&machine);
-    let mut caller = Caller { entries, book: built.bytes.clone(), sending, told };
+    let (mut caller, machine) = Caller::on(entries, built.bytes.clone());
+    let mut watched = Watched::since(machine);
     for (at, item) in built.list.items.iter().enumerate() {
         if let Some(tally) = &mut tally {
-            tally.count_half(&machine, &item.record);
+            tally.count_half(&watched.machine, &item.record);
         }
-        let handled = || machine.event(&item.record, item.answer_buffer);
-        let outcome =
-            catch_unwind(AssertUnwindSafe(handled)).map_err(|_| found(at)("the Rust panics".into()))?;
-        caller.event((&item.record, item.answer_buffer), &outcome, &machine).map_err(found(at))?;
-        if let Some(rule) = broken(&caller.book) {
-            return Err(found(at)(format!("the event breaks a rule: {rule}")));
-        }
+        let outcome = event_since(&mut caller, &mut watched, item).map_err(found(at))?;
         if let Some(tally) = &mut tally {
             tally.add(&item.record, &outcome);
         }
@@ -170,8 +169,23 @@ pub fn compare_built(
     Ok(())
 }
 
+/// An event on a book that keeps its rules, whether events lead there or not.
+pub(crate) fn event_since(
+    caller: &mut Caller<'_>,
+    watched: &mut Watched,
+    item: &Item,
+) -> Result<Result<Vec<u8>, u32>, String> {
+    let handled = || watched.event(&item.record, item.answer_buffer);
+    let outcome = catch_unwind(AssertUnwindSafe(handled)).map_err(|_| "the Rust panics")??;
+    caller.event((&item.record, item.answer_buffer), &outcome, &watched.machine)?;
+    match broken(&caller.book) {
+        Some(rule) => Err(format!("the event breaks a rule: {rule}")),
+        None => Ok(outcome),
+    }
+}
+
 /// A book that `start` has made where other bytes were: empty, with its setting, keeping its rules.
-fn started<'a>(entries: &'a Entries, setting: u32) -> Result<Caller<'a>, String> {
+pub(crate) fn started<'a>(entries: &'a Entries, setting: u32) -> Result<Caller<'a>, String> {
     let mut book = vec![0xA5; BOOK_BYTES];
     let (started, checked) = (entries.start(&mut book, setting), entries.check(&book));
     if (started, checked) != (0, 0) {

@@ -7,6 +7,8 @@ pub type Check = unsafe extern "C" fn(*const u8, usize) -> u32;
 pub type Page = unsafe extern "C" fn(*const u8, usize, *mut u8, usize) -> Counted;
 pub type OpenQuantity = unsafe extern "C" fn(*const u8, usize, u16) -> Opened;
 pub type NetPosition = unsafe extern "C" fn(*const u8, usize, *mut u64, usize, *mut u8, usize) -> Counted;
+pub type SetMark = unsafe extern "C" fn(*const u8, usize, *const u8, usize, *mut u8, usize) -> u32;
+pub type ReturnToMark = unsafe extern "C" fn(*mut u8, usize, *const u8, usize, *const u8, usize) -> u32;
 
 /// A refusal, or 0 and the number that was asked for.
 #[repr(C)]
@@ -32,6 +34,8 @@ pub struct Entries {
     pub page: Page,
     pub open_quantity: OpenQuantity,
     pub net_position: NetPosition,
+    pub set_mark: SetMark,
+    pub return_to_mark: ReturnToMark,
 }
 
 // Each call lends whole slices for its time, which is all that an entry may touch.
@@ -65,6 +69,20 @@ impl Entries {
             (self.net_position)(book.as_ptr(), book.len(), numbers, count, lines.as_mut_ptr(), lines.len())
         }
     }
+
+    /// All three are lent as slices that may be written, so that a library that does is seen.
+    pub fn set_mark(&self, book: &mut [u8], name: &mut [u8], places: &mut [u8]) -> u32 {
+        let (at, length) = (places.as_mut_ptr(), places.len());
+        unsafe { (self.set_mark)(book.as_mut_ptr(), book.len(), name.as_mut_ptr(), name.len(), at, length) }
+    }
+
+    /// The same.
+    pub fn return_to_mark(&self, book: &mut [u8], name: &mut [u8], places: &mut [u8]) -> u32 {
+        let (at, length) = (places.as_mut_ptr(), places.len());
+        unsafe {
+            (self.return_to_mark)(book.as_mut_ptr(), book.len(), name.as_mut_ptr(), name.len(), at, length)
+        }
+    }
 }
 
 #[cfg(library)]
@@ -92,6 +110,22 @@ mod linked {
             lines: *mut u8,
             lines_len: usize,
         ) -> Counted;
+        pub fn set_mark(
+            book: *const u8,
+            book_len: usize,
+            name: *const u8,
+            name_len: usize,
+            places: *mut u8,
+            places_len: usize,
+        ) -> u32;
+        pub fn return_to_mark(
+            book: *mut u8,
+            book_len: usize,
+            name: *const u8,
+            name_len: usize,
+            places: *const u8,
+            places_len: usize,
+        ) -> u32;
     }
 }
 
@@ -105,6 +139,8 @@ pub fn library() -> Option<Entries> {
         page: linked::page,
         open_quantity: linked::open_quantity,
         net_position: linked::net_position,
+        set_mark: linked::set_mark,
+        return_to_mark: linked::return_to_mark,
     })
 }
 

@@ -12,6 +12,7 @@ use model::record::*;
 use model::short;
 
 use crate::layout::{self, Book, Header};
+use crate::marking::MarkFault;
 use crate::net::{self, Pair};
 use crate::page::LINE;
 use crate::stand_in::names;
@@ -170,6 +171,8 @@ pub enum Fault {
     TakesLongerBooks,
     /// Question 1 leaves a rule of keeps.rs out.
     RuleLeftOut(usize),
+    /// A fault in setting a mark or returning to it.
+    Mark(MarkFault),
 }
 
 impl Fault {

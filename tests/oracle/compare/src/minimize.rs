@@ -7,32 +7,34 @@ use lists::{Item, List};
 /// Tries after which the list found so far has to do.
 const TRIES: u32 = 1_500;
 
-/// The shortest list found of which `fails` still holds, parts being left out from large to small.
+/// The shortest list found of which `fails` still holds.
 pub fn minimize(list: &List, fails: impl Fn(&List) -> bool) -> List {
+    let with = |items: &[Item]| List { setting: list.setting, items: items.to_vec() };
+    with(&shorten(&list.items, |items| fails(&with(items))))
+}
+
+/// The fewest items found of which `fails` still holds, parts being left out from large to small.
+pub fn shorten<T: Clone>(items: &[T], fails: impl Fn(&[T]) -> bool) -> Vec<T> {
     let tries = Cell::new(0);
-    let fails = |list: &List| {
+    let fails = |items: &[T]| {
         tries.set(tries.get() + 1);
-        tries.get() <= TRIES && fails(list)
+        tries.get() <= TRIES && fails(items)
     };
-    let mut small = list.clone();
-    let mut part = small.items.len().div_ceil(2);
+    let mut few = items.to_vec();
+    let mut part = few.len().div_ceil(2);
     loop {
-        let before = small.items.len();
+        let before = few.len();
         let mut start = 0;
-        while start < small.items.len() {
-            let shorter = without(&small, start, part);
-            if fails(&shorter) { small = shorter } else { start += part }
+        while start < few.len() {
+            let end = few.len().min(start + part);
+            let fewer = [&few[..start], &few[end..]].concat();
+            if fails(&fewer) { few = fewer } else { start += part }
         }
-        if part == 1 && small.items.len() == before {
-            return small;
+        if part <= 1 && few.len() == before {
+            return few;
         }
         part = part.div_ceil(2);
     }
-}
-
-fn without(list: &List, start: usize, count: usize) -> List {
-    let kept = |(at, item): (usize, &Item)| (!(start..start + count).contains(&at)).then(|| item.clone());
-    List { setting: list.setting, items: list.items.iter().enumerate().filter_map(kept).collect() }
 }
 
 #[cfg(test)]

@@ -14,11 +14,21 @@ use crate::entries::{Counted, Entries, Opened};
 use crate::faults::{self, Fault};
 use crate::keeps::broken_but;
 use crate::layout::Book;
+use crate::marking::{MarkFault, Marking};
 use crate::mirror;
 use crate::net::{self, LINES, SCRATCH};
 use crate::page;
 
-pub const STAND_IN: Entries = Entries { start, event, check, page: print, open_quantity, net_position };
+pub const STAND_IN: Entries = Entries {
+    start,
+    event,
+    check,
+    page: print,
+    open_quantity,
+    net_position,
+    set_mark,
+    return_to_mark,
+};
 
 thread_local! {
     static FAULT: Cell<Option<Fault>> = const { Cell::new(None) };
@@ -145,6 +155,43 @@ fn net_lines(book: &[u8], scratch: &mut [u64], lines: &mut [u8]) -> Counted {
         lines[written.len()..LINES].fill(0);
     }
     Counted { refusal: 0, number: nets.len() as u32 }
+}
+
+unsafe extern "C" fn set_mark(
+    book: *const u8,
+    book_len: usize,
+    name: *const u8,
+    name_len: usize,
+    places: *mut u8,
+    places_len: usize,
+) -> u32 {
+    // SAFETY: what the caller lends, three times; book and name are only read.
+    let (book, name, places) = unsafe {
+        (lent(book.cast_mut(), book_len), lent(name.cast_mut(), name_len), lent(places, places_len))
+    };
+    Marking { fault: mark_fault(), keeps: &ask }.set(book, name, places)
+}
+
+unsafe extern "C" fn return_to_mark(
+    book: *mut u8,
+    book_len: usize,
+    name: *const u8,
+    name_len: usize,
+    places: *const u8,
+    places_len: usize,
+) -> u32 {
+    // SAFETY: what the caller lends, three times; name and places are only read, but for a fault.
+    let (book, name, places) = unsafe {
+        (lent(book, book_len), lent(name.cast_mut(), name_len), lent(places.cast_mut(), places_len))
+    };
+    Marking { fault: mark_fault(), keeps: &ask }.return_to(book, name, places)
+}
+
+fn mark_fault() -> Option<MarkFault> {
+    match FAULT.get() {
+        Some(Fault::Mark(fault)) => Some(fault),
+        _ => None,
+    }
 }
 
 /// The machine that has the book, which keeps its rules.

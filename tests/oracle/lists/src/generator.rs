@@ -49,6 +49,16 @@ impl Generator {
         Self { profile, random: Random::new(seed), machine, drawn: Vec::new(), fresh: 0 }
     }
 
+    /// How many names and ClOrdIDs were drawn anew.
+    pub fn fresh(&self) -> u64 {
+        self.fresh
+    }
+
+    /// Goes on with another book, with so many names drawn: fewer than there were, and names that were used come again.
+    pub fn go_on(&mut self, machine: Machine, fresh: u64) {
+        (self.machine, self.fresh) = (machine, fresh);
+    }
+
     pub fn setting(&self) -> u32 {
         self.machine.setting()
     }

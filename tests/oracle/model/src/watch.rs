@@ -1,11 +1,11 @@
 //! A machine under watch: after every event the Rust's own `check()`, the book's rules, demand
-//! 3, what a Filled leaves, and the rules of docs/SCOPE.md, Over the Rust, are asserted. The Rust keeps the last
+//! 3 since the start or the last return, what a Filled leaves, and the rules of docs/SCOPE.md, Over the Rust, are asserted. The Rust keeps the last
 //! by itself in all that is run; a run where it does not ends in an error that names the rule.
 
 use std::panic::{AssertUnwindSafe, catch_unwind};
 
 use crate::answer::{alarms, messages};
-use crate::demand::{Before, History};
+use crate::demand::{Before, History, Misread};
 use crate::filled::{self, Filled, Met};
 use crate::machine::Machine;
 use crate::numbers::Fill;
@@ -19,11 +19,31 @@ pub struct Watched {
     history: History,
     /// What events with status Filled met.
     pub met: Met,
+    /// Whether a start and events lead to the book: the Rust's own `check()` asks more than the rules.
+    reached: bool,
 }
 
 impl Watched {
     pub fn start(setting: u32) -> Self {
-        Self { machine: Machine::start(setting), history: History::default(), met: Met::new() }
+        Self { machine: Machine::start(setting), history: History::default(), met: Met::new(), reached: true }
+    }
+
+    /// A machine whose book keeps its rules, whether any events lead to it or not: demand 3 is
+    /// counted since that book.
+    pub fn since(machine: Machine) -> Self {
+        Self { history: History::since(machine.book()), machine, met: Met::new(), reached: false }
+    }
+
+    /// The same, counted by a reading that is false.
+    pub fn misread(self, misread: Option<Misread>) -> Self {
+        Self { history: self.history.misread(misread), ..self }
+    }
+
+    /// Goes on with the machine of an image that was returned to.
+    pub fn returned(&mut self, machine: Machine) {
+        self.history = self.history.returned(machine.book());
+        self.machine = machine;
+        self.reached = false;
     }
 
     /// The event's outcome, or what does not hold after it.
@@ -37,16 +57,20 @@ impl Watched {
             return Ok(outcome);
         };
         priced(read, fill, answer)?;
-        rules::broken(self.machine.book()).map_or(Ok(()), Err)?;
-        self.history.taken(before, read.kind, answer, self.machine.book())?;
         let book = self.machine.book();
-        catch_unwind(AssertUnwindSafe(|| book.check_invariants())).map_err(|_| "the Rust's check()")?;
+        if self.reached {
+            rules::broken(book).map_or(Ok(()), Err)?;
+        }
+        self.history.taken(before, read.kind, answer, book)?;
+        if self.reached {
+            catch_unwind(AssertUnwindSafe(|| book.check_invariants())).map_err(|_| "the Rust's check()")?;
+        }
         Ok(outcome)
     }
 }
 
 impl Watched {
-    /// Alarm 6 and a second alarm come with a short Filled alone; Filled orders are whole.
+    /// Alarm 6 and a second alarm come with a short Filled alone; from a start on Filled orders are whole.
     fn judge(&mut self, filled: Option<Filled>, outcome: &Result<Vec<u8>, u32>) -> Result<(), String> {
         let book = self.machine.book();
         let met = match (filled, outcome) {
@@ -59,6 +83,9 @@ impl Watched {
         };
         if let Some(met) = met {
             *self.met.entry(met).or_default() += 1;
+        }
+        if !self.reached {
+            return Ok(());
         }
         filled::whole(book).map_err(|order| format!("{order:?} is Filled and not whole"))
     }

@@ -3,9 +3,11 @@
 //! size of the book. The Rust is given its inputs ready made; the library reads records and writes
 //! answers. Times are the thread's own, the best of all rounds. `bench [ROUNDS]`.
 
+use std::cell::RefCell;
 use std::hint::black_box;
 
 use compare::entries::{Entries, library};
+use compare::marks::PLACE;
 use compare::net::{LINES, SCRATCH};
 use gateway::CompactString;
 use gateway::book::{Book, ClientId, Input, OrderRequest, Output};
@@ -149,6 +151,13 @@ impl Bench {
             assert_eq!(black_box(given).refusal, 0);
             black_box(&lines);
         });
+        let held = RefCell::new((book.to_vec(), vec![0; PLACE], *b"MARK"));
+        let mark = |call: fn(&Entries, &mut [u8], &mut [u8], &mut [u8]) -> u32, entries: &Entries| {
+            let (book, places, name) = &mut *held.borrow_mut();
+            assert_eq!(call(entries, book, name, places), 0);
+        };
+        beside("a mark set", &|entries| mark(Entries::set_mark, entries));
+        beside("a return to it", &|entries| mark(Entries::return_to_mark, entries));
     }
 
     /// The library's time for a call, where one is linked.

@@ -113,6 +113,8 @@ impl<'a> User<'a> {
                 (entries.page)(null, 0, null, 0).refusal,
                 (entries.open_quantity)(null, 0, 1).refusal,
                 (entries.net_position)(null, 0, std::ptr::null_mut(), 0, null, 0).refusal,
+                (entries.set_mark)(null, 0, null, 0, null, 0),
+                (entries.return_to_mark)(null, 0, null, 0, null, 0),
             ]
         };
         let mut book = self.full.clone();
@@ -122,15 +124,32 @@ impl<'a> User<'a> {
         let (start, length) = (answer.as_mut_ptr(), answer.len());
         // SAFETY: a whole book and an answer buffer are lent.
         let no_record = unsafe { (entries.event)(book.as_mut_ptr(), book.len(), null, 0, start, length) };
-        self.calls += 9;
+        self.calls += 11;
         // SAFETY: a whole book is lent, and nothing else.
         let netted = unsafe {
             (entries.net_position)(book.as_ptr(), book.len(), std::ptr::null_mut(), 0, null, 0).refusal
         };
         match (given, on_book, no_record, netted) {
-            ([1, 1, 1, 1, 1, 1], 2, 3, 11) => Ok(()),
+            ([1, 1, 1, 1, 1, 1, 1, 1], 2, 3, 11) => self.no_places(&mut book),
             given => Err(format!("on slices of no length: {given:?}")),
         }
+    }
+
+    /// A whole book and no place, with no name and with one.
+    fn no_places(&mut self, book: &mut [u8]) -> Result<(), String> {
+        let (entries, null, name) = (self.entries, std::ptr::null_mut(), b"A".as_ptr());
+        let (at, size) = (book.as_mut_ptr(), book.len());
+        self.calls += 4;
+        // SAFETY: a book is lent, and a name of one byte or nothing else.
+        let given = unsafe {
+            [
+                (entries.set_mark)(at, size, null, 0, null, 0),
+                (entries.set_mark)(at, size, name, 1, null, 0),
+                (entries.return_to_mark)(at, size, null, 0, null, 0),
+                (entries.return_to_mark)(at, size, name, 1, null, 0),
+            ]
+        };
+        if given == [13, 15, 13, 14] { Ok(()) } else { Err(format!("marks without a place: {given:?}")) }
     }
 
     /// Books of every length around 0 and around the right one, the front of a good one or longer.

@@ -1,0 +1,4 @@
+pub mod Marks
+pub mod Promise
+pub mod Laws
+pub mod Sample
