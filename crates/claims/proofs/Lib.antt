@@ -6,6 +6,10 @@ pub mod Taken
 pub mod Demands
 pub mod Calls
 pub mod OpenQuantity
+pub mod Splices
+pub mod Placed
+pub mod Swapped
+pub mod Concern
 pub mod Exchange
 pub mod Net
 pub mod Marks

@@ -41,7 +41,7 @@ refused : (b : List ℕ) (client : ℕ) → keepsOf b ≡ false → openCall b c
 unfolding openCall
 refused b client k = if-false _ _ _ k
 
-right : (b : List ℕ) → keepsOf b ≡ true → OpenRight b
+pub right : (b : List ℕ) → keepsOf b ≡ true → OpenRight b
 right b k = record { given = λ client. given b client k; stored = keeps-stored b k }
 
 one : (b : List ℕ) (client : ℕ) → Exactly (openCall b client ≡ opened 1 0) (checkOf b ≡ 1)

@@ -92,7 +92,7 @@ returned-is b r a = split-if (λ (o : Outcome). o .returned ≡ callOf b r (leng
 
 -- ---- the book that is left
 
-step-room : (b : Book) (e : Event) → stepOf b e .refusal ≡ 0 → hasRoom b (stepOf b e) ≡ true
+pub step-room : (b : Book) (e : Event) → stepOf b e .refusal ≡ 0 → hasRoom b (stepOf b e) ≡ true
 unfolding stepOf refusing
 step-room b e =
     let P : Change → Type 0 = λ c. c .refusal ≡ 0 → hasRoom b c ≡ true in
@@ -119,7 +119,7 @@ module _ (b r : List ℕ) (bytes : Bytes b) (bytes′ : Bytes r) (keeps : keepsO
   ranged : Ranged e
   ranged = event-ranged r bytes′ reads
 
-  whole-after : WholeBook (after (bookOf b) c)
+  pub whole-after : WholeBook (after (bookOf b) c)
   whole-after = subst WholeBook (after-is (bookOf b) e taken) (whole-kept (bookOf b) e ranged (event-whole r bytes′ reads) (held .rules) whole)
 
   rules-after : rules (after (bookOf b) c) ≡ true

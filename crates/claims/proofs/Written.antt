@@ -105,14 +105,14 @@ place-keeps b place o w =
     split-if (Keeps b) (eqb place 0) (λ e. keeps-self b)
     (λ e. split-if (Keeps b) _ (λ f. store-order-keeps b (place - 1) o (w e .fits)) (λ f. add-order-keeps b o (w e .fits)))
 
-mark-link-keeps : (b : List ℕ) (k : ℕ) → Keeps b (markLink b k)
+pub mark-link-keeps : (b : List ℕ) (k : ℕ) → Keeps b (markLink b k)
 unfolding markLink
 mark-link-keeps b k = split-if (Keeps b) (eqb k 0) (λ e. keeps-self b) (λ e. mark-keeps b (k - 1))
 
-abbrev marked : List ℕ → Requests → List ℕ
+abbrev pub marked : List ℕ → Requests → List ℕ
 marked b r = markLink (markLink b (r .answered)) (r .superseded)
 
-marked-keeps : (b : List ℕ) (r : Requests) → Keeps b (marked b r)
+pub marked-keeps : (b : List ℕ) (r : Requests) → Keeps b (marked b r)
 marked-keeps b r = keeps-more b (markLink b (r .answered)) (marked b r) (mark-link-keeps b (r .answered)) (mark-link-keeps (markLink b (r .answered)) (r .superseded))
 
 requests-keeps : (b : List ℕ) (r : Requests) → (eqb (r .added) 0 ≡ false → WholeRequest (r .request)) → Keeps b (placeRequests b r)
@@ -120,6 +120,13 @@ unfolding placeRequests
 requests-keeps b r w =
     split-if (Keeps b) (eqb (r .added) 0) (λ e. marked-keeps b r)
     (λ e. keeps-more b (marked b r) (addRequest (marked b r) (r .request)) (marked-keeps b r) (add-request-keeps (marked b r) (r .request) (w e)))
+
+pub tables-keeps : (b : List ℕ) (c : Change) → (eqb (c .place) 0 ≡ false → WholeOrder (c .order)) → (eqb (c .requests .added) 0 ≡ false → WholeRequest (c .requests .request))
+    → Keeps b (tablesWith b c)
+unfolding tablesWith
+tables-keeps b c o q =
+    let d : List ℕ = placeOrder b (c .place) (c .order) in
+    keeps-more b d (placeRequests d (c .requests)) (place-keeps b (c .place) (c .order) o) (requests-keeps d (c .requests) q)
 
 -- ---- each write is the book's
 
@@ -156,7 +163,7 @@ marked-book b r =
     mark-link-book (markLink b (r .answered)) (r .superseded)
     ∙ ap (λ (x : Book). withRequests (answerLink (r .superseded) (x .requests)) x) (mark-link-book b (r .answered))
 
-marked-count : (b : List ℕ) (r : Requests) → requestCount (marked b r) ≡ length (bookOf b .requests)
+pub marked-count : (b : List ℕ) (r : Requests) → requestCount (marked b r) ≡ length (bookOf b .requests)
 marked-count b r =
     sym (length-requests (marked b r))
     ∙ ap (λ (x : Book). length (x .requests)) (marked-book b r)
@@ -212,7 +219,7 @@ tables-writes b c l room w =
       is =
           requests-book d c (k .same ∙ l) (ap (λ (m : ℕ). eqb (c .requests .added) 0 || ltb m 256) n ∙ requests) q
           ∙ ap (λ (x : Book). withRequests (requestsAfter (x .requests) c) x) e;
-      keeps = keeps-more b d (placeRequests d (c .requests)) k (requests-keeps d (c .requests) q);
+      keeps = tables-keeps b c o q;
     }
 
 -- A CHANGE ON BYTES is the change on the book, and keeps length and bytes

@@ -8,3 +8,4 @@ pub mod Handled
 pub mod Counted
 pub mod Broken
 pub mod ExchangeDay
+pub mod ExchangeLimits

@@ -38,6 +38,20 @@ pub fn reached(profile: &'static profile::Profile, seed: u64, events: usize) -> 
     bytes(&mirror::book(generator.machine(), &sending), &mut Random::new(seed))
 }
 
+/// A reached book with room for one request, or as full as the list of that seed makes it.
+pub fn almost_full(seed: u64) -> Vec<u8> {
+    let mut generator = Generator::new(profile::named("full-tables").expect("a profile"), seed);
+    let mut sending = Sending::default();
+    for _ in 0..1_000 {
+        if generator.machine().book().request_table().len() + 1 >= MOST_REQUESTS {
+            break;
+        }
+        generator.next_item();
+        sending.follow(generator.machine());
+    }
+    bytes(&mirror::book(generator.machine(), &sending), &mut Random::new(seed))
+}
+
 /// A book with both tables full and orders in every state.
 pub fn full() -> Vec<u8> {
     let profile = profile::named("full-tables").expect("a profile");

@@ -67,6 +67,10 @@ pub enum Fault {
     RequestsSwapped,
     /// An event moves the report sequence of the first order, whichever it names.
     OtherOrderTouched,
+    /// The report sequence is counted over all orders.
+    SequenceOfAll,
+    /// The last event's kind is written behind the words.
+    LastKindWritten,
     /// The setting counts down.
     SettingLost,
     /// A spare byte of an order is written.
@@ -177,7 +181,7 @@ pub enum Fault {
 
 impl Fault {
     /// Faults that the comparison finds.
-    pub const COMPARED: [Self; 72] = [
+    pub const COMPARED: [Self; 74] = [
         Self::AddsLastQty,
         Self::AcknowledgesLater,
         Self::SevenEarly,
@@ -202,6 +206,8 @@ impl Fault {
         Self::OldAverage,
         Self::RequestsSwapped,
         Self::OtherOrderTouched,
+        Self::SequenceOfAll,
+        Self::LastKindWritten,
         Self::SettingLost,
         Self::SpareWritten,
         Self::NextRecordWritten,
@@ -251,6 +257,9 @@ impl Fault {
         Self::ElevenByNeed,
         Self::ElevenBeforeOne,
     ];
+
+    /// Faults that pairs of events find, both ways round.
+    pub const EXCHANGED: [Self; 3] = [Self::OtherOrderTouched, Self::SequenceOfAll, Self::LastKindWritten];
 
     /// Faults that calls with bad input find.
     pub const BAD_INPUT: [Self; 6] = [
@@ -496,6 +505,12 @@ pub fn write(fault: Fault, record: &[u8], before: &Book, after: &mut Book) {
     if let (Fault::OtherOrderTouched, Some(first)) = (fault, after.orders.first_mut()) {
         first.exec_seq += 1;
     }
+    if fault == Fault::SequenceOfAll {
+        let told = before.orders.iter().map(|order| order.exec_seq).max().unwrap_or(0);
+        let moved = |(was, order): &(&layout::Order, &mut layout::Order)| was.exec_seq != order.exec_seq;
+        let orders = before.orders.iter().zip(&mut after.orders);
+        orders.filter(moved).for_each(|(_, order)| order.exec_seq = told.wrapping_add(1));
+    }
 }
 
 /// Faults in the open quantities.
@@ -628,7 +643,13 @@ fn write_order(fault: Fault, was: &layout::Order, order: &mut layout::Order) {
 }
 
 /// Faults that write bytes which no event may write.
-pub fn scribble(fault: Fault, outcome: &Result<Vec<u8>, u32>, book: &mut [u8], answer: &mut [u8]) {
+pub fn scribble(
+    fault: Fault,
+    record: &[u8],
+    outcome: &Result<Vec<u8>, u32>,
+    book: &mut [u8],
+    answer: &mut [u8],
+) {
     let Header { orders, requests, .. } = Header::read(book);
     let order = layout::order_at((orders as usize).saturating_sub(1));
     let free = layout::request_at(requests as usize);
@@ -653,6 +674,7 @@ pub fn scribble(fault: Fault, outcome: &Result<Vec<u8>, u32>, book: &mut [u8], a
             book[layout::open_at(first)].fill(0);
             book[layout::open_at(place)].copy_from_slice(&open);
         }
+        (Fault::LastKindWritten, Ok(_)) => book[layout::UNUSED_AT] = record.first().copied().unwrap_or(0),
         (Fault::HeaderWritten, Ok(_)) => book[100] ^= 1,
         (Fault::TextNotFilled, Ok(_)) => book[order.start + 103 + 31] = b'x',
         _ => {}

@@ -5,6 +5,7 @@ pub mod comparison;
 pub mod coverage;
 pub mod damages;
 pub mod entries;
+pub mod exchange;
 pub mod expected;
 pub mod faults;
 pub mod fix;

@@ -265,7 +265,7 @@ fn handle(book: &mut [u8], record: &[u8], answer: &mut [u8]) -> u32 {
         fault.inspect(|&fault| faults::write(fault, record, &before, &mut after));
         after.write(book);
     }
-    fault.inspect(|&fault| faults::scribble(fault, &outcome, book, answer));
+    fault.inspect(|&fault| faults::scribble(fault, record, &outcome, book, answer));
     outcome.err().unwrap_or(0)
 }
 
