@@ -1,4 +1,4 @@
-/* The proved order book: eight functions over lent slices, each a pointer and then a length. What they do stands in
+/* The proved order book: nine functions over lent slices, each a pointer and then a length. What they do stands in
  * docs/SCOPE.md, the book's bytes in docs/LAYOUT.md.
  *
  * Each pointer must be valid for its length, and the slices of one call must not overlap. Any bytes may be passed. A call
@@ -82,6 +82,20 @@ uint32_t set_mark(const uint8_t *book, size_t book_len, const uint8_t *name, siz
  * JUBAFIYE_REFUSED_BOOK, then with JUBAFIYE_REFUSED_MARK_NAME, then with JUBAFIYE_REFUSED_NO_MARK where there is no such place. */
 uint32_t return_to_mark(uint8_t *book, size_t book_len, const uint8_t *name, size_t name_len, const uint8_t *places,
                         size_t places_len);
+
+/* A refusal, or 0 and what an event will need. With a refusal all else is 0. */
+typedef struct {
+    uint32_t refusal;
+    uint32_t length;        /* the bytes of the answer, its head included */
+    uint32_t messages;      /* the messages in it, 0 to 2 */
+    uint32_t requests;      /* the request records that the event adds to the book, 0 or 1 */
+    uint32_t fields_first;  /* the fields of the first message, 0 where there is none: the bits of its map */
+    uint32_t fields_second; /* the fields of the second */
+} Needs;
+
+/* What the event in a record will need: the numbers of `event` on the same book and record with an answer buffer of
+ * JUBAFIYE_ANSWER_BYTES. The refusal is the one that it would return, never JUBAFIYE_REFUSED_ANSWER_BUFFER. Nothing changes. */
+Needs needs(const uint8_t *book, size_t book_len, const uint8_t *record, size_t record_len);
 
 /* What the functions return. */
 enum {

@@ -3,6 +3,7 @@
 //! A further call of the library is three things: its C function in `c`, a safe function under it, and a method of `Book`.
 
 use crate::error::Refusal;
+use crate::needs::Needs;
 
 /// The bytes of a book.
 pub const BOOK_BYTES: usize = 65_536;
@@ -44,6 +45,17 @@ mod c {
         pub quantity: u64,
     }
 
+    /// A refusal, or 0 and what an event will need.
+    #[repr(C)]
+    pub struct Needs {
+        pub refusal: u32,
+        pub length: u32,
+        pub messages: u32,
+        pub requests: u32,
+        pub fields_first: u32,
+        pub fields_second: u32,
+    }
+
     extern "C" {
         pub fn start(book: *mut u8, book_len: usize, setting: u32) -> u32;
         pub fn event(
@@ -81,6 +93,7 @@ mod c {
             places: *const u8,
             places_len: usize,
         ) -> u32;
+        pub fn needs(book: *const u8, book_len: usize, record: *const u8, record_len: usize) -> Needs;
     }
 }
 
@@ -178,5 +191,20 @@ pub(crate) fn return_to_mark(book: &mut BookBytes, name: &[u8], places: &[u8]) -
             places.as_ptr(),
             places.len(),
         )
+    })
+}
+
+/// What the event in a record will need, or the refusal that it would get.
+#[allow(unsafe_code)]
+pub(crate) fn needs(book: &BookBytes, record: &[u8]) -> Result<Needs, Refusal> {
+    // SAFETY: two slices, each with its own length, which the function only reads.
+    let needs = unsafe { c::needs(book.as_ptr(), book.len(), record.as_ptr(), record.len()) };
+    Refusal::of(needs.refusal)?;
+    Ok(Needs {
+        length: needs.length,
+        messages: needs.messages,
+        requests: needs.requests,
+        fields_first: needs.fields_first,
+        fields_second: needs.fields_second,
     })
 }

@@ -59,6 +59,8 @@ mod list;
 mod marks;
 mod message;
 #[cfg(feature = "book")]
+mod needs;
+#[cfg(feature = "book")]
 mod net;
 #[cfg(feature = "book")]
 mod open;
@@ -79,6 +81,8 @@ pub use fields::{ExecType, OrdStatus, OrdType, Side, TimeInForce};
 #[cfg(feature = "book")]
 pub use marks::{Marks, PLACE_BYTES};
 pub use message::{CancelReject, Message, PriceSource, Report, RequestKind, ToVenue};
+#[cfg(feature = "book")]
+pub use needs::Needs;
 #[cfg(feature = "book")]
 pub use net::{NetLine, NET_BYTES, NET_SCRATCH};
 #[cfg(feature = "book")]

@@ -28,8 +28,13 @@ int main(void) {
     expect("start", start(book, sizeof book, 10000) == JUBAFIYE_TAKEN);
     expect("start on another length", start(book, sizeof book - 1, 10000) == JUBAFIYE_REFUSED_BOOK);
     expect("check", check(book, sizeof book) == JUBAFIYE_TAKEN);
+    Needs needed = needs(book, sizeof book, booking, sizeof booking);
+    expect("needs", needed.refusal == JUBAFIYE_TAKEN && needed.messages == 0 && needed.requests == 1 &&
+                        needed.fields_first == 0 && needed.fields_second == 0);
     expect("event", event(book, sizeof book, booking, sizeof booking, answer, sizeof answer) == JUBAFIYE_TAKEN);
-    expect("the answer", answer[0] == 5 && answer[1] == 0 && answer[2] == 0 && answer[3] == JUBAFIYE_ALARM_NONE);
+    expect("the answer", answer[0] + 256u * answer[1] == needed.length && answer[2] == 0 && answer[3] == JUBAFIYE_ALARM_NONE);
+    needed = needs(book, sizeof book, booking, sizeof booking);
+    expect("needs, refused", needed.refusal == JUBAFIYE_REFUSED_IN_USE && needed.length == 0 && needed.requests == 0);
     expect("the same event again",
            event(book, sizeof book, booking, sizeof booking, answer, sizeof answer) == JUBAFIYE_REFUSED_IN_USE);
 

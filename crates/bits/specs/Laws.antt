@@ -1,2 +1,3 @@
 pub mod Map
 pub mod Tests
+pub mod Ones

@@ -1,7 +1,7 @@
-// Presence maps of 32 bits, by shifts and masks. Rests on prelude.
+// Presence maps of 32 bits, by shifts and masks, and by the ones of a number. Rests on prelude.
 ghost use mathlib.Core.Path.{_≡_};
 ghost use Prim.Native.Nat.{_<_};
-ghost use Rattle.bits.specs.Map.{bit, digit, withBit};
+ghost use Rattle.bits.specs.Map.{bit, digit, withBit, standing};
 
 // A bit of a map, 0 or 1.
 pub fn digit_of(map: u32, k: u32) -> u32
@@ -28,4 +28,11 @@ pub fn with_bit(map: u32, k: u32) -> u32
         return map;
     }
     map | 1 << k
+}
+
+// How many bits of a map stand: the ones of its number.
+pub fn standing(map: u32) -> u32
+    ensures { λ r. ⌜ r ≡ standing map ⌝ }
+{
+    u32::count_ones(map)
 }

@@ -51,7 +51,7 @@ comes b i k = asked-comes b i (callOf b (i .event) (length (i .answer))) k (aske
 
 -- ---- what is heard, and the book that is left
 
-read-back : (b r a : List ℕ) → Bytes b → Bytes r → Taken b r a → Answers (stepOf (bookOf b) (eventIn r)) (left b a (stepOf (bookOf b) (eventIn r)) .answer)
+pub read-back : (b r a : List ℕ) → Bytes b → Bytes r → Taken b r a → Answers (stepOf (bookOf b) (eventIn r)) (left b a (stepOf (bookOf b) (eventIn r)) .answer)
 read-back b r a bytes bytes′ t =
     answer-read (bookOf b) (eventIn r) a (keeps-held b (t .keeps) .rules)
     (whole b r bytes bytes′ (t .keeps) (t .reads) (t .taken)) (event-right r bytes′ (t .reads)) (t .room)

@@ -13,3 +13,5 @@ pub mod Concern
 pub mod Exchange
 pub mod Net
 pub mod Marks
+pub mod Fields
+pub mod Needs

@@ -256,7 +256,7 @@ orders-grow os c false h = go (eqb (c .place) 0) refl
     go true e = rw e (omega arith)
     go false e = rw (e, h) (omega (arith, length-set os (c .place - 1) (c .order)))
 
-requests-grow : (qs : List Request) (c : Change) → length (requestsAfter qs c) ≡ length qs + (if not (eqb (c .requests .added) 0) then 1 else 0)
+pub requests-grow : (qs : List Request) (c : Change) → length (requestsAfter qs c) ≡ length qs + (if not (eqb (c .requests .added) 0) then 1 else 0)
 unfolding requestsAfter if_then_else_
 requests-grow qs c = go (eqb (c .requests .added) 0) refl
   where

@@ -5,3 +5,4 @@ pub mod Concern
 pub mod Exchange
 pub mod Net
 pub mod Marks
+pub mod Needs

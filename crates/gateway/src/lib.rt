@@ -2,14 +2,16 @@
 // `start` makes an empty book, `event` takes one record and writes the answer, `check` says whether a
 // book keeps its rules, `page` prints the evening page, `open_quantity` gives a client's open quantity,
 // `net_position` writes the net position's lines, `set_mark` marks the book and `return_to_mark` makes it
-// what it was then. Each is total: whatever the bytes, it returns its number, and a refused call has
-// written nothing. Rests on step, opens, records, store, page, net and marks.
+// what it was then, `needs` gives what an event will need. Each is total: whatever the bytes, it
+// returns its number, and a refused call has written nothing. Rests on step, opens, records, store,
+// page, net, marks and needs.
 ghost use mathlib.Core.Path.{_≡_};
 ghost use Rattle.step.specs.Entries.{startOf, startRefusal, checkOf, outcome, eventOf};
 ghost use Rattle.page.specs.Page.{paged, pageCall};
 ghost use Rattle.opens.specs.Keeps.{openCall};
 ghost use Rattle.net.specs.Net.{IsNet};
 ghost use Rattle.marks.specs.Marks.{marked, setMarkOf, returnOf};
+ghost use Rattle.needs.specs.Needs.{needsCall};
 use counted::Counted;
 use opens::Opened;
 use orders::order;
@@ -106,4 +108,13 @@ pub extern "C" fn return_to_mark(book: &mut [u8], name: &[u8], places: &[u8]) ->
     ensures { λ r. ⌜ marked r (now (book .exit)) (now (places .entry)) ≡ returnOf (now (book .entry)) (now (name .entry)) (now (places .entry)) ⌝ }
 {
     marks::return_to_mark(book, name, places)
+}
+
+// What the event in `record` will need of an answer buffer of 1,024 bytes and of the book: its own
+// refusal, or the length of the answer, the records that it adds, and the fields of each message.
+#[no_mangle]
+pub extern "C" fn needs(book: &[u8], record: &[u8]) -> needs::Needs
+    ensures { λ r. ⌜ r ≡ needsCall (now (book .entry)) (now («record» .entry)) ⌝ }
+{
+    needs::needs_of(book, record)
 }

@@ -8,7 +8,8 @@ use orders::change;
 mod events; // an event's whole effect, on a book that keeps its rules
 mod loads; // records in use, and what an event's handling needs of the book
 
-const SHORTEST_ANSWER: usize = 1024;
+// What an answer buffer has at least.
+pub const SHORTEST_ANSWER: usize = 1024;
 
 // The change that the event in `record` makes of the book, or the number of the first question that
 // is answered with no; `room` is the length of the answer buffer.

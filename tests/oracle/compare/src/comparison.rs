@@ -1,4 +1,4 @@
-//! A library's `start`, `event`, `check` and `page` against the model: refusal, answer bytes, bytes past
+//! A library's calls against the model: what `needs` says before each event; of the event refusal, answer bytes, bytes past
 //! the length, nothing written by a refused event, every field of the book by docs/LAYOUT.md and
 //! no other byte of it, `check` 0, the evening page, the clients' open quantities and their nets
 //! after each event, events on copies of the book, and demand 3 and the nets counted from the
@@ -9,16 +9,17 @@ use std::panic::{AssertUnwindSafe, catch_unwind};
 use lists::random::Random;
 use lists::{Generator, Item, List, PROFILES};
 use model::Machine;
-use model::machine::BOOK_BYTES;
+use model::machine::{ANSWER_BYTES, BOOK_BYTES};
 use model::watch::Watched;
 
 use crate::books;
-use crate::entries::Entries;
+use crate::entries::{Entries, Needs};
 use crate::expected::{self, Lent};
 use crate::keeps::broken;
 use crate::layout::{self, Book, Header};
 use crate::minimize::minimize;
 use crate::mirror::{self, Sending};
+use crate::needs;
 use crate::net::Told;
 use crate::probes;
 use crate::show;
@@ -63,8 +64,8 @@ impl<'a> Caller<'a> {
         (Self { entries, book, sending, told }, machine)
     }
 
-    /// Calls `event` and holds what it gives, and every byte that it writes, against the model's
-    /// outcome and the model's book after it.
+    /// Calls `needs`, then `event`, and holds what they give, and every byte that they write, against
+    /// the model's outcome and the model's book after it.
     pub(crate) fn event(
         &mut self,
         item: (&[u8], usize),
@@ -75,10 +76,19 @@ impl<'a> Caller<'a> {
         let before = self.book.clone();
         let filled: Vec<u8> = (0..buffer + GUARD).map(|at| (at * 151 + record.len()) as u8).collect();
         let mut answer = filled.clone();
+        let needed = self.entries.needs(&mut self.book, record);
+        if self.book != before {
+            return Err("needs: the book changed".into());
+        }
         let refusal = self.entries.event(&mut self.book, record, &mut answer[..buffer]);
         self.sending.follow(machine);
         let right = model.clone().map(|answer| (answer, mirror::book(machine, &self.sending)));
         expected::holds(&right, refusal, (&before, &self.book), (&filled, &answer))?;
+        if buffer < ANSWER_BYTES {
+            self.needed_whole(needed, record, machine)?;
+        } else {
+            needs::holds(needed, needs::right(&right, &before))?;
+        }
         match self.entries.check(&self.book) {
             0 => views::hold(self.entries, &self.book, Some(machine))?,
             check => return Err(format!("check gives {check} after the event")),
@@ -87,6 +97,15 @@ impl<'a> Caller<'a> {
             self.told.hear(&answer[..told.len()]);
         }
         self.told.holds(self.entries, &self.book)
+    }
+
+    /// The same where the answer buffer was short: what the event needs with a whole one, on copies.
+    fn needed_whole(&self, needed: Needs, record: &[u8], machine: &Machine) -> Result<(), String> {
+        let mut copy = machine.clone();
+        let outcome = copy.event(record, ANSWER_BYTES);
+        let added = copy.book().request_table().len() - machine.book().request_table().len();
+        needs::holds(needed, needs::counted(outcome.as_deref().map_err(|&refusal| refusal), added as u64))?;
+        needs::holds(needed, needs::run(self.entries, &self.book, record))
     }
 }
 
@@ -104,13 +123,13 @@ pub fn compare(
     let mut random = Random::new(list.items.len() as u64);
     for (at, item) in list.items.iter().enumerate() {
         if let Some(tally) = &mut tally {
-            tally.count_half(&watched.machine, &item.record);
+            tally.before(&watched.machine, &item.record);
         }
         let outcome = watched.event(&item.record, item.answer_buffer).map_err(found(at))?;
         let machine = &watched.machine;
         caller.event((&item.record, item.answer_buffer), &outcome, machine).map_err(found(at))?;
         if let Some(tally) = &mut tally {
-            tally.add(&item.record, &outcome);
+            tally.add(&item.record, &outcome, &watched.machine);
         }
         if (at + 1) % probing.every == 0 {
             let chains = (0..CHAINS).filter_map(|_| probes::draw(&watched.machine, &mut random));
@@ -159,11 +178,11 @@ pub fn compare_built(
     let mut watched = Watched::since(machine);
     for (at, item) in built.list.items.iter().enumerate() {
         if let Some(tally) = &mut tally {
-            tally.count_half(&watched.machine, &item.record);
+            tally.before(&watched.machine, &item.record);
         }
         let outcome = event_since(&mut caller, &mut watched, item).map_err(found(at))?;
         if let Some(tally) = &mut tally {
-            tally.add(&item.record, &outcome);
+            tally.add(&item.record, &outcome, &watched.machine);
         }
     }
     Ok(())
@@ -232,6 +251,8 @@ fn lengths(entries: &Entries, setting: u32) -> Result<(), String> {
             entries.event(&mut book, &[9], &mut answer),
             entries.check(&book),
         ];
+        let refused = Needs { refusal: 1, ..Needs::default() };
+        needs::holds(entries.needs(&mut book, &[9]), refused)?;
         if given != [1, 1, 1] || book.iter().chain(&answer).any(|&byte| byte != 0x5A) {
             return Err(format!("a book of {length} bytes: start, event, check give {given:?}, or write"));
         }
@@ -260,6 +281,7 @@ fn damaged(caller: &Caller<'_>, record: &[u8], random: &mut Random) -> Result<()
         let lent = Lent::new(book);
         let (mut book, mut answer) = (lent.bytes.clone(), vec![0; 1_024]);
         let check = entries.check(&book);
+        let needed = entries.needs(&mut book, record);
         let refusal = entries.event(&mut book, record, &mut answer);
         let found = |what: String| format!("byte {at} of the book changed: {what}");
         if check != u32::from(!lent.keeps()) {
@@ -269,6 +291,7 @@ fn damaged(caller: &Caller<'_>, record: &[u8], random: &mut Random) -> Result<()
         let right = lent.event(record, 1_024).map_err(found)?;
         let filled = vec![0; 1_024];
         expected::holds(&right, refusal, (&lent.bytes, &book), (&filled, &answer)).map_err(found)?;
+        needs::holds(needed, needs::right(&right, &lent.bytes)).map_err(found)?;
     }
     Ok(())
 }

@@ -9,6 +9,7 @@ pub type OpenQuantity = unsafe extern "C" fn(*const u8, usize, u16) -> Opened;
 pub type NetPosition = unsafe extern "C" fn(*const u8, usize, *mut u64, usize, *mut u8, usize) -> Counted;
 pub type SetMark = unsafe extern "C" fn(*const u8, usize, *const u8, usize, *mut u8, usize) -> u32;
 pub type ReturnToMark = unsafe extern "C" fn(*mut u8, usize, *const u8, usize, *const u8, usize) -> u32;
+pub type NeedsCall = unsafe extern "C" fn(*const u8, usize, *const u8, usize) -> Needs;
 
 /// A refusal, or 0 and the number that was asked for.
 #[repr(C)]
@@ -26,6 +27,19 @@ pub struct Opened {
     pub quantity: u64,
 }
 
+/// A refusal, or 0 and what an event will need: its answer's length, the message and request records that it adds, and
+/// the fields of each message.
+#[repr(C)]
+#[derive(Debug, Clone, Copy, PartialEq, Eq, Default)]
+pub struct Needs {
+    pub refusal: u32,
+    pub length: u32,
+    pub messages: u32,
+    pub requests: u32,
+    pub fields_first: u32,
+    pub fields_second: u32,
+}
+
 #[derive(Debug, Clone, Copy)]
 pub struct Entries {
     pub start: Start,
@@ -34,6 +48,7 @@ pub struct Entries {
     pub page: Page,
     pub open_quantity: OpenQuantity,
     pub net_position: NetPosition,
+    pub needs: NeedsCall,
     pub set_mark: SetMark,
     pub return_to_mark: ReturnToMark,
 }
@@ -70,6 +85,11 @@ impl Entries {
         }
     }
 
+    /// The book is lent as one that may be written, so that a library that does is seen.
+    pub fn needs(&self, book: &mut [u8], record: &[u8]) -> Needs {
+        unsafe { (self.needs)(book.as_mut_ptr(), book.len(), record.as_ptr(), record.len()) }
+    }
+
     /// All three are lent as slices that may be written, so that a library that does is seen.
     pub fn set_mark(&self, book: &mut [u8], name: &mut [u8], places: &mut [u8]) -> u32 {
         let (at, length) = (places.as_mut_ptr(), places.len());
@@ -87,7 +107,7 @@ impl Entries {
 
 #[cfg(library)]
 mod linked {
-    use super::{Counted, Opened};
+    use super::{Counted, Needs, Opened};
 
     unsafe extern "C" {
         pub fn start(book: *mut u8, book_len: usize, setting: u32) -> u32;
@@ -110,6 +130,7 @@ mod linked {
             lines: *mut u8,
             lines_len: usize,
         ) -> Counted;
+        pub fn needs(book: *const u8, book_len: usize, record: *const u8, record_len: usize) -> Needs;
         pub fn set_mark(
             book: *const u8,
             book_len: usize,
@@ -139,6 +160,7 @@ pub fn library() -> Option<Entries> {
         page: linked::page,
         open_quantity: linked::open_quantity,
         net_position: linked::net_position,
+        needs: linked::needs,
         set_mark: linked::set_mark,
         return_to_mark: linked::return_to_mark,
     })

@@ -81,7 +81,7 @@ pub fn holds(
 }
 
 /// The answer that stands in the buffer, by its own length.
-fn told(answer: &[u8]) -> Vec<u8> {
+pub fn told(answer: &[u8]) -> Vec<u8> {
     let length = answer.first_chunk().map_or(0, |length| usize::from(u16::from_le_bytes(*length)));
     answer[..length.min(answer.len())].to_vec()
 }

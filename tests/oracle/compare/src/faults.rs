@@ -4,13 +4,14 @@
 use gateway::Decimal;
 use gateway::book::{Order, Status};
 use model::Machine;
-use model::answer::{alarms, bytes, client_number, latin1, messages, of_messages};
+use model::answer::{HEAD, alarms, bytes, client_number, latin1, messages, of_messages};
 use model::codes::{is_done, side_code, status_code};
 use model::machine::{ANSWER_BYTES, BOOK_BYTES, MOST_REQUESTS};
 use model::numbers::{Fill, Source, qty_count};
 use model::record::*;
 use model::short;
 
+use crate::entries::Needs;
 use crate::layout::{self, Book, Header};
 use crate::marking::MarkFault;
 use crate::net::{self, Pair};
@@ -167,6 +168,28 @@ pub enum Fault {
     ElevenByNeed,
     /// 11 is asked before question 1.
     ElevenBeforeOne,
+    /// An answer's length is that of its messages.
+    NeedsWithoutHead,
+    /// The head's length stands beside a refusal.
+    NeedsHeadRefused,
+    /// The request that finds no room is counted beside 7.
+    NeedsRequestWithSeven,
+    /// The second message has the first one's fields.
+    NeedsFirstForBoth,
+    /// The fields of both messages stand at the first.
+    NeedsFieldsAdded,
+    /// A report's price source is no field.
+    NeedsWithoutSource,
+    /// Bookings, cancels, replaces and the gateway's cancels add a request, other events none.
+    NeedsRequestByKind,
+    /// Each message to a venue is a request added.
+    NeedsRequestBySending,
+    /// An alarm is a message.
+    NeedsAlarmCounted,
+    /// What an event needs is found by taking it.
+    NeedsTakes,
+    /// Question 3 is asked before question 1.
+    NeedsThreeBeforeOne,
     /// Question 2 is asked before question 1.
     TwoBeforeOne,
     /// Question 4 is asked before question 3, of records that are a byte too long.
@@ -181,7 +204,7 @@ pub enum Fault {
 
 impl Fault {
     /// Faults that the comparison finds.
-    pub const COMPARED: [Self; 74] = [
+    pub const COMPARED: [Self; 85] = [
         Self::AddsLastQty,
         Self::AcknowledgesLater,
         Self::SevenEarly,
@@ -256,6 +279,17 @@ impl Fault {
         Self::ElevenAtJustEnough,
         Self::ElevenByNeed,
         Self::ElevenBeforeOne,
+        Self::NeedsWithoutHead,
+        Self::NeedsHeadRefused,
+        Self::NeedsRequestWithSeven,
+        Self::NeedsFirstForBoth,
+        Self::NeedsFieldsAdded,
+        Self::NeedsWithoutSource,
+        Self::NeedsRequestByKind,
+        Self::NeedsRequestBySending,
+        Self::NeedsAlarmCounted,
+        Self::NeedsTakes,
+        Self::NeedsThreeBeforeOne,
     ];
 
     /// Faults that pairs of events find, both ways round.
@@ -621,6 +655,38 @@ pub fn lines(fault: Option<Fault>, mut lines: Vec<u8>) -> Vec<u8> {
         lines.chunks_mut(net::LINE).for_each(|line| line[19..].reverse());
     }
     lines
+}
+
+/// What an event needs as the fault counts it; the answer is empty where the event is refused.
+pub fn needs(fault: Option<Fault>, record: &[u8], answer: &[u8], right: Needs) -> Needs {
+    let messages = if answer.is_empty() { Vec::new() } else { messages(answer) };
+    let taken = u32::from(right.refusal == 0);
+    let kind = record.first().copied().unwrap_or(0);
+    let mut given = right;
+    match fault {
+        Some(Fault::NeedsWithoutHead) => given.length -= taken * HEAD as u32,
+        Some(Fault::NeedsHeadRefused) => given.length = given.length.max(HEAD as u32),
+        Some(Fault::NeedsRequestWithSeven) => given.requests += u32::from(right.refusal == 7),
+        Some(Fault::NeedsFirstForBoth) if messages.len() == 2 => given.fields_second = right.fields_first,
+        Some(Fault::NeedsFieldsAdded) => {
+            (given.fields_first, given.fields_second) = (right.fields_first + right.fields_second, 0);
+        }
+        Some(Fault::NeedsWithoutSource) if messages.first().is_some_and(|first| first.has(PRICE_SOURCE)) => {
+            given.fields_first -= 1;
+        }
+        Some(Fault::NeedsRequestByKind) => {
+            given.requests = taken * u32::from([BOOK, CANCEL, REPLACE, GATEWAY_CANCEL].contains(&kind));
+        }
+        Some(Fault::NeedsRequestBySending) => {
+            let sent = messages.iter().filter(|message| message.kind >= NEW_ORDER_MESSAGE).count();
+            given.requests = sent as u32 + taken * u32::from(kind == BOOK);
+        }
+        Some(Fault::NeedsAlarmCounted) => {
+            given.messages += u32::from(answer.get(3).is_some_and(|&alarm| alarm != 0));
+        }
+        _ => {}
+    }
+    given
 }
 
 fn write_order(fault: Fault, was: &layout::Order, order: &mut layout::Order) {

@@ -16,6 +16,7 @@ pub mod marking;
 pub mod marks;
 pub mod minimize;
 pub mod mirror;
+pub mod needs;
 pub mod net;
 pub mod opens;
 pub mod page;

@@ -9,13 +9,15 @@ use std::rc::Rc;
 use model::Machine;
 use model::answer::bytes;
 use model::machine::{ANSWER_BYTES, BOOK_BYTES};
+use model::record::Record;
 
-use crate::entries::{Counted, Entries, Opened};
+use crate::entries::{Counted, Entries, Needs, Opened};
 use crate::faults::{self, Fault};
 use crate::keeps::broken_but;
 use crate::layout::Book;
 use crate::marking::{MarkFault, Marking};
 use crate::mirror;
+use crate::needs;
 use crate::net::{self, LINES, SCRATCH};
 use crate::page;
 
@@ -26,6 +28,7 @@ pub const STAND_IN: Entries = Entries {
     page: print,
     open_quantity,
     net_position,
+    needs: need,
     set_mark,
     return_to_mark,
 };
@@ -155,6 +158,27 @@ fn net_lines(book: &[u8], scratch: &mut [u64], lines: &mut [u8]) -> Counted {
         lines[written.len()..LINES].fill(0);
     }
     Counted { refusal: 0, number: nets.len() as u32 }
+}
+
+unsafe extern "C" fn need(book: *const u8, book_len: usize, record: *const u8, record_len: usize) -> Needs {
+    // SAFETY: what the caller lends, twice; the record is only read, and the book too but for a fault.
+    let (book, record) = unsafe { (lent(book.cast_mut(), book_len), lent(record.cast_mut(), record_len)) };
+    let fault = FAULT.get();
+    if fault == Some(Fault::NeedsThreeBeforeOne) && Record::read_event(record).is_none() {
+        return Needs { refusal: 3, ..Needs::default() };
+    }
+    if !keeps(book) {
+        return Needs { refusal: 1, ..Needs::default() };
+    }
+    let before = machine(book);
+    let mut after = Machine::clone(&before);
+    let outcome = after.event(record, ANSWER_BYTES);
+    let added = after.book().request_table().len() - before.book().request_table().len();
+    let right = needs::counted(outcome.as_deref().map_err(|&refusal| refusal), added as u64);
+    if fault == Some(Fault::NeedsTakes) {
+        handle(book, record, &mut [0; ANSWER_BYTES]);
+    }
+    faults::needs(fault, record, outcome.as_deref().unwrap_or_default(), right)
 }
 
 unsafe extern "C" fn set_mark(

@@ -23,11 +23,20 @@ pub struct Tally {
     pub halves: u64,
     /// What events with status Filled met.
     pub met: Met,
+    /// Taken events that added a request, by kind; the fewest and the most fields of messages, by kind.
+    pub added: BTreeMap<u8, u64>,
+    pub fields: BTreeMap<u8, (u32, u32)>,
+    /// The requests that stood before the event that is about to come.
+    requests: usize,
 }
 
 impl Tally {
-    pub fn add(&mut self, record: &[u8], outcome: &Result<Vec<u8>, u32>) {
+    /// An event, what it gave, and the machine after it.
+    pub fn add(&mut self, record: &[u8], outcome: &Result<Vec<u8>, u32>, machine: &Machine) {
         self.events += 1;
+        if machine.book().request_table().len() > self.requests {
+            *self.added.entry(record[0]).or_default() += 1;
+        }
         match outcome {
             Err(refusal) => *self.refused.entry(*refusal).or_default() += 1,
             Ok(answer) => {
@@ -35,6 +44,9 @@ impl Tally {
                 *self.alarms.entry(alarms(answer)).or_default() += 1;
                 for message in messages(answer) {
                     *self.messages.entry(message.kind).or_default() += 1;
+                    let count = message.map.count_ones();
+                    let (fewest, most) = self.fields.entry(message.kind).or_insert((count, count));
+                    (*fewest, *most) = (count.min(*fewest), count.max(*most));
                     if message.has(PRICE_SOURCE) {
                         *self.sources.entry(message.code(PRICE_SOURCE)).or_default() += 1;
                     }
@@ -43,8 +55,9 @@ impl Tally {
         }
     }
 
-    /// An event that is about to come: where it is a report whose price is exactly half way.
-    pub fn count_half(&mut self, machine: &Machine, record: &[u8]) {
+    /// An event that is about to come: the requests before it, and where it is a report whose price is exactly half way.
+    pub fn before(&mut self, machine: &Machine, record: &[u8]) {
+        self.requests = machine.book().request_table().len();
         let read = Record::read_event(record).filter(Record::in_range);
         let fill = read.and_then(|read| machine.fill(&read));
         self.halves += u64::from(fill.is_some_and(|fill| fill.at_half()));
@@ -58,6 +71,8 @@ impl Tally {
             "  the reports' prices by source {:?}; events that ask one at an exact half {}",
             self.sources, self.halves
         );
+        println!("  the events that add a request by kind {:?}", self.added);
+        println!("  the fewest and most fields of messages by kind {:?}", self.fields);
     }
 }
 

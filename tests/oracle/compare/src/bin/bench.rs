@@ -110,6 +110,13 @@ impl Bench {
                 what,
                 &[("Rust", Some(handling)), ("Rust with check()", Some(checked)), ("library", ported)],
             );
+            let needs = self.ported(|entries| {
+                for item in &items {
+                    let needs = entries.needs(black_box(&mut book), &item.record);
+                    assert_eq!(black_box(needs).refusal, 0);
+                }
+            });
+            line("what it will need", &[("library's event", ported), ("library", needs)]);
         }
         let round = |()| (0..CALLS).for_each(|_| machine.book().check_invariants());
         let checked = self.best(CALLS, || (), round);

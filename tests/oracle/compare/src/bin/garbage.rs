@@ -12,7 +12,7 @@ use compare::expected::{self, Lent};
 use compare::faults::Fault;
 use compare::layout::Header;
 use compare::stand_in::{STAND_IN, plant};
-use compare::{books, show, views};
+use compare::{books, needs, show, views};
 use lists::damage::damage;
 use lists::random::Random;
 use lists::{Generator, PROFILES, Profile};
@@ -28,6 +28,9 @@ const GUARDED: u8 = 0xC3;
 /// Calls on one book, and records drawn for it.
 const ON_ONE: u64 = 1_500;
 const DRAWN: usize = 100;
+
+/// Every so many calls of `event` one of `needs` goes before.
+const NEEDS: u64 = 4;
 
 /// Lengths this near to 0 and to a book's own are tried one by one.
 const NEAR: usize = 300;
@@ -113,6 +116,7 @@ impl<'a> User<'a> {
                 (entries.page)(null, 0, null, 0).refusal,
                 (entries.open_quantity)(null, 0, 1).refusal,
                 (entries.net_position)(null, 0, std::ptr::null_mut(), 0, null, 0).refusal,
+                (entries.needs)(null, 0, null, 0).refusal,
                 (entries.set_mark)(null, 0, null, 0, null, 0),
                 (entries.return_to_mark)(null, 0, null, 0, null, 0),
             ]
@@ -124,13 +128,15 @@ impl<'a> User<'a> {
         let (start, length) = (answer.as_mut_ptr(), answer.len());
         // SAFETY: a whole book and an answer buffer are lent.
         let no_record = unsafe { (entries.event)(book.as_mut_ptr(), book.len(), null, 0, start, length) };
-        self.calls += 11;
+        // SAFETY: a whole book is lent, and nothing else.
+        let no_needs = unsafe { (entries.needs)(book.as_ptr(), book.len(), null, 0).refusal };
+        self.calls += 13;
         // SAFETY: a whole book is lent, and nothing else.
         let netted = unsafe {
             (entries.net_position)(book.as_ptr(), book.len(), std::ptr::null_mut(), 0, null, 0).refusal
         };
-        match (given, on_book, no_record, netted) {
-            ([1, 1, 1, 1, 1, 1, 1, 1], 2, 3, 11) => self.no_places(&mut book),
+        match (given, on_book, no_record, no_needs, netted) {
+            ([1, 1, 1, 1, 1, 1, 1, 1, 1], 2, 3, 3, 11) => self.no_places(&mut book),
             given => Err(format!("on slices of no length: {given:?}")),
         }
     }
@@ -268,6 +274,14 @@ impl<'a> User<'a> {
         let fill = self.random.next() as u8;
         let (mut record_lent, mut answer) = (Buffer::new(record), Buffer::new(&vec![fill; buffer]));
         let right = lent.event(record, buffer)?;
+        if buffer >= ANSWER_BYTES && self.calls % NEEDS == 0 {
+            let needed = self.entries.needs(book.lend(), record_lent.lend());
+            self.calls += 1;
+            needs::holds(needed, needs::right(&right, &lent.bytes))?;
+            if book.back()? != lent.bytes || record_lent.back()? != record {
+                return Err("needs: the book or the record changed".into());
+            }
+        }
         let refusal = self.entries.event(book.lend(), record_lent.lend(), answer.lend());
         self.calls += 1;
         *self.given.entry(refusal).or_default() += 1;

@@ -44,9 +44,12 @@ fn main() -> ExitCode {
 fn watch(list: &List, mut tally: Option<&mut Tally>) -> Result<(), (usize, String)> {
     let mut watched = Watched::start(list.setting);
     for (at, item) in list.items.iter().enumerate() {
+        if let Some(tally) = &mut tally {
+            tally.before(&watched.machine, &item.record);
+        }
         let outcome = watched.event(&item.record, item.answer_buffer).map_err(|error| (at, error))?;
         if let Some(tally) = &mut tally {
-            tally.add(&item.record, &outcome);
+            tally.add(&item.record, &outcome, &watched.machine);
         }
     }
     if let Some(tally) = tally {
