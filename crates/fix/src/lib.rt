@@ -14,7 +14,6 @@ use fix_reader::FixFields;
 
 mod put; // the writer's bytes
 mod room; // the writer's length
-mod table;
 mod value;
 mod words_of;
 mod write;

@@ -1,4 +1,4 @@
-// A message's fields, written into a slice that has room for them. Rests on `value`, `table`, decimal.
+// A message's fields, written into a slice that has room for them. Rests on `value`, fix_table and decimal.
 ghost use mathlib.Core.Path.{_≡_};
 ghost use mathlib.Core.List.{[], _∷_, _++_};
 ghost use Prim.Native.Nat.{ℕ, _+_, _*_, _^_, _≤_, _<_};
@@ -9,7 +9,6 @@ ghost use Rattle.fix_words.specs.Spelling.{field, spellings};
 ghost use Rattle.fix_words.specs.Values.{rows};
 ghost use Rattle.fix_words.specs.Message.{sum, trailer};
 ghost use Rattle.fix.specs.Laws.Plan.{saidBy, longOf, fieldLong, fieldShown, rowsLong, rowsShown, planned, firstTwo, headFields, stampFields, Sound};
-use crate::table;
 use crate::value::Value;
 use crate::value::bytes_from;
 use crate::value::numbered;
@@ -56,6 +55,29 @@ fn put_digits(out: &mut [u8], at: usize, n: u64) -> usize
     at + decimal::put_decimal(out, at, n, 0)
 }
 
+// The digits of a tag, which are few, from the last to the first; where they end.
+fn put_tag(out: &mut [u8], at: usize, tag: u64) -> usize
+    requires { ⌜ at + length (decimal 0 tag) ≤ length (now out) ⌝ }
+    ensures { λ r. ⌜ (r ≡ at + length (decimal 0 tag)) × (now (out .exit) ≡ splice (now (out .entry)) at (decimal 0 tag)) ⌝ }
+{
+    if tag < 10 {
+        out[at] = 48 + (tag % 10) as u8;
+        return at + 1;
+    }
+    if tag < 100 {
+        out[at + 1] = 48 + (tag % 10) as u8;
+        out[at] = 48 + (tag / 10 % 10) as u8;
+        return at + 2;
+    }
+    if tag < 1000 {
+        out[at + 2] = 48 + (tag % 10) as u8;
+        out[at + 1] = 48 + (tag / 10 % 10) as u8;
+        out[at] = 48 + (tag / 10 / 10 % 10) as u8;
+        return at + 3;
+    }
+    put_digits(out, at, tag)
+}
+
 // A name, a point and a number.
 fn put_exec(out: &mut [u8], at: usize, s: &[u8], from: usize, count: usize, n: u64) -> usize
     requires { ⌜ («from» + count ≤ length (now s)) × (at + (count + (1 + length (digits n))) ≤ length (now out)) ⌝ }
@@ -91,7 +113,7 @@ fn put_field(out: &mut [u8], at: usize, tag: u64, s: &[u8], v: Value) -> usize
     if v.form == 0 {
         return at;
     }
-    let a = put_digits(out, at, tag);
+    let a = put_tag(out, at, tag);
     out[a] = b'=';
     let b = put_value(out, a + 1, s, v);
     out[b] = 1;
@@ -164,8 +186,9 @@ pub(crate) fn put_body(
     let mut p = start;
     let mut j = 0;
     while j < n {
-        let v = value_at(kind, map, at, numbers, high, table::bit_at(kind, j));
-        p = put_field(out, p, table::tag_at(kind, j), s, v);
+        let row = fix_table::row_at(kind, j);
+        let v = value_at(kind, map, at, numbers, high, row.bit);
+        p = put_field(out, p, row.tag, s, v);
         j += 1;
     }
     p

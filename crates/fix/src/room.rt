@@ -1,5 +1,5 @@
 // The room that is left in a buffer, counted down before a byte is written: lengths are subtracted from
-// it and never added up, since a header text may have any length. Rests on `value`, `table`, decimal.
+// it and never added up, since a header text may have any length. Rests on `value`, fix_table and decimal.
 ghost use mathlib.Core.Path.{_≡_};
 ghost use Prim.Native.Nat.{_+_, _*_, _^_, _≤_};
 ghost use lib.ListN.{length, getD};
@@ -8,7 +8,6 @@ ghost use Rattle.decimal.specs.Decimal.{digits, decimal};
 ghost use Rattle.fix_words.specs.Values.{rows};
 ghost use Rattle.fix.specs.Laws.Plan.{lessBy, longOf, fieldLong, rowsLong, planned, headLong, stampLong, frameLong};
 ghost use Rattle.fix_table.specs.Table.{spoken};
-use crate::table;
 use crate::value::Value;
 use crate::value::value_at;
 
@@ -87,8 +86,9 @@ pub(crate) fn less_body(
     let mut left = less(r, 0);
     let mut j = 0;
     while j < n {
-        let v = value_at(kind, map, at, numbers, high, table::bit_at(kind, j));
-        left = less_field(left, table::tag_at(kind, j), v);
+        let row = fix_table::row_at(kind, j);
+        let v = value_at(kind, map, at, numbers, high, row.bit);
+        left = less_field(left, row.tag, v);
         j += 1;
     }
     left

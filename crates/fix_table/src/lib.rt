@@ -1,13 +1,14 @@
 // The tables of FIX messages in code, for the writer and the reader: the rows of each kind, the message
 // types, how each bit is written, the words of our own (`spoken`) and the checksum (`sum`). Each function
-// is total and equals a definition of specs/Table or of fix_words. Rests on fix_words and words.
+// is total and equals a definition of specs/Table or of fix_words. Tables are `match`es: an array would be
+// built on the stack at each call. Rests on fix_words.
 ghost use mathlib.Core.Path.{_≡_};
-ghost use Prim.Native.Nat.{_-_, _≤_};
-ghost use lib.ListN.{length, getD};
+ghost use Prim.Native.Nat.{_≤_, _<_};
+ghost use lib.ListN.{length};
 ghost use Rattle.fix_words.specs.Values.{rows, typeOf, kindOf};
 ghost use Rattle.fix_table.specs.Table.{rowAt, formOf};
-ghost use Rattle.fix_table.specs.Laws.Rows.{starts};
 
+mod rows;
 pub mod spoken;
 pub mod sum;
 
@@ -18,268 +19,70 @@ pub struct Row {
     pub must: bool,
 }
 
-// The rows of kinds 16 to 20, one behind the other: where each kind starts, then the columns.
-const STARTS: [usize; 6] = [0, 20, 27, 34, 40, 49];
-
-const TAGS: [u16; 49] = [
-    37,
-    11,
-    41,
-    55,
-    54,
-    40,
-    38,
-    44,
-    59,
-    150,
-    39,
-    32,
-    14,
-    6,
-    103,
-    58,
-    151,
-    17,
-    31,
-    58,
-    37,
-    11,
-    41,
-    39,
-    102,
-    58,
-    434,
-    11,
-    55,
-    54,
-    40,
-    38,
-    44,
-    59,
-    11,
-    55,
-    54,
-    38,
-    37,
-    41,
-    11,
-    55,
-    54,
-    40,
-    38,
-    44,
-    59,
-    37,
-    41,
-];
-
-const BITS: [u8; 49] = [
-    2,
-    3,
-    4,
-    6,
-    7,
-    8,
-    9,
-    10,
-    11,
-    12,
-    13,
-    14,
-    16,
-    17,
-    19,
-    20,
-    24,
-    25,
-    26,
-    27,
-    2,
-    3,
-    4,
-    13,
-    19,
-    20,
-    29,
-    5,
-    6,
-    7,
-    8,
-    9,
-    10,
-    11,
-    5,
-    6,
-    7,
-    9,
-    18,
-    30,
-    5,
-    6,
-    7,
-    8,
-    9,
-    10,
-    11,
-    18,
-    30,
-];
-
-const MUST: [u8; 49] = [
-    1,
-    1,
-    0,
-    1,
-    1,
-    1,
-    1,
-    0,
-    0,
-    1,
-    1,
-    1,
-    1,
-    1,
-    0,
-    0,
-    1,
-    1,
-    1,
-    0,
-    1,
-    1,
-    1,
-    1,
-    1,
-    1,
-    1,
-    1,
-    1,
-    1,
-    1,
-    1,
-    0,
-    0,
-    1,
-    1,
-    1,
-    1,
-    0,
-    1,
-    1,
-    1,
-    1,
-    1,
-    1,
-    0,
-    0,
-    0,
-    1,
-];
-
-const TYPES: [u8; 5] = [56, 57, 68, 70, 71];
-
-const FORMS: [u8; 32] = [
-    0,
-    0,
-    2,
-    2,
-    2,
-    2,
-    2,
-    1,
-    1,
-    4,
-    8,
-    1,
-    1,
-    1,
-    4,
-    8,
-    4,
-    8,
-    2,
-    0,
-    2,
-    0,
-    0,
-    0,
-    4,
-    0,
-    8,
-    0,
-    0,
-    0,
-    2,
-    0,
-];
-
-// A kind's place among the tables.
-fn place(kind: u8) -> usize
-    ensures { λ r. ⌜ r ≡ kind - 16 ⌝ }
-{
-    if kind < 16 {
-        return 0;
-    }
-    words::small(kind - 16)
-}
-
 // How many rows a kind has.
 pub fn count_of(kind: u8) -> usize
     ensures { λ r. ⌜ (r ≡ length (rows kind)) × (r ≤ 20) ⌝ }
 {
-    if 20 < kind {
-        return 0;
+    if kind <= 16 {
+        return 20;
     }
-    let p = place(kind);
-    STARTS[p + 1] - STARTS[p]
-}
-
-// Where the rows of a kind start.
-fn first_of(kind: u8) -> usize
-    requires { ⌜ kind ≤ 20 ⌝ }
-    ensures { λ r. ⌜ r ≡ getD starts (kind - 16) 0 ⌝ }
-{
-    let p = place(kind);
-    STARTS[p]
-}
-
-// A number of two bytes, made wider.
-fn wide(x: u16) -> u64
-    ensures { λ r. ⌜ r ≡ x ⌝ }
-{
-    x as u64
+    if kind == 17 {
+        return 7;
+    }
+    if kind == 18 {
+        return 7;
+    }
+    if kind == 19 {
+        return 6;
+    }
+    if kind == 20 {
+        return 9;
+    }
+    0
 }
 
 // Row j of a kind; past the last a row of tag 0.
 pub fn row_at(kind: u8, j: usize) -> Row
-    ensures { λ r. ⌜ (r .tag ≡ rowAt kind j .tag) × (r .bit ≡ rowAt kind j .bit) × (r .must ≡ rowAt kind j .must) ⌝ }
+    ensures { λ r. ⌜ (r .tag ≡ rowAt kind j .tag) × (r .bit ≡ rowAt kind j .bit) × (r .must ≡ rowAt kind j .must) × (r .bit < 32) ⌝ }
 {
-    let n = count_of(kind);
-    if n <= j {
-        return Row {
-            tag: 0,
-            bit: 0,
-            must: true,
-        };
+    if kind <= 16 {
+        return rows::report(j);
     }
-    let i = first_of(kind) + j;
-    Row {
-        tag: wide(TAGS[i]),
-        bit: words::small(BITS[i]),
-        must: MUST[i] == 1,
+    if kind == 17 {
+        return rows::reject(j);
     }
+    if kind == 18 {
+        return rows::order(j);
+    }
+    if kind == 19 {
+        return rows::cancel(j);
+    }
+    if kind == 20 {
+        return rows::replace(j);
+    }
+    rows::must(0, 0)
 }
 
 // MsgType.
 pub fn type_of(kind: u8) -> u8
     ensures { λ r. ⌜ r ≡ typeOf kind ⌝ }
 {
-    if 20 < kind {
-        return 0;
+    if kind <= 16 {
+        return 56;
     }
-    let p = place(kind);
-    TYPES[p]
+    if kind == 17 {
+        return 57;
+    }
+    if kind == 18 {
+        return 68;
+    }
+    if kind == 19 {
+        return 70;
+    }
+    if kind == 20 {
+        return 71;
+    }
+    0
 }
 
 // The kind of a MsgType, 0 where there is none.
@@ -308,8 +111,39 @@ pub fn kind_of(letter: u8) -> u8
 pub fn form_of(b: usize) -> u8
     ensures { λ r. ⌜ r ≡ formOf b ⌝ }
 {
-    if 31 < b {
-        return 0;
+    match b {
+        0 => 0,
+        1 => 0,
+        2 => 2,
+        3 => 2,
+        4 => 2,
+        5 => 2,
+        6 => 2,
+        7 => 1,
+        8 => 1,
+        9 => 4,
+        10 => 8,
+        11 => 1,
+        12 => 1,
+        13 => 1,
+        14 => 4,
+        15 => 8,
+        16 => 4,
+        17 => 8,
+        18 => 2,
+        19 => 0,
+        20 => 2,
+        21 => 0,
+        22 => 0,
+        23 => 0,
+        24 => 4,
+        25 => 0,
+        26 => 8,
+        27 => 0,
+        28 => 0,
+        29 => 0,
+        30 => 2,
+        31 => 0,
+        _ => 0,
     }
-    FORMS[b]
 }

@@ -1,5 +1,6 @@
 pub mod Lists
 pub mod Digits
+pub mod Number
 pub mod Spelling
 pub mod Rows
 pub mod Held
@@ -10,3 +11,4 @@ pub mod Map
 pub mod Taken
 pub mod Made
 pub mod Counting
+pub mod Carried

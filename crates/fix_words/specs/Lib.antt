@@ -3,7 +3,12 @@ pub mod Spelling
 pub mod Rows
 pub mod Values
 pub mod Message
+pub mod Number
 pub mod Frame
 pub mod Record
+pub mod Carried
+pub mod Ascii
+pub mod Small
 pub mod Sample
+pub mod Facts
 pub mod Laws

@@ -108,15 +108,6 @@ textAt b (some c) = not (isTextBit b) || isText c
 unfoldable pub texted : Writing → Bool
 texted w = isText (w .sender) && (isText (w .target) && (isText (w .time) && allBelow (λ b. textAt b (w .at b)) 32))
 
--- the writer's answer with room for so many bytes
-unfoldable pub refusalOf : Writing → ℕ → ℕ
-refusalOf w room =
-    if not (shaped (w .kind) (w .at)) then 3 else
-    if not (ranged (w .at)) then 4 else
-    if not (texted w) then 9 else
-    if ltb room (length (bytesFor w)) then 10 else
-    0
-
 -- the types of the call: bytes, and a sequence of one word
 unfoldable pub typed : Writing → Bool
 typed w = ltb (w .sequence) (bound 8) && (every (λ x. ltb x 256) (w .sender) && (every (λ x. ltb x 256) (w .target) && every (λ x. ltb x 256) (w .time)))

@@ -1,56 +1,35 @@
--- `count_of`: from one start to the next. Rests on Laws.Rows.
-use borrow.Author.Needs.{needs}
-use mathlib.Core.Path.{_≡_, sym, ap, subst, _∙_}
-use Prim.Native.Nat.{ℕ, _+_, _-_, _≤_}
-use lib.ListN.{length, getD}
-use Rattle.fix_table.specs.Laws.Rows.{starts, no-rows, row-count}
+-- `count_of`: kind by kind. Rests on Laws.Rows.
+use mathlib.Core.Path.{sym, ap}
+use Prim.Native.Nat.{ℕ}
+use lib.ListN.{length}
 use native.Mathlib.Omega.{arith}
+use Rattle.fix_words.specs.Values.{tables, rows}
+use Rattle.fix_table.specs.Laws.Rows.{low, past}
 use Rattle.fix_table.proofs.count_of.Statement.{statement}
 use Rattle.fix_table.proofs.count_of.Tie as tie
 
 returns : tie.Need-returns
-returns c = let e = ap length (no-rows (c .before .args .kind) (omega arith)) in (sym e, omega arith)
-
-add-result : tie.Need-add-result
-add-result c = omega (arith, c .place .ensures)
-
-mul-result : tie.Need-mul-result
-mul-result c = omega (arith, c .place .ensures)
-
-array-read-result : tie.Need-array-read-result
-array-read-result c = omega (arith, c .place .ensures)
-
-mul-result-2 : tie.Need-mul-result-2
-mul-result-2 c = omega (arith, c .place .ensures)
-
-array-read-result-2 : tie.Need-array-read-result-2
-array-read-result-2 c = omega (arith, c .place .ensures)
-
-sub-result : tie.Need-sub-result
-unfolding starts
-sub-result c =
-    let k = c .before .before .args .kind in
-    subst (λ (p : ℕ). getD starts p 0 ≤ getD starts (p + 1) 0) (sym (c .place .ensures)) (row-count k (omega arith) .order)
+unfolding rows tables
+returns c = (sym (ap length (low (c .before .args .kind) (c .if1 .taken) .0)), omega arith)
 
 returns-2 : tie.Need-returns-2
-unfolding starts
-returns-2 c =
-    let k = c .before .before .args .kind in
-    let w = row-count k (omega arith) in
-    let e : c .place .result ≡ k - 16 = c .place .ensures in
-    let d = ap (λ (p : ℕ). getD starts (p + 1) 0 - getD starts p 0) e ∙ w .count in
-    (d, omega (arith, d, w .few))
+unfolding rows tables
+returns-2 c = (sym (ap (λ (k : ℕ). length (rows k)) (c .if2 .taken)), omega arith)
+
+returns-3 : tie.Need-returns-3
+unfolding rows tables
+returns-3 c = (sym (ap (λ (k : ℕ). length (rows k)) (c .if3 .taken)), omega arith)
+
+returns-4 : tie.Need-returns-4
+unfolding rows tables
+returns-4 c = (sym (ap (λ (k : ℕ). length (rows k)) (c .if4 .taken)), omega arith)
+
+returns-5 : tie.Need-returns-5
+unfolding rows tables
+returns-5 c = (sym (ap (λ (k : ℕ). length (rows k)) (c .if5 .taken)), omega arith)
+
+returns-6 : tie.Need-returns-6
+returns-6 c = let e = past (c .before .before .before .before .before .args .kind) (omega arith) .0 in (sym (ap length e), omega arith)
 
 pub count-of-spec : {M : Type 1} → statement M
-count-of-spec =
-    tie.close
-    (tie.spec
-    returns
-    (λ c κs. search needs)
-    add-result
-    mul-result
-    array-read-result
-    mul-result-2
-    array-read-result-2
-    sub-result
-    returns-2)
+count-of-spec = tie.close (tie.spec returns returns-2 returns-3 returns-4 returns-5 returns-6)

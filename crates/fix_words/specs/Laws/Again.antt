@@ -29,7 +29,7 @@ use Rattle.fix_words.specs.Laws.Rows.{stand, prints}
 
 -- ---- the bits that go their own way
 
-by-bit : (P : ℕ → Type 0) → P 2 → P 20 → P 25 → P 27 → (b : ℕ)
+pub by-bit : (P : ℕ → Type 0) → P 2 → P 20 → P 25 → P 27 → (b : ℕ)
     → (eqb b 2 ≡ false → eqb b 20 ≡ false → eqb b 25 ≡ false → eqb b 27 ≡ false → P b) → P b
 by-bit P p2 p20 p25 p27 b other = go (ℕ-discrete b 2) (ℕ-discrete b 20) (ℕ-discrete b 25) (ℕ-discrete b 27)
   where
@@ -41,23 +41,23 @@ by-bit P p2 p20 p25 p27 b other = go (ℕ-discrete b 2) (ℕ-discrete b 20) (ℕ
     go (no x) (no y) (no z) (no w) = other (ne-eqb b 2 x) (ne-eqb b 20 y) (ne-eqb b 25 z) (ne-eqb b 27 w)
 
 module _ (k : ℕ) (at : Values) where
-  value-name : valueOf k at 2 ≡ (if eqb k 17 then some (orElse noneWord (at 2)) else at 2)
+  pub value-name : valueOf k at 2 ≡ (if eqb k 17 then some (orElse noneWord (at 2)) else at 2)
   unfolding valueOf if_then_else_
   value-name = refl
 
-  value-text : valueOf k at 20 ≡ (if eqb k 17 then either (at 20) (over fixedWords (at 27)) else at 20)
+  pub value-text : valueOf k at 20 ≡ (if eqb k 17 then either (at 20) (over fixedWords (at 27)) else at 20)
   unfolding valueOf if_then_else_
   value-text = refl
 
-  value-exec : valueOf k at 25 ≡ over (execId (at 2)) (at 25)
+  pub value-exec : valueOf k at 25 ≡ over (execId (at 2)) (at 25)
   unfolding valueOf if_then_else_
   value-exec = refl
 
-  value-words : valueOf k at 27 ≡ over fixedWords (at 27)
+  pub value-words : valueOf k at 27 ≡ over fixedWords (at 27)
   unfolding valueOf if_then_else_
   value-words = refl
 
-  value-plain : (b : ℕ) → eqb b 2 ≡ false → eqb b 20 ≡ false → eqb b 25 ≡ false → eqb b 27 ≡ false → valueOf k at b ≡ over (spelling b) (at b)
+  pub value-plain : (b : ℕ) → eqb b 2 ≡ false → eqb b 20 ≡ false → eqb b 25 ≡ false → eqb b 27 ≡ false → valueOf k at b ≡ over (spelling b) (at b)
   unfolding valueOf if_then_else_
   value-plain b x y z w = rw (x, y, z, w) refl
 
@@ -112,7 +112,7 @@ paired-report : (at : Values) → paired 16 at
 unfolding paired if_then_else_
 paired-report at = refl
 
-paired-reject : (at : Values) → paired 17 at ≡ (if isSome (at 20) then not (isSome (at 27)) else isSome (at 27))
+pub paired-reject : (at : Values) → paired 17 at ≡ (if isSome (at 20) then not (isSome (at 27)) else isSome (at 27))
 unfolding paired if_then_else_
 paired-reject at = refl
 

@@ -15,7 +15,7 @@ use Rattle.fix_words.specs.Laws.Lists.{every-append, every-map, below-ev
 pub digits-digits : (n : ℕ) → every isDigit (digits n) ≡ true
 digits-digits n = below-every isDigit (digits n) (digits-are n)
 
-low-digits : (p n : ℕ) → every isDigit (lowDigits p n) ≡ true
+pub low-digits : (p n : ℕ) → every isDigit (lowDigits p n) ≡ true
 low-digits p n = below-every isDigit (lowDigits p n) (low-are p n)
 
 digit-print : (c : ℕ) → isDigit c ≡ true → isPrint c ≡ true

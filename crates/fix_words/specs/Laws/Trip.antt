@@ -15,7 +15,8 @@ use Rattle.format.specs.Codes.{within}
 use Rattle.fix_words.specs.Lists.{every, same, isPrint}
 use Rattle.decimal.specs.Decimal.{digits, lowDigits, numberIn, readFrom, down}
 use Rattle.decimal.specs.Laws.Back.{digits-back, low-back}
-use Rattle.fix_words.specs.Laws.Digits.{digits-print, low-print}
+use Rattle.fix_words.specs.Laws.Digits.{digits-print, low-digits, low-print}
+use Rattle.fix_words.specs.Laws.Number.{digits-number}
 use Rattle.fix_words.specs.Spelling.{Field, field, spellings, fieldsIn, printable}
 use Rattle.fix_words.specs.Rows.{Values, body, valueIn, inRows}
 use Rattle.fix_words.specs.Values.{rows, types, typeOf, valueOf, contents}
@@ -56,13 +57,13 @@ module _ (w : Writing) (yes-it-is : isWriting w ≡ true) where
       let b = both-true (shaped k (w .at)) _ (a .1) in
       (a .0, (b .0, both-true (ranged (w .at)) (texted w) (b .1)))
 
-  shapes : (within 16 20 k ≡ true) × ((allBelow (λ b. shapeAt k b (w .at b)) 32 ≡ true) × (paired k (w .at) ≡ true))
+  pub shapes : (within 16 20 k ≡ true) × ((allBelow (λ b. shapeAt k b (w .at b)) 32 ≡ true) × (paired k (w .at) ≡ true))
   unfolding shaped
   shapes =
       let a = both-true (within 16 20 k) _ (parts .1 .0) in
       (a .0, both-true (allBelow (λ b. shapeAt k b (w .at b)) 32) (paired k (w .at)) (a .1))
 
-  kind : within 16 20 k ≡ true
+  pub kind : within 16 20 k ≡ true
   kind = shapes .0
 
   texts : (isText (w .sender) ≡ true) × ((isText (w .target) ≡ true) × ((isText (w .time) ≡ true) × (allBelow (λ b. textAt b (w .at b)) 32 ≡ true)))
@@ -223,7 +224,8 @@ frame w =
           spellings-append (front (inner w)) (trailer (spellings (front (inner w))) ∷ [])
           ∙ ap (λ (l : List ℕ). l ++ spellings (trailer (spellings (front (inner w))) ∷ [])) s
           ∙ append-assoc (spellings two) (spellings (inner w)) _;
-      nine = digits-back (length (spellings (inner w)));
+      nine = digits-number (length (spellings (inner w)));
       ten = low-three (sum (spellings (front (inner w))) % 256) (omega arith) ∙ ap (λ (l : List ℕ). sum l % 256) s;
       three = length-three (sum (spellings (front (inner w))) % 256);
+      digits = low-digits 3 (sum (spellings (front (inner w))) % 256);
     }

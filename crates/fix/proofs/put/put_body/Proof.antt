@@ -37,15 +37,20 @@ sounds s b i =
     let k = s .args .kind in
     s .pre .2 b (row-small k (both-hold (leb 16 k) (leb k 20) (le-leb 16 k (s .pre .0)) (le-leb k 20 (s .pre .1))) b i)
 
+abbrev start : tie.After-value-at Inv-loop μ-loop → tie.Start Inv-loop μ-loop
+start c = c .before .before .before .before .before .before .before
+
 -- the value of the row
-the-value : (c : tie.After-tag-at Inv-loop μ-loop) → c .before .before .value-at .result ≡ plan (c .before .before .before .before .before .before .before .before .before) (rowAt (c .before .before .before .before .before .before .before .before .before .args .kind) (c .before .before .before .before .before .loop .j) .bit)
-the-value c = c .before .before .value-at .ensures ∙ ap (plan (c .before .before .before .before .before .before .before .before .before)) (c .before .before .before .bit-at .ensures .0)
+the-value : (c : tie.After-value-at Inv-loop μ-loop) → c .value-at .result ≡ plan (start c) (rowAt (start c .args .kind) (c .before .before .before .loop .j) .bit)
+the-value c = c .value-at .ensures ∙ ap (plan (start c)) (c .before .row-at .ensures .1)
 
-sound : (c : tie.After-tag-at Inv-loop μ-loop) → Sound (now (c .before .before .before .before .before .before .before .before .before .args .s)) (c .before .before .value-at .result)
-sound c = subst (λ (v : Value). Sound (now (c .before .before .before .before .before .before .before .before .before .args .s)) v) (sym (c .before .before .value-at .ensures)) (c .before .before .before .before .before .before .before .before .before .pre .2 (c .before .before .before .bit-at .result) (c .before .before .before .bit-at .ensures .1))
+sound : (c : tie.After-value-at Inv-loop μ-loop) → Sound (now (start c .args .s)) (c .value-at .result)
+sound c =
+    let r = c .before .row-at in
+    subst (λ (v : Value). Sound (now (start c .args .s)) v) (sym (c .value-at .ensures)) (start c .pre .2 (r .result .bit) (r .ensures .3))
 
-inside : (c : tie.After-tag-at Inv-loop μ-loop) → c .before .before .before .before .before .loop .j < length (rows (c .before .before .before .before .before .before .before .before .before .args .kind))
-inside c = omega (arith, c .before .before .before .before .before .before .count-of .ensures .0)
+inside : (c : tie.After-value-at Inv-loop μ-loop) → c .before .before .before .loop .j < length (rows (start c .args .kind))
+inside c = omega (arith, c .before .before .before .before .count-of .ensures .0)
 
 loop-holds : tie.Need-loop-holds Inv-loop μ-loop
 loop-holds c =
@@ -54,10 +59,14 @@ loop-holds c =
     (omega arith, rest-start (now (a .out)) (a .start) (rowsShown (now (a .s)) (rows (a .kind)) (plan s)) (omega (arith, rows-long (now (a .s)) (plan s) (rows (a .kind)) (sounds s))))
 
 value-at-requires : tie.Need-value-at-requires Inv-loop μ-loop
-value-at-requires c κs = c .bit-at .ensures .1
+value-at-requires c κs = c .row-at .ensures .3
 
 put-field-requires : tie.Need-put-field-requires Inv-loop μ-loop
-put-field-requires c κs = (sound c, row-room (now (c .before .before .before .before .before .before .before .before .before .args .s)) (plan (c .before .before .before .before .before .before .before .before .before)) (rows (c .before .before .before .before .before .before .before .before .before .args .kind)) (c .before .before .before .before .before .loop .j) (inside c) (c .tag-at .result) (c .before .before .value-at .result) (c .tag-at .ensures) (the-value c) (sound c) (c .before .before .before .before .before .loop .inv .1))
+put-field-requires c κs =
+    let t = c .before in
+    let a = start t .args in
+    let r = t .before .row-at in
+    (sound t, row-room (now (a .s)) (plan (start t)) (rows (a .kind)) (t .before .before .before .loop .j) (inside t) (r .result .tag) (t .value-at .result) (r .ensures .0) (the-value t) (sound t) (t .before .before .before .loop .inv .1))
 
 add-j : tie.Need-add-j Inv-loop μ-loop
 add-j c = omega arith
@@ -67,9 +76,11 @@ loop-less c = omega arith
 
 loop-again : tie.Need-loop-again Inv-loop μ-loop
 loop-again c =
-    let t = c .before .before .before in
+    let t = c .before .before .before .before in
     let p = c .before .before .put-field in
-    (omega arith, row-next (now (t .before .before .before .before .before .before .before .before .before .args .s)) (plan (t .before .before .before .before .before .before .before .before .before)) (rows (t .before .before .before .before .before .before .before .before .before .args .kind)) (t .before .before .before .before .before .loop .j) (inside t) (t .tag-at .result) (t .before .before .value-at .result) (t .tag-at .ensures) (the-value t) (sound t) (t .before .before .before .before .before .loop .inv .1) (p .ensures .1) (p .ensures .0))
+    let a = start t .args in
+    let r = t .before .row-at in
+    (omega arith, row-next (now (a .s)) (plan (start t)) (rows (a .kind)) (t .before .before .before .loop .j) (inside t) (r .result .tag) (t .value-at .result) (r .ensures .0) (the-value t) (sound t) (t .before .before .before .loop .inv .1) (p .ensures .1) (p .ensures .0))
 
 same-length : tie.Need-same-length Inv-loop μ-loop
 same-length c = c .before .loop .inv .1 .same
@@ -93,7 +104,6 @@ put-body-spec =
     loop-holds
     (λ c κs. search needs)
     value-at-requires
-    (λ c κs. search needs)
     put-field-requires
     add-j
     loop-less

@@ -24,8 +24,8 @@ room : (c : tie.Else1) → let a = c .before .before .before .before .args in a 
 room c = let a = c .before .before .before .before .args in omega (arith, field-some (a .tag) (a .v) (stands c))
 
 -- after the tag: the length of the buffer with = behind it
-after-tag : (c : tie.After-put-digits) → let p = c .put-digits in length (set (p .last .0) (p .result) 61) ≡ length (now (c .before .before .before .before .before .before .args .out))
-after-tag c = let p = c .put-digits in length-set (p .last .0) (p .result) 61 ∙ p .kept .0
+after-tag : (c : tie.After-put-tag) → let p = c .put-tag in length (set (p .last .0) (p .result) 61) ≡ length (now (c .before .before .before .before .before .before .args .out))
+after-tag c = let p = c .put-tag in length-set (p .last .0) (p .result) 61 ∙ p .kept .0
 
 returns : tie.Need-returns
 returns c =
@@ -33,31 +33,31 @@ returns c =
     let n = shown-none (now (a .s)) (a .tag) (a .v) (eq-eqb (a .v .form) 0 (c .if1 .taken)) in
     (omega (arith, n .1), sym (ap (splice (now (a .out)) (a .at)) (n .0) ∙ splice-nil (now (a .out)) (a .at)))
 
-put-digits-requires : tie.Need-put-digits-requires
-put-digits-requires c κs = omega (arith, room (c .before))
+put-tag-requires : tie.Need-put-tag-requires
+put-tag-requires c κs = omega (arith, room (c .before))
 
 slice-write-out : tie.Need-slice-write-out
-slice-write-out c = let p = c .before .before .put-digits in omega (arith, room (c .before .before .before .before), p .ensures .0, p .kept .0)
+slice-write-out c = let p = c .before .before .put-tag in omega (arith, room (c .before .before .before .before), p .ensures .0, p .kept .0)
 
 add-put-value : tie.Need-add-put-value
-add-put-value c = let p = c .before .before .before .put-digits in omega (arith, room (c .before .before .before .before .before), p .ensures .0)
+add-put-value c = let p = c .before .before .before .put-tag in omega (arith, room (c .before .before .before .before .before), p .ensures .0)
 
 put-value-requires : tie.Need-put-value-requires
 put-value-requires c κs =
     let t = c .before .before .before in
-    (t .before .before .before .before .before .before .pre .0, omega (arith, room (t .before .before), t .put-digits .ensures .0, after-tag t))
+    (t .before .before .before .before .before .before .pre .0, omega (arith, room (t .before .before), t .put-tag .ensures .0, after-tag t))
 
 slice-write-out-2 : tie.Need-slice-write-out-2
 slice-write-out-2 c =
     let p = c .before .before .put-value in
     let t = c .before .before .before .before .before .before in
-    omega (arith, room (t .before .before), t .put-digits .ensures .0, after-tag t, p .ensures .0, p .kept .0)
+    omega (arith, room (t .before .before), t .put-tag .ensures .0, after-tag t, p .ensures .0, p .kept .0)
 
 add-result : tie.Need-add-result
 add-result c =
     let p = c .before .before .put-value in
     let t = c .before .before .before .before .before .before in
-    omega (arith, room (t .before .before), t .put-digits .ensures .0, p .ensures .0)
+    omega (arith, room (t .before .before), t .put-tag .ensures .0, p .ensures .0)
 
 same-length : tie.Need-same-length
 same-length c =
@@ -70,7 +70,7 @@ returns-2 c =
     let p = c .before .before .put-value in
     let t = c .before .before .before .before .before .before in
     let e = t .before .before in
-    let q = t .put-digits in
+    let q = t .put-tag in
     let s = t .before .before .before .before .before .before in
     let a = s .args in
     let v : List ℕ = saidBy (now (a .s)) (a .v) in
@@ -87,7 +87,7 @@ put-field-spec =
     tie.close
     (tie.spec
     returns
-    put-digits-requires
+    put-tag-requires
     slice-write-out
     add-put-value
     put-value-requires

@@ -33,7 +33,7 @@ loop-holds c =
     (omega arith, le-refl T, c .less .ensures ∙ sym (less-more (a .r) 0 0) ∙ (λ i. lessBy (sym (c .less .ensures) i) (sym z i)))
 
 value-at-requires : tie.Need-value-at-requires Inv-loop μ-loop
-value-at-requires c κs = c .bit-at .ensures .1
+value-at-requires c κs = c .row-at .ensures .3
 
 add-j : tie.Need-add-j Inv-loop μ-loop
 add-j c = omega arith
@@ -43,21 +43,21 @@ loop-less c = omega arith
 
 loop-again : tie.Need-loop-again Inv-loop μ-loop
 loop-again c =
-    let a = c .before .before .before .before .before .before .before .before .args in
-    let l = c .before .before .before .before .before .loop in
-    let n = c .before .before .before .before .before .before .before .count-of .ensures in
+    let a = c .before .before .before .before .before .before .before .args in
+    let l = c .before .before .before .before .loop in
+    let n = c .before .before .before .before .before .before .count-of .ensures in
     let f : ℕ → Value = planned (a .kind) (a .map) (now (a .at)) (now (a .numbers)) (a .high) in
     let t : ℕ = rowAt (a .kind) (l .j) .tag in
     let b : ℕ = rowAt (a .kind) (l .j) .bit in
-    let v : c .before .before .value-at .result ≡ f b = c .before .before .value-at .ensures ∙ ap f (c .before .before .before .bit-at .ensures .0) in
+    let v : c .before .value-at .result ≡ f b = c .before .value-at .ensures ∙ ap f (c .before .before .row-at .ensures .1) in
     let next : rowsLong (drop (l .j) (rows (a .kind))) f ≡ fieldLong t (f b) + rowsLong (drop (l .j + 1) (rows (a .kind))) f = long-next f (rows (a .kind)) (l .j) (omega (arith, n .0)) in
     let T : ℕ = rowsLong (rows (a .kind)) f in
     let z : T - rowsLong (drop (l .j) (rows (a .kind))) f + fieldLong t (f b) ≡ T - rowsLong (drop (l .j + 1) (rows (a .kind))) f = omega (arith, next, l .inv .1) in
-    let left0 : Room = c .before .before .before .before .before .before .less .result in (
+    let left0 : Room = c .before .before .before .before .before .less .result in (
       omega arith,
       omega (arith, next, l .inv .1),
       c .less-field .ensures
-          ∙ (λ i. lessBy (l .inv .2 i) (fieldLong (c .before .tag-at .ensures i) (v i)))
+          ∙ (λ i. lessBy (l .inv .2 i) (fieldLong (c .before .before .row-at .ensures .0 i) (v i)))
           ∙ less-more left0 (T - rowsLong (drop (l .j) (rows (a .kind))) f) (fieldLong t (f b))
           ∙ ap (lessBy left0) z,
     )
@@ -85,7 +85,6 @@ less-body-spec =
     loop-holds
     (λ c κs. search needs)
     value-at-requires
-    (λ c κs. search needs)
     (λ c κs. search needs)
     add-j
     loop-less
