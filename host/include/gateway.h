@@ -1,4 +1,4 @@
-/* The proved order book: nine functions over lent slices, each a pointer and then a length. What they do stands in
+/* The proved order book: ten functions over lent slices, each a pointer and then a length. What they do stands in
  * docs/SCOPE.md, the book's bytes in docs/LAYOUT.md.
  *
  * Each pointer must be valid for its length, and the slices of one call must not overlap. Any bytes may be passed. A call
@@ -23,6 +23,8 @@ extern "C" {
 #define JUBAFIYE_NET_SCRATCH 1  /* the numbers that its scratch needs */
 #define JUBAFIYE_MARK_NAME 32   /* a place: a name, filled with zeros, and the image of a book */
 #define JUBAFIYE_PLACE_BYTES 65568
+#define JUBAFIYE_CHAIN_ENTRY 34
+#define JUBAFIYE_CHAIN_BYTES 8704 /* what the chain of any ClOrdID has at most: 256 entries */
 
 /* Makes an empty book. setting: the most ClOrdIDs that a client may use, the reserve included.
  * 0, or 1 where the book has another length. */
@@ -97,6 +99,22 @@ typedef struct {
  * JUBAFIYE_ANSWER_BYTES. The refusal is the one that it would return, never JUBAFIYE_REFUSED_ANSWER_BUFFER. Nothing changes. */
 Needs needs(const uint8_t *book, size_t book_len, const uint8_t *record, size_t record_len);
 
+/* Writes the chain of a client's ClOrdID to the front of list, of which the bytes behind it stay as they are: that name, the one
+ * that its request's OrigClOrdID names, and so on back to the first. An entry has the name as its length (1 byte) and 32 bytes
+ * filled with zeros, and what its request came to (1), a JUBAFIYE_OUTCOME. The number is that of the entries; it is 0 for a name
+ * that the client never used, whatever its length. Refused with JUBAFIYE_REFUSED_BOOK, then with JUBAFIYE_REFUSED_CHAIN_LIST where
+ * list cannot hold the whole chain. */
+Counted chain(const uint8_t *book, size_t book_len, uint16_t client, const uint8_t *name, size_t name_len, uint8_t *list,
+              size_t list_len);
+
+/* What a request came to: open until it is settled, and from then on what that made it. */
+enum {
+    JUBAFIYE_OUTCOME_OPEN = 0,
+    JUBAFIYE_OUTCOME_ACCEPTED = 1,
+    JUBAFIYE_OUTCOME_REFUSED = 2,
+    JUBAFIYE_OUTCOME_FAILED_TO_SEND = 3
+};
+
 /* What the functions return. */
 enum {
     JUBAFIYE_TAKEN = 0,
@@ -109,6 +127,7 @@ enum {
     JUBAFIYE_REFUSED_FULL = 7,          /* no free order or request record */
     JUBAFIYE_REFUSED_PAGE_BUFFER = 8,   /* the page's buffer is shorter than JUBAFIYE_PAGE_LINE bytes for each order */
     JUBAFIYE_REFUSED_NET_BUFFERS = 11,  /* the net position's scratch or output is smaller than it must be */
+    JUBAFIYE_REFUSED_CHAIN_LIST = 12,   /* the list cannot hold the whole chain of the ClOrdID */
     JUBAFIYE_REFUSED_MARK_NAME = 13,    /* a mark's name is not 1 to 16 letters or digits */
     JUBAFIYE_REFUSED_NO_MARK = 14,      /* no mark of that name has an image that keeps the book's rules */
     JUBAFIYE_REFUSED_NO_PLACE = 15      /* no place is free for a mark of a new name */

@@ -14,6 +14,9 @@ pub const ANSWER_BYTES: usize = 1_024;
 /// The most orders of a book.
 pub(crate) const ORDERS: usize = 64;
 
+/// The most requests of a book.
+pub(crate) const REQUESTS: usize = 256;
+
 /// A line of the evening page, with its line feed.
 pub(crate) const PAGE_LINE: usize = 81;
 
@@ -26,6 +29,9 @@ pub(crate) const NET_NUMBERS: usize = 1;
 pub(crate) const MARK_NAME: usize = 32;
 pub(crate) const MARK_LETTERS: usize = 16;
 pub(crate) const MARK_PLACE: usize = MARK_NAME + BOOK_BYTES;
+
+/// An entry of a chain: a ClOrdID as its length and 32 bytes, and an outcome.
+pub(crate) const CHAIN_ENTRY: usize = 34;
 
 /// A book's bytes: the type holds their number.
 pub(crate) type BookBytes = [u8; BOOK_BYTES];
@@ -94,6 +100,15 @@ mod c {
             places_len: usize,
         ) -> u32;
         pub fn needs(book: *const u8, book_len: usize, record: *const u8, record_len: usize) -> Needs;
+        pub fn chain(
+            book: *const u8,
+            book_len: usize,
+            client: u16,
+            name: *const u8,
+            name_len: usize,
+            list: *mut u8,
+            list_len: usize,
+        ) -> Counted;
     }
 }
 
@@ -207,4 +222,16 @@ pub(crate) fn needs(book: &BookBytes, record: &[u8]) -> Result<Needs, Refusal> {
         fields_first: needs.fields_first,
         fields_second: needs.fields_second,
     })
+}
+
+/// Writes the chain of a ClOrdID to the front of its list and gives how many entries it has; a refused call has changed nothing.
+#[allow(unsafe_code)]
+pub(crate) fn chain(book: &BookBytes, client: u16, name: &[u8], list: &mut [u8]) -> Result<usize, Refusal> {
+    // SAFETY: three slices, of which the one that is written overlaps no other, since it is lent as `&mut`; each with its length.
+    let counted = unsafe {
+        c::chain(book.as_ptr(), book.len(), client, name.as_ptr(), name.len(), list.as_mut_ptr(), list.len())
+    };
+    Refusal::of(counted.refusal)?;
+    // A number that is past the address space is past any buffer.
+    Ok(usize::try_from(counted.number).unwrap_or(usize::MAX))
 }

@@ -40,6 +40,8 @@ pub enum Refusal {
     Room,
     /// 11: the net position's scratch or output is smaller than it must be.
     NetBuffers,
+    /// 12: the list cannot hold the whole chain of the ClOrdID.
+    ChainList,
     /// 13: a mark's name is not 1 to 16 letters or digits.
     MarkName,
     /// 14: no mark of that name has an image that keeps the book's rules.
@@ -65,6 +67,7 @@ impl Refusal {
             Self::Text => 9,
             Self::Room => 10,
             Self::NetBuffers => 11,
+            Self::ChainList => 12,
             Self::MarkName => 13,
             Self::NoMark => 14,
             Self::NoPlace => 15,
@@ -93,6 +96,7 @@ impl Refusal {
             9 => Self::Text,
             10 => Self::Room,
             11 => Self::NetBuffers,
+            12 => Self::ChainList,
             13 => Self::MarkName,
             14 => Self::NoMark,
             15 => Self::NoPlace,
@@ -120,6 +124,7 @@ impl fmt::Display for Refusal {
             Self::Text => "a text for FIX is empty or has a byte below 32",
             Self::Room => "the buffer cannot hold the FIX message",
             Self::NetBuffers => "the net position's scratch or output is too small",
+            Self::ChainList => "the list cannot hold the whole chain",
             Self::MarkName => "a mark's name is not 1 to 16 letters or digits",
             Self::NoMark => "no mark of that name has an image that keeps the rules",
             Self::NoPlace => "no place is free for a new mark",

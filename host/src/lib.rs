@@ -46,6 +46,8 @@
 mod answer;
 #[cfg(feature = "book")]
 mod book;
+#[cfg(feature = "book")]
+mod chain;
 mod decimal;
 #[cfg(feature = "book")]
 mod entries;
@@ -72,6 +74,8 @@ mod words;
 pub use answer::{Alarm, Answer};
 #[cfg(feature = "book")]
 pub use book::Book;
+#[cfg(feature = "book")]
+pub use chain::{ChainEntry, Outcome, CHAIN_BYTES, CHAIN_ENTRY_BYTES};
 pub use decimal::{DecimalError, Net, Price, Qty};
 #[cfg(feature = "book")]
 pub use entries::{ANSWER_BYTES, BOOK_BYTES};

@@ -1,7 +1,8 @@
-//! The open quantity of a client, and how a book from before it was stored is carried over. Rests on entries, book, fields and
-//! docs/LAYOUT.md.
+//! The open quantity of a client, and how a book from before it was stored is carried over. Rests on entries, book, chain, fields
+//! and docs/LAYOUT.md.
 
 use crate::book::Book;
+use crate::chain::write_origins;
 use crate::decimal::Qty;
 use crate::entries::{self, BookBytes, ORDERS};
 use crate::error::Refusal;
@@ -41,7 +42,9 @@ impl Book {
 
     /// A book from the bytes of one that was stored **before** books had open quantities (docs/changes/04.md). Its other bytes are
     /// right as they are, but where they have a live order [`Book::from_bytes`] refuses them, since the sums are not there.
-    /// Here each client's sum is worked out from its orders and written; then all rules are asked.
+    /// Here each client's sum is worked out from its orders and written; so is the link to the request that an OrigClOrdID names
+    /// (docs/changes/09.md); then all rules are asked. What an answered request came to stands nowhere in a book from before
+    /// outcomes: one that has such a request stays refused.
     ///
     /// Bytes of a book of today come back as they are. Whoever takes a book up after a restart still uses [`Book::from_bytes`]:
     /// it refuses a sum that was damaged, which this function would write anew.
@@ -64,6 +67,7 @@ impl Book {
     pub fn carry_over(bytes: &[u8]) -> Result<Self, Refusal> {
         let mut bytes: Box<BookBytes> = Box::<[u8]>::from(bytes).try_into().map_err(|_| Refusal::Book)?;
         write_opens(&mut bytes);
+        write_origins(&mut bytes);
         Self::from_bytes(&bytes[..])
     }
 }

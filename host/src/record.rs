@@ -236,13 +236,13 @@ impl Field for Price {
 mod tests {
     use super::*;
 
-    /// The header's names that are not said to be of an event, a message, an alarm or a refusal, with their numbers.
+    /// The header's names that are not said to be of an event, a message, an alarm, an outcome or a refusal, with their numbers.
     #[test]
     fn the_header_has_the_same_fields() {
         let header = include_str!("../include/gateway.h");
         let stated =
             header.lines().filter_map(|line| line.trim().strip_prefix("JUBAFIYE_")?.split_once(" = "));
-        let others = ["EVENT_", "MESSAGE_", "ALARM_", "REFUSED_", "TAKEN"];
+        let others = ["EVENT_", "MESSAGE_", "ALARM_", "OUTCOME_", "REFUSED_", "TAKEN"];
         let fields = stated.filter(|(name, _)| !others.iter().any(|other| name.starts_with(other)));
         let number = |text: &str| text.split([',', ' ']).next().and_then(|digits| digits.parse::<u32>().ok());
         let fields: Vec<_> = fields.map(|(name, rest)| (name, number(rest).unwrap())).collect();

@@ -10,6 +10,7 @@ static uint8_t out[JUBAFIYE_PAGE_BYTES];
 static uint8_t lines[JUBAFIYE_NET_BYTES];
 static uint64_t scratch[JUBAFIYE_NET_SCRATCH];
 static uint8_t places[JUBAFIYE_PLACE_BYTES];
+static uint8_t list[JUBAFIYE_CHAIN_BYTES];
 
 /* Client 0x0107 books 5 of W for venue 3 at the market, named A, ClOrdID C. */
 static const uint8_t booking[] = {JUBAFIYE_EVENT_BOOK, 0xCF, 0x03, 0, 0, 0x07, 0x01, 3, 0, 1, 'A', 1, 'C', 1, 'W', '1', '1',
@@ -73,6 +74,21 @@ int main(void) {
            return_to_mark(book, sizeof book, other, 1, places, sizeof places) == JUBAFIYE_REFUSED_NO_MARK);
     expect("return_to_mark, refused",
            return_to_mark(book, sizeof book - 1, sign, 1, places, sizeof places) == JUBAFIYE_REFUSED_BOOK);
+
+    static const uint8_t used[] = {'C'}, entry[JUBAFIYE_CHAIN_ENTRY] = {1, 'C'};
+    list[JUBAFIYE_CHAIN_ENTRY] = 7;
+    Counted linked = chain(book, sizeof book, 0x0107, used, 1, list, sizeof list);
+    expect("chain", linked.refusal == JUBAFIYE_TAKEN && linked.number == 1);
+    expect("its entry", memcmp(list, entry, sizeof entry) == 0 && entry[33] == JUBAFIYE_OUTCOME_OPEN &&
+                            list[JUBAFIYE_CHAIN_ENTRY] == 7);
+    linked = chain(book, sizeof book, 0x0107, used, 1, list, JUBAFIYE_CHAIN_ENTRY - 1);
+    expect("chain, short", linked.refusal == JUBAFIYE_REFUSED_CHAIN_LIST && linked.number == 0);
+    linked = chain(book, sizeof book, 7, used, 1, list, 0);
+    expect("chain of another client", linked.refusal == JUBAFIYE_TAKEN && linked.number == 0);
+    linked = chain(book, sizeof book, 0x0107, used, 0, list, 0);
+    expect("chain of no name", linked.refusal == JUBAFIYE_TAKEN && linked.number == 0);
+    linked = chain(book, sizeof book - 1, 0x0107, used, 1, list, 0);
+    expect("chain, refused", linked.refusal == JUBAFIYE_REFUSED_BOOK && linked.number == 0);
 
     if (!failed) {
         printf("calls: each function from C\n");

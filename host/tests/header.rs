@@ -1,7 +1,8 @@
 //! The numbers of include/gateway.h against those of this crate; the fields' bits are compared in src/record.rs.
 
 use jubafiye::{
-    Alarm, Event, Refusal, ANSWER_BYTES, BOOK_BYTES, NET_BYTES, NET_SCRATCH, PAGE_BYTES, PLACE_BYTES,
+    Alarm, Event, Outcome, Refusal, ANSWER_BYTES, BOOK_BYTES, CHAIN_BYTES, CHAIN_ENTRY_BYTES, NET_BYTES,
+    NET_SCRATCH, PAGE_BYTES, PLACE_BYTES,
 };
 
 const HEADER: &str = include_str!("../include/gateway.h");
@@ -29,6 +30,8 @@ fn lengths() {
     assert_eq!((number("BOOK_BYTES"), number("ANSWER_BYTES")), (Some(BOOK_BYTES), Some(ANSWER_BYTES)));
     assert_eq!((number("PAGE_LINE"), number("PAGE_BYTES")), (Some(PAGE_BYTES / 64), Some(PAGE_BYTES)));
     assert_eq!((number("NET_LINE"), number("NET_BYTES")), (Some(NET_BYTES / 64), Some(NET_BYTES)));
+    let chain = (Some(CHAIN_ENTRY_BYTES), Some(CHAIN_BYTES));
+    assert_eq!((number("CHAIN_ENTRY"), number("CHAIN_BYTES")), chain);
     assert_eq!((number("NET_SCRATCH"), number("PLACE_BYTES")), (Some(NET_SCRATCH), Some(PLACE_BYTES)));
 }
 
@@ -44,6 +47,7 @@ fn refusals_and_alarms() {
         ("FULL", Refusal::Full),
         ("PAGE_BUFFER", Refusal::PageBuffer),
         ("NET_BUFFERS", Refusal::NetBuffers),
+        ("CHAIN_LIST", Refusal::ChainList),
         ("MARK_NAME", Refusal::MarkName),
         ("NO_MARK", Refusal::NoMark),
         ("NO_PLACE", Refusal::NoPlace),
@@ -64,6 +68,21 @@ fn refusals_and_alarms() {
         assert_eq!(number(&format!("ALARM_{name}")), Some(alarm.number().into()), "{name}");
     }
     assert_eq!((number("ALARM_NONE"), names("ALARM_")), (Some(0), alarms.len() + 1));
+}
+
+#[test]
+fn outcomes() {
+    let outcomes = [
+        ("OPEN", Outcome::Open),
+        ("ACCEPTED", Outcome::Accepted),
+        ("REFUSED", Outcome::Refused),
+        ("FAILED_TO_SEND", Outcome::FailedToSend),
+    ];
+    for (name, outcome) in outcomes {
+        assert_eq!(number(&format!("OUTCOME_{name}")), Some(outcome.number().into()), "{name}");
+        assert_eq!(Outcome::from_number(outcome.number()), Some(outcome));
+    }
+    assert_eq!((names("OUTCOME_"), Outcome::from_number(4)), (outcomes.len(), None));
 }
 
 #[test]

@@ -51,7 +51,7 @@ comes b i k = asked-comes b i (callOf b (i .event) (length (i .answer))) k (aske
 
 -- ---- what is heard, and the book that is left
 
-pub read-back : (b r a : List ℕ) → Bytes b → Bytes r → Taken b r a → Answers (stepOf (bookOf b) (eventIn r)) (left b a (stepOf (bookOf b) (eventIn r)) .answer)
+pub read-back : (b r a : List ℕ) → Bytes b → Bytes r → Taken b r a → Answers (stepOf (bookOf b) (eventIn r)) (left b r a (stepOf (bookOf b) (eventIn r)) .answer)
 read-back b r a bytes bytes′ t =
     answer-read (bookOf b) (eventIn r) a (keeps-held b (t .keeps) .rules)
     (whole b r bytes bytes′ (t .keeps) (t .reads) (t .taken)) (event-right r bytes′ (t .reads)) (t .room)
@@ -87,7 +87,7 @@ module _ (b : List ℕ) (i : Call) (g : Good b) where
       go true e =
           let t : Taken b (i .event) (i .answer) = call-taken b (i .event) (i .answer) (eqb-true (c .refusal) 0 e) in
           let d : Change = stepOf (bookOf b) (eventIn (i .event)) in
-          let is : o ≡ left b (i .answer) d = outcome-taken b (i .event) (i .answer) t in
+          let is : o ≡ left b (i .event) (i .answer) d = outcome-taken b (i .event) (i .answer) t in
           let zero : eqb (d .refusal) 0 ≡ true = eq-eqb (d .refusal) 0 (t .taken) in
           record {
             refusal = ap (λ (x : Outcome). x .returned) is ∙ sym (eqb-true (c .refusal) 0 e);

@@ -3,15 +3,17 @@
 use Prim.Native.Nat.{ℕ, _≤_, _+_, _-_, _<_}
 use mathlib.Core.Path.{_≡_, sym, ap, _∙_, subst, refl, ap₂}
 use mathlib.Core.Bool.{true, not, _||_}
-use mathlib.Core.List.{List}
+use mathlib.Core.List.{List, [], _∷_}
 use lib.Dec.{eqb, leb, ltb}
 use lib.ListN.{length}
 use borrow.Author.Tests.{eq-eqb, le-ltb, eqb-true, ne-eqb, ltb-true, lt-ltb}
 use Rattle.prelude.specs.Cases.{if_then_else_, if-true, if-false, both-true, either-true, both-hold}
 use Rattle.prelude.specs.Number.{Bytes}
-use Rattle.prelude.specs.Span.{splice}
+use Rattle.prelude.specs.Span.{span, splice}
+use Rattle.prelude.specs.Totals.{every[], every∷}
 use Rattle.records.specs.Answer.{answerBytes}
-use Rattle.store.specs.Book.{Book, bookOf, orderIn, requestCount, requestIn, putOrder, storeOrder, putRequest, storeRequest}
+use Rattle.store.specs.Book.{Book, bookOf, orderIn, requestCount, putOrder, storeOrder}
+use Rattle.store.specs.Requests.{WholeRequest, encodeRequest}
 use Rattle.machine.specs.declared.Output.{Output}
 use Rattle.machine.specs.declared.Change.{Change}
 use Rattle.machine.specs.Changes.{Event, refusing}
@@ -24,7 +26,7 @@ use Rattle.machine.proofs.Exchange.Places.{turned-book}
 use Rattle.opens.specs.Keeps.{keepsOf, opened}
 use Rattle.claims.specs.Claims.{Call}
 use Rattle.claims.specs.Exchange.{called, CallsOfTwoClients, CallsExchanged, TwoClientsOnBytes, afterTwo, lent, SameAnswer, SameBooks, turnedBytes}
-use Rattle.claims.proofs.Taken.{Taken, call-taken, left, returned-is, outcome-taken, writes, keeps-after, keeps-sizes, step-room, whole-after, check-kept}
+use Rattle.claims.proofs.Taken.{Taken, call-taken, left, returned-is, outcome-taken, writes, keeps-after, keeps-sizes, step-room, whole-after, settled, check-kept}
 use Rattle.step.specs.Entries.{Outcome, callOf, bookWith, checkOf}
 use Rattle.format.specs.Refusal.{eventRefusal}
 use Rattle.opens.specs.Laws.Keeps.{keeps-held}
@@ -33,7 +35,7 @@ use native.Mathlib.Omega.{arith}
 use mathlib.Core.Logic.{_⊎_, inl, inr, ⊎-elim}
 use Rattle.records.specs.Record.{eventIn}
 use Rattle.records.specs.Laws.Writing.{answer-most}
-use Rattle.store.specs.Layout.{mostRequests, bookSize, mostOrders}
+use Rattle.store.specs.Layout.{mostRequests, bookSize, mostOrders, requestSize, requestBase}
 use Rattle.store.specs.Laws.Stored.{length-requests}
 use Rattle.machine.specs.declared.Requests.{Requests}
 use Rattle.machine.proofs.Kept.Lift.{BookKept, book-kept}
@@ -48,13 +50,13 @@ use Rattle.claims.specs.Opens.{OpenRight}
 use Rattle.claims.proofs.Written.{order-written, request-written}
 use Rattle.claims.proofs.OpenQuantity.{right}
 use Rattle.claims.proofs.Concern.{link-of, kinds-of}
-use Rattle.claims.proofs.Swapped.{first-of, Fit, Pair, bytes-same, room-two, whole-c, whole-d, bytes-turned}
+use Rattle.claims.proofs.Swapped.{first-of, Fit, Pair, bytes-same, room-two, bytes-turned, records}
 use Rattle.store.specs.declared.Order.{Order}
 use Rattle.store.specs.declared.Request.{Request}
-use Rattle.store.specs.Laws.Kept.{store-order-keeps, store-request-keeps}
-use Rattle.machine.proofs.Exchange.Commute.{first-at, second-at, added-one, added-two}
-use Rattle.claims.proofs.Splices.{put}
-use Rattle.claims.proofs.Placed.{orderWrite, requestWrite}
+use Rattle.store.specs.Laws.Kept.{store-order-keeps}
+use Rattle.machine.proofs.Exchange.Commute.{first-at, second-at}
+use Rattle.claims.proofs.Splices.{Write, put, length-all}
+use Rattle.claims.proofs.Placed.{orderWrite, requestWrite, originBy, zone-inside, request-zone}
 
 -- what a call's record reads as
 abbrev callEvent : Call → Event
@@ -76,7 +78,7 @@ after-is b e z = sym (if-true _ _ _ (eq-eqb (stepOf b e .refusal) 0 z))
 
 -- what a call that is taken leaves
 module _ (b : List ℕ) (i : Call) (bytes : Bytes b) (t : Taken b (i .event) (i .answer)) where
-  outcome-is : called b i ≡ left b (i .answer) (stepOf (bookOf b) (callEvent i))
+  outcome-is : called b i ≡ left b (i .event) (i .answer) (stepOf (bookOf b) (callEvent i))
   outcome-is = outcome-taken b (i .event) (i .answer) t
 
   left-is : bookOf (called b i .book) ≡ bookAfter (bookOf b) (callEvent i)
@@ -94,13 +96,14 @@ module _ (b : List ℕ) (i : Call) (bytes : Bytes b) (t : Taken b (i .event) (i 
   returned-none = ap (λ (o : Outcome). o .returned) outcome-is
 
   -- the change of an order, as its writes want it
-  fit : (stepOf (bookOf b) (callEvent i) .place ≡ 0 → ⊥) → Fit b (stepOf (bookOf b) (callEvent i))
+  fit : (stepOf (bookOf b) (callEvent i) .place ≡ 0 → ⊥) → Fit b (callEvent i) (stepOf (bookOf b) (callEvent i))
   fit n =
       let c : Change = stepOf (bookOf b) (callEvent i) in
       let whole = whole-after b (i .event) bytes (i .bytes) (t .keeps) (t .reads) (t .taken) in
       record {
         room = room-of (step-room (bookOf b) (callEvent i) (t .taken));
         writes = writes b (i .event) bytes (i .bytes) (t .keeps) (t .reads) (t .taken);
+        settled = settled b (i .event) bytes (i .bytes) (t .keeps) (t .reads) (t .taken);
         order = order-written (bookOf b) c whole (ne-eqb (c .place) 0 n);
         request = λ m. request-written (bookOf b) c whole (ne-eqb (c .requests .added) 0 m);
       }
@@ -262,11 +265,11 @@ module _ (b : List ℕ) (d e : Call) (i j : ℕ) (h : CallsOfTwoClients b d e i 
       subst (λ (m : ℕ). Crossed x m j firstChange lastChange secondChange nextChange) one-i
       (subst (λ (m : ℕ). Crossed x (ways .i) m firstChange lastChange secondChange nextChange) one-j (ways .crossed))
 
-  left-first : called b d .book ≡ bookWith b firstChange
-  left-first = ap (λ (o : Outcome). o .book) (outcome-is b d (h .bytes) first) ∙ ap (bookWith b) (ways .first .step)
+  left-first : called b d .book ≡ bookWith b (callEvent d) firstChange
+  left-first = ap (λ (o : Outcome). o .book) (outcome-is b d (h .bytes) first) ∙ ap (bookWith b (callEvent d)) (ways .first .step)
 
-  left-second : called b e′ .book ≡ bookWith b secondChange
-  left-second = ap (λ (o : Outcome). o .book) (outcome-is b e′ (h .bytes) earlier) ∙ ap (bookWith b) (ways .earlier .step)
+  left-second : called b e′ .book ≡ bookWith b (callEvent e) secondChange
+  left-second = ap (λ (o : Outcome). o .book) (outcome-is b e′ (h .bytes) earlier) ∙ ap (bookWith b (callEvent e)) (ways .earlier .step)
 
   step-next : stepOf (bookOf (called b d .book)) (callEvent e) ≡ nextChange
   step-next = ap (λ (y : Book). stepOf y (callEvent e)) (left-is b d (h .bytes) first ∙ ways .first .left) ∙ ways .second .step
@@ -274,17 +277,17 @@ module _ (b : List ℕ) (d e : Call) (i j : ℕ) (h : CallsOfTwoClients b d e i 
   step-last : stepOf (bookOf (called b e′ .book)) (callEvent d) ≡ lastChange
   step-last = ap (λ (y : Book). stepOf y (callEvent d)) (left-is b e′ (h .bytes) earlier ∙ ways .earlier .left) ∙ ways .later .step
 
-  one-writes : one ≡ bookWith (bookWith b firstChange) nextChange
-  one-writes = ap (λ (o : Outcome). o .book) (outcome-is (called b d .book) e (left-bytes b d (h .bytes) first) second) ∙ ap₂ bookWith left-first step-next
+  one-writes : one ≡ bookWith (bookWith b (callEvent d) firstChange) (callEvent e) nextChange
+  one-writes = ap (λ (o : Outcome). o .book) (outcome-is (called b d .book) e (left-bytes b d (h .bytes) first) second) ∙ ap₂ (λ (y : List ℕ) (c : Change). bookWith y (callEvent e) c) left-first step-next
 
-  two-writes : two ≡ bookWith (bookWith b secondChange) lastChange
-  two-writes = ap (λ (o : Outcome). o .book) (outcome-is (called b e′ .book) d′ (left-bytes b e′ (h .bytes) earlier) later) ∙ ap₂ bookWith left-second step-last
+  two-writes : two ≡ bookWith (bookWith b (callEvent e) secondChange) (callEvent d) lastChange
+  two-writes = ap (λ (o : Outcome). o .book) (outcome-is (called b e′ .book) d′ (left-bytes b e′ (h .bytes) earlier) later) ∙ ap₂ (λ (y : List ℕ) (c : Change). bookWith y (callEvent d) c) left-second step-last
 
   -- a place is the order's
   placed : (c f : Change) (k : ℕ) → c .place ≡ f .place → f .place ≡ k + 1 → c .place ≡ 0 → ⊥
   placed c f k y z w = omega arith
 
-  pair : Pair b i j firstChange lastChange secondChange nextChange
+  pair : Pair b i j (callEvent d) (callEvent e) firstChange lastChange secondChange nextChange
   pair = record {
     long = keeps-held b (first .keeps) .long;
     kept = good;
@@ -292,16 +295,16 @@ module _ (b : List ℕ) (d e : Call) (i j : ℕ) (h : CallsOfTwoClients b d e i 
     first-word = first-of x i (owned-first .inside);
     second-word = first-of x j (owned-second .inside);
     crossed = crossed;
-    first = subst (Fit b) (ways .first .step) (fit b d (h .bytes) first (placed byFirst firstChange i (ap (λ (c : Change). c .place) (ways .first .step)) (owned-first .there)));
-    second = subst (Fit b) (ways .earlier .step) (fit b e′ (h .bytes) earlier (placed bySecond secondChange j (ap (λ (c : Change). c .place) (ways .earlier .step)) (owned-second .there)));
+    first = subst (Fit b (callEvent d)) (ways .first .step) (fit b d (h .bytes) first (placed byFirst firstChange i (ap (λ (c : Change). c .place) (ways .first .step)) (owned-first .there)));
+    second = subst (Fit b (callEvent e)) (ways .earlier .step) (fit b e′ (h .bytes) earlier (placed bySecond secondChange j (ap (λ (c : Change). c .place) (ways .earlier .step)) (owned-second .there)));
     later =
-        subst (λ (y : List ℕ). Fit y lastChange) left-second
-        (subst (Fit (called b e′ .book)) step-last
+        subst (λ (y : List ℕ). Fit y (callEvent d) lastChange) left-second
+        (subst (Fit (called b e′ .book) (callEvent d)) step-last
         (fit (called b e′ .book) d′ (left-bytes b e′ (h .bytes) earlier) later
         (placed (stepOf (bookOf (called b e′ .book)) (callEvent d)) firstChange i (ap (λ (c : Change). c .place) step-last ∙ same-place (crossed .first-linked)) (owned-first .there))));
     behind =
-        subst (λ (y : List ℕ). Fit y nextChange) left-first
-        (subst (Fit (called b d .book)) step-next
+        subst (λ (y : List ℕ). Fit y (callEvent e) nextChange) left-first
+        (subst (Fit (called b d .book) (callEvent e)) step-next
         (fit (called b d .book) e (left-bytes b d (h .bytes) first) second
         (placed (stepOf (bookOf (called b d .book)) (callEvent e)) secondChange j (ap (λ (c : Change). c .place) step-next ∙ same-place (crossed .second-linked)) (owned-second .there))));
   }
@@ -346,15 +349,28 @@ module _ (b : List ℕ) (d e : Call) (i j : ℕ) (h : CallsOfTwoClients b d e i 
     abbrev n : ℕ
     n = length (x .requests)
 
-    request-first : requestIn (bookOf one) n ≡ firstChange .requests .request
-    request-first =
-        ap (λ (y : Book). requestIn y n) one-after
-        ∙ added-one x i j firstChange lastChange secondChange nextChange owned-first owned-second (same-requests (crossed .first-linked)) (same-requests (crossed .second-linked)) nc
+    abbrev qc : Request
+    qc = firstChange .requests .request
 
-    request-second : requestIn (bookOf one) (n + 1) ≡ secondChange .requests .request
-    request-second =
-        ap₂ (λ (y : Book) (m : ℕ). requestIn y m) one-after (sym (added-long x firstChange nc))
-        ∙ added-two x j i secondChange nextChange firstChange lastChange owned-second owned-first (same-requests (crossed .second-linked)) (same-requests (crossed .first-linked)) nd
+    abbrev qd : Request
+    qd = secondChange .requests .request
+
+    abbrev fromC : ℕ
+    fromC = originBy b firstChange
+
+    abbrev fromD : ℕ
+    fromD = originBy b secondChange
+
+    -- the two records, as bytes
+    record-first : span one (requestBase n) requestSize ≡ encodeRequest fromC qc
+    record-first =
+        ap (λ (y : List ℕ). span y (requestBase n) requestSize) one-writes
+        ∙ records b i j (callEvent d) (callEvent e) firstChange lastChange secondChange nextChange pair nc nd .0
+
+    record-second : span one (requestBase (n + 1)) requestSize ≡ encodeRequest fromD qd
+    record-second =
+        ap (λ (y : List ℕ). span y (requestBase (n + 1)) requestSize) one-writes
+        ∙ records b i j (callEvent d) (callEvent e) firstChange lastChange secondChange nextChange pair nc nd .1
 
     order-first : turnedOrder n (orderIn (bookOf one) i) ≡ lastChange .order
     order-first =
@@ -371,33 +387,28 @@ module _ (b : List ℕ) (d e : Call) (i j : ℕ) (h : CallsOfTwoClients b d e i 
     unfolding storeOrder putOrder
     order-put s k o l m = if-true _ _ _ (both-hold _ _ (eq-eqb (length s) bookSize l) (lt-ltb k mostOrders m))
 
-    request-put : (s : List ℕ) (k : ℕ) (q : Request) → length s ≡ bookSize → k < mostRequests → storeRequest s k q ≡ put s (requestWrite k q)
-    unfolding storeRequest putRequest
-    request-put s k q l m = if-true _ _ _ (both-hold _ _ (eq-eqb (length s) bookSize l) (lt-ltb k mostRequests m))
-
     long-one : length one ≡ bookSize
     long-one = keeps-held one (left-keeps (called b d .book) e (left-bytes b d (h .bytes) first) second) .long
 
     two-bytes : turnedBytes n i j one ≡ two
     two-bytes =
-        let qc : Request = firstChange .requests .request in
-        let qd : Request = secondChange .requests .request in
-        let room : n + 1 < mostRequests = room-two b i j firstChange lastChange secondChange nextChange pair nc nd in
-        let s₁ : List ℕ = storeRequest one (n + 1) qc in
-        let s₂ : List ℕ = storeRequest s₁ n qd in
+        let w₁ : Write = requestWrite (n + 1) fromC qc in
+        let w₂ : Write = requestWrite n fromD qd in
+        let room : n + 1 < mostRequests = room-two b i j (callEvent d) (callEvent e) firstChange lastChange secondChange nextChange pair nc nd in
+        let whole-c : WholeRequest qc = pair .first .request nc in
+        let whole-d : WholeRequest qd = pair .second .request nd in
+        let s₂ : List ℕ = put (put one w₁) w₂ in
         let s₃ : List ℕ = storeOrder s₂ j (secondChange .order) in
-        let l₁ : length s₁ ≡ bookSize = store-request-keeps one (n + 1) qc (whole-c b i j firstChange lastChange secondChange nextChange pair nc nd) .same ∙ long-one in
-        let l₂ : length s₂ ≡ bookSize = store-request-keeps s₁ n qd (whole-d b i j firstChange lastChange secondChange nextChange pair nc nd) .same ∙ l₁ in
+        let l₂ : length s₂ ≡ bookSize =
+        length-all one (w₁ ∷ w₂ ∷ []) bookSize long-one
+        (every∷ (zone-inside w₁ (request-zone (n + 1) fromC qc room whole-c)) (every∷ (zone-inside w₂ (request-zone n fromD qd (omega arith) whole-d)) every[])) in
         let l₃ : length s₃ ≡ bookSize = store-order-keeps s₂ j (secondChange .order) (pair .second .order .fits) .same ∙ l₂ in
-        ap₂ (λ (q u : Request). storeOrder (storeOrder (storeRequest (storeRequest one (n + 1) q) n u) j (turnedOrder n (orderIn (bookOf one) j))) i (turnedOrder n (orderIn (bookOf one) i))) request-first request-second
+        ap₂ (λ (q u : List ℕ). storeOrder (storeOrder (splice (splice one (requestBase (n + 1)) q) (requestBase n) u) j (turnedOrder n (orderIn (bookOf one) j))) i (turnedOrder n (orderIn (bookOf one) i))) record-first record-second
         ∙ ap₂ (λ (o u : Order). storeOrder (storeOrder s₂ j o) i u) order-second order-first
         ∙ order-put s₃ i (lastChange .order) l₃ (omega (arith, owned-first .inside, good .orders))
-        ∙ ap (λ (y : List ℕ). put y (orderWrite i (lastChange .order)))
-        (order-put s₂ j (secondChange .order) l₂ (omega (arith, owned-second .inside, good .orders))
-        ∙ ap (λ (y : List ℕ). put y (orderWrite j (secondChange .order)))
-        (request-put s₁ n qd l₁ (omega arith) ∙ ap (λ (y : List ℕ). put y (requestWrite n qd)) (request-put one (n + 1) qc long-one room)))
-        ∙ ap (λ (y : List ℕ). put (put (put (put y (requestWrite (n + 1) qc)) (requestWrite n qd)) (orderWrite j (secondChange .order))) (orderWrite i (lastChange .order))) one-writes
-        ∙ bytes-turned b i j firstChange lastChange secondChange nextChange pair nc nd
+        ∙ ap (λ (y : List ℕ). put y (orderWrite i (lastChange .order))) (order-put s₂ j (secondChange .order) l₂ (omega (arith, owned-second .inside, good .orders)))
+        ∙ ap (λ (y : List ℕ). put (put (put (put y w₁) w₂) (orderWrite j (secondChange .order))) (orderWrite i (lastChange .order))) one-writes
+        ∙ bytes-turned b i j (callEvent d) (callEvent e) firstChange lastChange secondChange nextChange pair nc nd
         ∙ sym two-writes
 
   -- ---- all of it
@@ -429,7 +440,7 @@ module _ (b : List ℕ) (d e : Call) (i j : ℕ) (h : CallsOfTwoClients b d e i 
   }
     where
       same-of : requestCount one < requestCount b + 2 → Added → one ≡ two
-      same-of l (fewer z k) = one-writes ∙ bytes-same b i j firstChange lastChange secondChange nextChange pair z ∙ sym two-writes
+      same-of l (fewer z k) = one-writes ∙ bytes-same b i j (callEvent d) (callEvent e) firstChange lastChange secondChange nextChange pair z ∙ sym two-writes
       same-of l (both y z k) = absurd (omega arith)
 
       bytes-of : requestCount b + 2 ≤ requestCount one → Added → turnedBytes (requestCount b) i j one ≡ two

@@ -16,16 +16,18 @@ use Rattle.prelude.specs.Span.{span, splice, length-splice, span-splice-before}
 use Rattle.prelude.specs.Bytes.{zeros, get-zeros}
 use Rattle.store.specs.declared.Order.{Order}
 use Rattle.store.specs.declared.Request.{Request}
-use Rattle.store.specs.Layout.{bookSize, requestBase}
+use Rattle.store.specs.Layout.{bookSize, requestBase, request·answered, request·outcome}
 use Rattle.store.specs.Orders.{WholeOrder}
 use Rattle.store.specs.Requests.{WholeRequest}
-use Rattle.store.specs.Book.{Book, bookOf, countAt, orderCount, requestCount, settingOf, orderAt, requestAt, putOrder, putRequest, setCount, storeOrder, addOrder, addRequest, markAnswered, storeOpen, blank, emptyBook}
+use Rattle.store.specs.Book.{Book, bookOf, countAt, orderCount, requestCount, settingOf, orderAt, requestAt, putOrder, putRequest, setCount, storeOrder, addOrder, addRequest, settledAs, markAnswered, storeOpen, blank, emptyBook}
 use Rattle.store.specs.Finds.{findClient}
 use Rattle.machine.specs.declared.Requests.{Requests}
 use Rattle.machine.specs.declared.Change.{Change}
+use Rattle.machine.specs.Changes.{Event}
 use Rattle.machine.specs.Machine.{after}
 use Rattle.machine.specs.Rules.{rules}
 use Rattle.machine.proofs.Kept.Steps.{start-keeps}
+use Rattle.outcomes.specs.Outcomes.{outcomeBy, besideRight, outcomesRight}
 use Rattle.opens.specs.Keeps.{keepsOf}
 use Rattle.opens.specs.Opens.{openRight, opensRight}
 use Rattle.step.specs.Entries.{placeOrder, markLink, placeRequests, placeOpen, tablesWith, bookWith}
@@ -88,34 +90,37 @@ module _ (b : List ℕ) (h : Headed b) where
       })
       (λ d. h)
 
-  add-request-head : (q : Request) → WholeRequest q → Headed (addRequest b q)
+  add-request-head : (origin : ℕ) (q : Request) → WholeRequest q → Headed (addRequest b origin q)
   unfolding addRequest if_then_else_
-  add-request-head q w =
+  add-request-head origin q w =
       let n : ℕ = requestCount b in
-      in-table (λ t. Headed (if t then setCount (putRequest b n q) 2 (n + 1) else b)) b 256 n
+      in-table (λ t. Headed (if t then setCount (putRequest b n origin q) 2 (n + 1) else b)) b 256 n
       (λ l k.
-      let d : List ℕ = putRequest b n q in
-      let m : length d ≡ bookSize = length-put-request b l n k q w in
+      let d : List ℕ = putRequest b n origin q in
+      let m : length d ≡ bookSize = length-put-request b l n k origin q w in
       let u : length (setCount d 2 (n + 1)) ≡ bookSize = length-set-count d m 2 (n + 1) (omega arith) in
       record {
         long = u;
         orders = omega (
           arith,
           same-16 (setCount d 2 (n + 1)) b 0 (omega arith) (omega arith)
-              (span-set-count d m 2 (n + 1) (omega arith) 0 2 (inl (omega arith)) ∙ span-put-request b l n k q w 0 2 (inl (omega arith))),
+              (span-set-count d m 2 (n + 1) (omega arith) 0 2 (inl (omega arith)) ∙ span-put-request b l n k origin q w 0 2 (inl (omega arith))),
         );
         requests = omega (arith, set-head d m 2 (n + 1) (omega arith) (omega arith));
       })
       (λ d. h)
 
-  mark-head : (i : ℕ) → Headed (markAnswered b i)
+  mark-head : (i v : ℕ) → Headed (markAnswered b i v)
   unfolding markAnswered if_then_else_
-  mark-head i =
-      in-table (λ t. Headed (if t then splice b (requestBase i + 3) (1 ∷ []) else b)) b 256 i
+  mark-head i v =
+      let x : List ℕ = splice b (requestBase i + request·answered) (1 ∷ []) in
+      let w : List ℕ = settledAs b i v ∷ [] in
+      in-table (λ t. Headed (if t then splice x (requestBase i + request·outcome) w else b)) b 256 i
       (λ l k.
-      same-head b (splice b (requestBase i + 3) (1 ∷ [])) h (length-splice b (requestBase i + 3) (1 ∷ []) (omega arith) ∙ l)
-      (span-splice-before b (requestBase i + 3) (1 ∷ []) 0 2 (omega arith) (omega arith))
-      (span-splice-before b (requestBase i + 3) (1 ∷ []) 2 2 (omega arith) (omega arith)))
+      let m : length x ≡ bookSize = length-splice b (requestBase i + request·answered) (1 ∷ []) (omega arith) ∙ l in
+      let same : (at : ℕ) → at + 2 ≤ 4 → span (splice x (requestBase i + request·outcome) w) at 2 ≡ span b at 2 = λ at h.
+      span-splice-before x (requestBase i + request·outcome) w at 2 (omega arith) (omega arith) ∙ span-splice-before b (requestBase i + request·answered) (1 ∷ []) at 2 (omega arith) (omega arith) in
+      same-head b (splice x (requestBase i + request·outcome) w) h (length-splice x (requestBase i + request·outcome) w (omega arith) ∙ m) (same 0 (omega arith)) (same 2 (omega arith)))
       (λ d. h)
 
   place-head : (place : ℕ) (o : Order) → (eqb place 0 ≡ false → WholeOrder o) → Headed (placeOrder b place o)
@@ -123,16 +128,16 @@ module _ (b : List ℕ) (h : Headed b) where
   place-head place o w =
       split-if Headed (eqb place 0) (λ e. h) (λ e. split-if Headed _ (λ f. store-head (place - 1) o (w e)) (λ f. add-order-head o (w e)))
 
-  link-head : (k : ℕ) → Headed (markLink b k)
+  link-head : (k v : ℕ) → Headed (markLink b k v)
   unfolding markLink
-  link-head k = split-if Headed (eqb k 0) (λ e. h) (λ e. mark-head (k - 1))
+  link-head k v = split-if Headed (eqb k 0) (λ e. h) (λ e. mark-head (k - 1) v)
 
-requests-head : (b : List ℕ) → Headed b → (r : Requests) → (eqb (r .added) 0 ≡ false → WholeRequest (r .request)) → Headed (placeRequests b r)
+requests-head : (b : List ℕ) → Headed b → (v origin : ℕ) (r : Requests) → (eqb (r .added) 0 ≡ false → WholeRequest (r .request)) → Headed (placeRequests b v origin r)
 unfolding placeRequests
-requests-head b h r w =
-    let d : List ℕ = markLink (markLink b (r .answered)) (r .superseded) in
-    let k : Headed d = link-head (markLink b (r .answered)) (link-head b h (r .answered)) (r .superseded) in
-    split-if Headed (eqb (r .added) 0) (λ e. k) (λ e. add-request-head d k (r .request) (w e))
+requests-head b h v origin r w =
+    let d : List ℕ = markLink (markLink b (r .answered) v) (r .superseded) v in
+    let k : Headed d = link-head (markLink b (r .answered) v) (link-head b h (r .answered) v) (r .superseded) v in
+    split-if Headed (eqb (r .added) 0) (λ e. k) (λ e. add-request-head d k origin (r .request) (w e))
 
 -- a word behind the tables is not in the header
 open-head : (b : List ℕ) → Headed b → (left : Book) (place client : ℕ) → Headed (placeOpen b left place client)
@@ -143,11 +148,11 @@ open-head b h left place client =
     (λ i z. same-head b (storeOpen b i _) h (store-open-keeps b i _ .same ∙ h .long) (span-store-open b i _ 0 2 (omega arith)) (span-store-open b i _ 2 2 (omega arith))))
 
 -- a change keeps the counts within their tables
-pub change-head : (b : List ℕ) (c : Change) → Headed b → (eqb (c .place) 0 ≡ false → WholeOrder (c .order)) → (eqb (c .requests .added) 0 ≡ false → WholeRequest (c .requests .request))
-    → Headed (bookWith b c)
+pub change-head : (b : List ℕ) (e : Event) (c : Change) → Headed b → (eqb (c .place) 0 ≡ false → WholeOrder (c .order))
+    → (eqb (c .requests .added) 0 ≡ false → WholeRequest (c .requests .request)) → Headed (bookWith b e c)
 unfolding bookWith tablesWith
-change-head b c h o q =
-    open-head (placeRequests (placeOrder b (c .place) (c .order)) (c .requests)) (requests-head (placeOrder b (c .place) (c .order)) (place-head b h (c .place) (c .order) o) (c .requests) q)
+change-head b e c h o q =
+    open-head _ (requests-head (placeOrder b (c .place) (c .order)) (place-head b h (c .place) (c .order) o) (outcomeBy e) _ (c .requests) q)
     (after (bookOf b) c) (c .place) (c .order .client)
 
 -- ---- start
@@ -182,7 +187,12 @@ module _ (setting : ℕ) where
   unfolding opensRight
   blank-opens = ap (allBelow (openRight (blank setting))) (blank-count 0 64 (omega arith)) ∙ all-none (openRight (blank setting))
 
+  -- no request, nothing beside it
+  blank-outcomes : outcomesRight (blank setting) ≡ true
+  unfolding outcomesRight
+  blank-outcomes = ap (allBelow (besideRight (blank setting))) (blank-count 2 256 (omega arith)) ∙ all-none (besideRight (blank setting))
+
   pub blank-keeps : keepsOf (blank setting) ≡ true
   blank-keeps =
       held-keeps (blank setting) (blank-length setting) (omega (arith, blank-head 0 (omega arith))) (omega (arith, blank-head 2 (omega arith)))
-      (ap rules blank-empty ∙ start-keeps (settingOf (blank setting))) blank-opens
+      (ap rules blank-empty ∙ start-keeps (settingOf (blank setting))) blank-opens blank-outcomes

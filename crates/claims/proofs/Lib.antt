@@ -1,11 +1,15 @@
+pub mod Origin
 pub mod Written
 pub mod Header
 pub mod Words
+pub mod Settled
 pub mod Refusals
 pub mod Taken
 pub mod Demands
 pub mod Calls
 pub mod OpenQuantity
+pub mod Outcomes
+pub mod Chain
 pub mod Splices
 pub mod Placed
 pub mod Swapped

@@ -91,13 +91,13 @@ module _ (b r a : List ℕ) (bytes : Bytes b) (bytes′ : Bytes r) (room : 1024 
   abbrev c : Change
   c = stepOf (bookOf b) (eventIn r)
 
-  used : Taken b r a → Used b a (left b a c) (needed (messagesOf c) (c .requests .added))
+  used : Taken b r a → Used b a (left b r a c) (needed (messagesOf c) (c .requests .added))
   unfolding needed fieldsOf after
   used t =
-      let back : Answers c (left b a c .answer) = read-back b r a bytes bytes′ t in
+      let back : Answers c (left b r a c .answer) = read-back b r a bytes bytes′ t in
       let right : areMessages (messagesOf c) ≡ true =
       messages-right (bookOf b) (eventIn r) (keeps-held b (t .keeps) .rules) (whole b r bytes bytes′ (t .keeps) (t .reads) (t .taken)) (event-right r bytes′ (t .reads)) in
-      let fields : map writtenFields (answerMessages (left b a c .answer)) ≡ map fieldCount (messagesOf c) =
+      let fields : map writtenFields (answerMessages (left b r a c .answer)) ≡ map fieldCount (messagesOf c) =
       ap (map writtenFields) (back .messages) ∙ fields-written (messagesOf c) right in
       record {
         long = long-there a c room;
@@ -131,7 +131,7 @@ module _ (b r a : List ℕ) (bytes : Bytes b) (bytes′ : Bytes r) (room : 1024 
   when-taken : eventOf b r a .returned ≡ 0 → Used b a (eventOf b r a) n
   when-taken =
       either-way (λ (o : Outcome). o .returned ≡ 0 → Used b a o n) b r a
-      (λ t z. subst (Used b a (left b a c)) (sym (ap needsOf (t .is) ∙ needs-taken c (eq-eqb (c .refusal) 0 (t .taken)))) (used t))
+      (λ t z. subst (Used b a (left b r a c)) (sym (ap needsOf (t .is) ∙ needs-taken c (eq-eqb (c .refusal) 0 (t .taken)))) (used t))
       (λ e z. absurd (eqb-false _ 0 e z))
 
   when-refused : (eventOf b r a .returned ≡ 0 → ⊥) → n ≡ refused (eventOf b r a .returned)

@@ -20,6 +20,7 @@ use Rattle.store.specs.Laws.Opens.{store-open-book, open-here}
 use Rattle.machine.specs.Exchange.{openOf}
 use Rattle.opens.specs.declared.Opened.{Opened}
 use Rattle.rules.specs.Ruled.{ruledOf}
+use Rattle.outcomes.specs.Outcomes.{outcomesRight}
 use Rattle.opens.specs.Opens.{storedOpen, openRight, opensRight}
 use Rattle.opens.specs.Keeps.{keepsOf, opened, openCall}
 use Rattle.opens.specs.Laws.Keeps.{keeps-stored, keeps-then}
@@ -81,8 +82,8 @@ stored-all : (b : List ℕ) → ((client : ℕ) → storedOpen b client ≡ open
 unfolding opensRight openRight
 stored-all b s = all-intro (openRight b) (orderCount b) (λ i h. eq-eqb _ _ (s (orderIn (bookOf b) i .client)))
 
-exact : (b : List ℕ) → ruledOf b ≡ true → ((client : ℕ) → storedOpen b client ≡ openOf (bookOf b) client) → checkOf b ≡ 0
-exact b r s = check-kept b (keeps-then b r ∙ stored-all b s)
+exact : (b : List ℕ) → ruledOf b ≡ true → ((client : ℕ) → storedOpen b client ≡ openOf (bookOf b) client) → outcomesRight b ≡ true → checkOf b ≡ 0
+exact b r s o = check-kept b (keeps-then b r (stored-all b s) ∙ o)
 
 -- what is stored once the word of a client's first order is written
 stored-here : (b : List ℕ) (i q client : ℕ) → i < orderCount b → findClient (bookOf b) client ≡ some i → q < 2 ^ 64 → storedOpen (storeOpen b i q) client ≡ q

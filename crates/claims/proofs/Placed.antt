@@ -3,7 +3,7 @@
 use Prim.Native.Nat.{ℕ, _+_, _-_, _≤_, _<_}
 use native.Mathlib.Decide.{ℕ-discrete}
 use native.Mathlib.Omega.{arith}
-use mathlib.Core.Path.{_≡_, refl, sym, ap, subst, _∙_}
+use mathlib.Core.Path.{_≡_, refl, sym, ap, ap₂, subst, _∙_}
 use mathlib.Core.Logic.{_⊎_, inl, inr, ⊎-elim}
 use mathlib.Core.Bool.{_&&_}
 use mathlib.Core.Option.{some}
@@ -16,10 +16,10 @@ use Rattle.prelude.specs.Number.{bytesOf}
 use Rattle.prelude.specs.Totals.{Every, every[], every∷, every-map}
 use Rattle.store.specs.declared.Order.{Order}
 use Rattle.store.specs.declared.Request.{Request}
-use Rattle.store.specs.Layout.{bookSize, header·orders, header·requests, orderSize, mostOrders, requestSize, mostRequests, orderBase, requestBase, request·answered, openSize, openBase}
+use Rattle.store.specs.Layout.{bookSize, header·orders, header·requests, orderSize, mostOrders, requestSize, mostRequests, orderBase, requestBase, request·answered, request·outcome, openSize, openBase}
 use Rattle.store.specs.Orders.{WholeOrder, encodeOrder}
 use Rattle.store.specs.Requests.{WholeRequest, encodeRequest}
-use Rattle.store.specs.Book.{Book, bookOf, isBook, requestIn, orderCount, requestCount, putOrder, storeOrder, putRequest, setCount, addRequest, markAnswered, storeOpen}
+use Rattle.store.specs.Book.{Book, bookOf, isBook, requestIn, orderCount, requestCount, outcomeAt, settledAs, putOrder, storeOrder, putRequest, setCount, addRequest, markAnswered, storeOpen}
 use Rattle.store.specs.Finds.{findClient}
 use Rattle.store.specs.Laws.Orders.{length-order}
 use Rattle.store.specs.Laws.Requests.{length-request}
@@ -27,45 +27,61 @@ use Rattle.store.specs.Laws.Tables.{length-put-order}
 use Rattle.store.specs.Laws.Stored.{count-most, length-orders, length-requests, put-order-count}
 use Rattle.machine.specs.declared.Requests.{Requests}
 use Rattle.machine.specs.declared.Change.{Change}
+use Rattle.machine.specs.Changes.{Event}
 use Rattle.machine.specs.Machine.{after}
 use Rattle.machine.specs.Exchange.{openOf}
+use Rattle.machine.proofs.Kept.Laws.{or-left}
+use Rattle.outcomes.specs.Outcomes.{outcomeBy, originOf}
 use Rattle.step.specs.Entries.{placeOrder, markLink, placeRequests, placeOpen, tablesWith, bookWith}
 use Rattle.claims.proofs.Splices.{Write, write, ends, put, putAll, Inside, Beside, apart, put-append, every-append, all-comm}
-use Rattle.claims.proofs.Written.{mark-link-keeps, marked, marked-keeps, marked-count, tables-keeps}
+use Rattle.claims.proofs.Written.{few-outcomes, place-book, mark-link-keeps, marked, marked-keeps, marked-count, tables-keeps}
+use Rattle.claims.proofs.Settled.{place-beside, settled-again, settled-same}
 
 -- ---- the writes
 
 abbrev pub orderWrite : ℕ → Order → Write
 orderWrite i o = write (orderBase i) (encodeOrder o)
 
--- the request of a link marked answered
-unfoldable markWrites : ℕ → List Write
-markWrites k = if eqb k 0 then [] else write (requestBase (k - 1) + request·answered) (1 ∷ []) ∷ []
+-- the request of a link marked answered, and its outcome
+unfoldable markWrites : (link outcome : ℕ) → List Write
+markWrites k v = if eqb k 0 then [] else write (requestBase (k - 1) + request·answered) (1 ∷ []) ∷ write (requestBase (k - 1) + request·outcome) (v ∷ []) ∷ []
+
+-- where there is no link the outcome is no matter
+mark-values : (k v u : ℕ) → ((k ≡ 0 → ⊥) → v ≡ u) → markWrites k v ≡ markWrites k u
+mark-values k v u h = go (ℕ-discrete k 0)
+  where
+    go : Dec (k ≡ 0) → markWrites k v ≡ markWrites k u
+    go (yes z) = unfold markWrites in if-true _ _ _ (eq-eqb k 0 z) ∙ sym (if-true _ _ _ (eq-eqb k 0 z))
+    go (no z) = ap (markWrites k) (h z)
 
 abbrev openWrite : ℕ → ℕ → Write
 openWrite p n = write (openBase p) (bytesOf 8 n)
 
--- the requests settled, and the word at p of the order's client, which becomes n
-pub restWrites : (p n : ℕ) → Requests → List Write
-restWrites p n r = markWrites (r .answered) ++ (markWrites (r .superseded) ++ (openWrite p n ∷ []))
+-- the requests settled, with the outcomes f and s, and the word at p of the order's client, which becomes n
+pub restWrites : (p n f s : ℕ) → Requests → List Write
+restWrites p n f s r = markWrites (r .answered) f ++ (markWrites (r .superseded) s ++ (openWrite p n ∷ []))
 
--- a request added behind t of them, and their count
-abbrev pub requestWrite : ℕ → Request → Write
-requestWrite t q = write (requestBase t) (encodeRequest q)
+pub rest-values : (p n f s g u : ℕ) (r : Requests) → ((r .answered ≡ 0 → ⊥) → f ≡ g) → ((r .superseded ≡ 0 → ⊥) → s ≡ u) → restWrites p n f s r ≡ restWrites p n g u r
+unfolding restWrites
+rest-values p n f s g u r a b = ap₂ (λ (v w : List Write). v ++ (w ++ (openWrite p n ∷ []))) (mark-values (r .answered) f g a) (mark-values (r .superseded) s u b)
+
+-- a request added behind t of them, with its origin, and their count
+abbrev pub requestWrite : (t origin : ℕ) → Request → Write
+requestWrite t origin q = write (requestBase t) (encodeRequest origin q)
 
 abbrev pub countWrite : ℕ → Write
 countWrite n = write header·requests (bytesOf 2 n)
 
-unfoldable pub addWrites : ℕ → Requests → List Write
-addWrites t r = if eqb (r .added) 0 then [] else requestWrite t (r .request) ∷ countWrite (t + 1) ∷ []
+unfoldable pub addWrites : (t origin : ℕ) → Requests → List Write
+addWrites t origin r = if eqb (r .added) 0 then [] else requestWrite t origin (r .request) ∷ countWrite (t + 1) ∷ []
 
-pub none-added : (t : ℕ) (r : Requests) → r .added ≡ 0 → addWrites t r ≡ []
+pub none-added : (t origin : ℕ) (r : Requests) → r .added ≡ 0 → addWrites t origin r ≡ []
 unfolding addWrites
-none-added t r z = if-true _ _ _ (eq-eqb (r .added) 0 z)
+none-added t origin r z = if-true _ _ _ (eq-eqb (r .added) 0 z)
 
-pub one-added : (t : ℕ) (r : Requests) → (r .added ≡ 0 → ⊥) → addWrites t r ≡ requestWrite t (r .request) ∷ countWrite (t + 1) ∷ []
+pub one-added : (t origin : ℕ) (r : Requests) → (r .added ≡ 0 → ⊥) → addWrites t origin r ≡ requestWrite t origin (r .request) ∷ countWrite (t + 1) ∷ []
 unfolding addWrites
-one-added t r z = if-false _ _ _ (ne-eqb (r .added) 0 z)
+one-added t origin r z = if-false _ _ _ (ne-eqb (r .added) 0 z)
 
 -- ---- where they stand
 
@@ -126,23 +142,24 @@ module _ {O R : ℕ → Type 0} {C : Type 0} {P : ℕ → Type 0} (w : Write) wh
 pub order-zone : (i : ℕ) (o : Order) → i < mostOrders → WholeOrder o → InOrder i (orderWrite i o)
 order-zone i o h w = in-order i refl h refl (length-order o (w .fits))
 
-mark-zones : (x : Book) (i p k : ℕ) → length (x .requests) ≤ mostRequests → k ≤ length (x .requests) → ((m : ℕ) → k ≡ m + 1 → requestIn x m .order ≡ i) → Every (InRest x i p) (markWrites k)
+mark-zones : (x : Book) (i p k v : ℕ) → length (x .requests) ≤ mostRequests → k ≤ length (x .requests) → ((m : ℕ) → k ≡ m + 1 → requestIn x m .order ≡ i) → Every (InRest x i p) (markWrites k v)
 unfolding markWrites
-mark-zones x i p k few h own =
+mark-zones x i p k v few h own =
     split-if (Every (InRest x i p)) (eqb k 0) (λ e. every[])
     (λ e.
     let z : (k ≡ 0 → ⊥) = eqb-false k 0 e in
-    every∷ (in-request (k - 1) (own (k - 1) (omega arith), omega arith) (omega arith) (omega arith) (omega arith)) every[])
+    let mine : Mine x i (k - 1) = (own (k - 1) (omega arith), omega arith) in
+    every∷ (in-request (k - 1) mine (omega arith) (omega arith) (omega arith)) (every∷ (in-request (k - 1) mine (omega arith) (omega arith) (omega arith)) every[]))
 
-pub rest-zones : (x : Book) (i p n : ℕ) (r : Requests) → length (x .requests) ≤ mostRequests → p < mostOrders → r .answered ≤ length (x .requests) → r .superseded ≤ length (x .requests)
-    → ((k : ℕ) → r .answered ≡ k + 1 → requestIn x k .order ≡ i) → ((k : ℕ) → r .superseded ≡ k + 1 → requestIn x k .order ≡ i) → Every (InRest x i p) (restWrites p n r)
+pub rest-zones : (x : Book) (i p n f s : ℕ) (r : Requests) → length (x .requests) ≤ mostRequests → p < mostOrders → r .answered ≤ length (x .requests) → r .superseded ≤ length (x .requests)
+    → ((k : ℕ) → r .answered ≡ k + 1 → requestIn x k .order ≡ i) → ((k : ℕ) → r .superseded ≡ k + 1 → requestIn x k .order ≡ i) → Every (InRest x i p) (restWrites p n f s r)
 unfolding restWrites
-rest-zones x i p n r few h ha hs own′ own =
-    every-append (markWrites (r .answered)) _ (mark-zones x i p (r .answered) few ha own′)
-    (every-append (markWrites (r .superseded)) _ (mark-zones x i p (r .superseded) few hs own) (every∷ (in-word p refl h refl refl) every[]))
+rest-zones x i p n f s r few h ha hs own′ own =
+    every-append (markWrites (r .answered) f) _ (mark-zones x i p (r .answered) f few ha own′)
+    (every-append (markWrites (r .superseded) s) _ (mark-zones x i p (r .superseded) s few hs own) (every∷ (in-word p refl h refl refl) every[]))
 
-pub request-zone : (t : ℕ) (q : Request) → t < mostRequests → WholeRequest q → InRequest t (requestWrite t q)
-request-zone t q h w = let l : length (encodeRequest q) ≡ requestSize = length-request q w in in-request t refl h (omega arith) (omega arith)
+pub request-zone : (t origin : ℕ) (q : Request) → t < mostRequests → WholeRequest q → InRequest t (requestWrite t origin q)
+request-zone t origin q h w = let l : length (encodeRequest origin q) ≡ requestSize = length-request origin q w in in-request t refl h (omega arith) (omega arith)
 
 -- a request at t or behind it, and the count
 pub behind-zone : (t k : ℕ) (w : Write) → t ≤ k → InRequest k w → InAdded t w
@@ -154,13 +171,13 @@ behind-zone t k w l (in-word m o h a e) = absurd o
 pub count-zone : (t n : ℕ) → InAdded t (countWrite n)
 count-zone t n = in-count tt refl refl
 
-pub add-zones : (t : ℕ) (r : Requests) → (r .added ≡ 0) ⊎ (t < mostRequests) → ((r .added ≡ 0 → ⊥) → WholeRequest (r .request)) → Every (InAdded t) (addWrites t r)
+pub add-zones : (t origin : ℕ) (r : Requests) → (r .added ≡ 0) ⊎ (t < mostRequests) → ((r .added ≡ 0 → ⊥) → WholeRequest (r .request)) → Every (InAdded t) (addWrites t origin r)
 unfolding addWrites
-add-zones t r room whole =
+add-zones t origin r room whole =
     split-if (Every (InAdded t)) (eqb (r .added) 0) (λ e. every[])
     (λ e.
     let z : (r .added ≡ 0 → ⊥) = eqb-false (r .added) 0 e in
-    every∷ (behind-zone t t _ (omega arith) (request-zone t (r .request) (⊎-elim (λ y. absurd (z y)) (λ y. y) room) (whole z))) (every∷ (count-zone t (t + 1)) every[]))
+    every∷ (behind-zone t t _ (omega arith) (request-zone t origin (r .request) (⊎-elim (λ y. absurd (z y)) (λ y. y) room) (whole z))) (every∷ (count-zone t (t + 1)) every[]))
 
 -- ---- a change on bytes is its writes
 
@@ -168,11 +185,11 @@ module _ (b : List ℕ) (long : length b ≡ bookSize) where
   in-table : (i most : ℕ) → i < most → (x : List ℕ) → (if isBook b && ltb i most then x else b) ≡ x
   in-table i most h x = if-true _ _ _ (both-hold _ _ (eq-eqb (length b) bookSize long) (lt-ltb i most h))
 
-  mark-is : (k : ℕ) → k ≤ mostRequests → markLink b k ≡ putAll b (markWrites k)
+  mark-is : (k v : ℕ) → k ≤ mostRequests → markLink b k v ≡ putAll b (markWrites k (settledAs b (k - 1) v))
   unfolding markLink markWrites markAnswered
-  mark-is k h = go (ℕ-discrete k 0)
+  mark-is k v h = go (ℕ-discrete k 0)
     where
-      go : Dec (k ≡ 0) → markLink b k ≡ putAll b (markWrites k)
+      go : Dec (k ≡ 0) → markLink b k v ≡ putAll b (markWrites k (settledAs b (k - 1) v))
       go (yes z) = if-true _ _ _ (eq-eqb k 0 z) ∙ ap (putAll b) (sym (if-true (eqb k 0) [] _ (eq-eqb k 0 z)))
       go (no z) = if-false _ _ _ (ne-eqb k 0 z) ∙ in-table (k - 1) mostRequests (omega arith) _ ∙ ap (putAll b) (sym (if-false (eqb k 0) [] _ (ne-eqb k 0 z)))
 
@@ -191,50 +208,68 @@ module _ (b : List ℕ) (long : length b ≡ bookSize) where
   open-is left place client p z e h =
       if-false _ _ _ (ne-eqb place 0 z) ∙ maybe-some (findClient left client) p b (λ i. storeOpen b i (openOf left client)) e ∙ in-table p mostOrders h _
 
-  added-is : (q : Request) (t : ℕ) → requestCount b ≡ t → t < mostRequests
-      → addRequest b q ≡ putAll b (write (requestBase t) (encodeRequest q) ∷ write header·requests (bytesOf 2 (t + 1)) ∷ [])
+  added-is : (origin : ℕ) (q : Request) (t : ℕ) → requestCount b ≡ t → t < mostRequests
+      → addRequest b origin q ≡ putAll b (write (requestBase t) (encodeRequest origin q) ∷ write header·requests (bytesOf 2 (t + 1)) ∷ [])
   unfolding addRequest putRequest setCount
-  added-is q t e h =
+  added-is origin q t e h =
       in-table (requestCount b) mostRequests (omega arith) _
-      ∙ ap (λ (n : ℕ). putAll b (write (requestBase n) (encodeRequest q) ∷ write header·requests (bytesOf 2 (n + 1)) ∷ [])) e
+      ∙ ap (λ (n : ℕ). putAll b (write (requestBase n) (encodeRequest origin q) ∷ write header·requests (bytesOf 2 (n + 1)) ∷ [])) e
 
-abbrev settled : List ℕ → Requests → List ℕ
-settled b r = putAll (putAll b (markWrites (r .answered))) (markWrites (r .superseded))
+abbrev settled : List ℕ → (f s : ℕ) → Requests → List ℕ
+settled b f s r = putAll (putAll b (markWrites (r .answered) f)) (markWrites (r .superseded) s)
 
--- the requests settled, and one added behind t of them
-module _ (b : List ℕ) (long : length b ≡ bookSize) (r : Requests) (t : ℕ) (count : requestCount b ≡ t) (ha : r .answered ≤ mostRequests) (hs : r .superseded ≤ mostRequests) where
-  settled-is : marked b r ≡ settled b r
+-- the requests settled with the outcome v, and one added behind t of them
+module _ (v : ℕ) (small : v ≤ 3) (b : List ℕ) (long : length b ≡ bookSize) (r : Requests) (t : ℕ) (count : requestCount b ≡ t) (ha : r .answered ≤ t) (hs : r .superseded ≤ t) where
+  few-links : t ≤ mostRequests
+  few-links = omega (arith, count, count-most header·requests mostRequests b)
+
+  -- what each of them comes to, as it is before both
+  abbrev value : ℕ → ℕ
+  value link = settledAs b (link - 1) v
+
+  settled-is : marked v b r ≡ settled b (value (r .answered)) (value (r .superseded)) r
   settled-is =
-      mark-is (markLink b (r .answered)) (mark-link-keeps b (r .answered) .same ∙ long) (r .superseded) hs
-      ∙ ap (λ (x : List ℕ). putAll x (markWrites (r .superseded))) (mark-is b long (r .answered) ha)
+      mark-is (markLink b (r .answered) v) (mark-link-keeps v small b (r .answered) .same ∙ long) (r .superseded) v (omega (arith, hs, few-links))
+      ∙ ap₂ putAll (mark-is b long (r .answered) v (omega (arith, ha, few-links)))
+      (mark-values (r .superseded) _ _ (λ z. settled-again v small b long (r .superseded - 1) (omega (arith, hs, count)) (r .answered)))
 
-  requests-is : (r .added ≡ 0) ⊎ (t < mostRequests) → placeRequests b r ≡ putAll (settled b r) (addWrites t r)
+  abbrev after-both : List ℕ
+  after-both = settled b (value (r .answered)) (value (r .superseded)) r
+
+  requests-is : (origin : ℕ) → (r .added ≡ 0) ⊎ (t < mostRequests) → placeRequests b v origin r ≡ putAll after-both (addWrites t origin r)
   unfolding placeRequests addWrites
-  requests-is room = go (ℕ-discrete (r .added) 0) room
+  requests-is origin room = go (ℕ-discrete (r .added) 0) room
     where
-      go : Dec (r .added ≡ 0) → (r .added ≡ 0) ⊎ (t < mostRequests) → placeRequests b r ≡ putAll (settled b r) (addWrites t r)
-      go (yes z) d = if-true _ _ _ (eq-eqb (r .added) 0 z) ∙ settled-is ∙ ap (putAll (settled b r)) (sym (if-true (eqb (r .added) 0) [] _ (eq-eqb (r .added) 0 z)))
+      go : Dec (r .added ≡ 0) → (r .added ≡ 0) ⊎ (t < mostRequests) → placeRequests b v origin r ≡ putAll after-both (addWrites t origin r)
+      go (yes z) d = if-true _ _ _ (eq-eqb (r .added) 0 z) ∙ settled-is ∙ ap (putAll after-both) (sym (if-true (eqb (r .added) 0) [] _ (eq-eqb (r .added) 0 z)))
       go (no z) (inl d) = absurd (z d)
       go (no z) (inr d) =
           if-false _ _ _ (ne-eqb (r .added) 0 z)
-          ∙ added-is (marked b r) (marked-keeps b r .same ∙ long) (r .request) t (marked-count b r ∙ length-requests b ∙ count) d
-          ∙ ap (λ (x : List ℕ). putAll x (write (requestBase t) (encodeRequest (r .request)) ∷ write header·requests (bytesOf 2 (t + 1)) ∷ [])) settled-is
-          ∙ ap (putAll (settled b r)) (sym (if-false (eqb (r .added) 0) [] _ (ne-eqb (r .added) 0 z)))
+          ∙ added-is (marked v b r) (marked-keeps v small b r .same ∙ long) origin (r .request) t (marked-count v b r ∙ length-requests b ∙ count) d
+          ∙ ap (λ (x : List ℕ). putAll x (write (requestBase t) (encodeRequest origin (r .request)) ∷ write header·requests (bytesOf 2 (t + 1)) ∷ [])) settled-is
+          ∙ ap (putAll after-both) (sym (if-false (eqb (r .added) 0) [] _ (ne-eqb (r .added) 0 z)))
 
 -- what a change needs, so that it is these writes
 pub record Placing (b : List ℕ) (i p : ℕ) (c : Change) : Type 0 where
   pub long : length b ≡ bookSize
   pub there : c .place ≡ i + 1
   pub inside : i < length (bookOf b .orders)
-  pub answers : c .requests .answered ≤ mostRequests
-  pub supersedes : c .requests .superseded ≤ mostRequests
+  pub answers : c .requests .answered ≤ length (bookOf b .requests)
+  pub supersedes : c .requests .superseded ≤ length (bookOf b .requests)
   pub room : (c .requests .added ≡ 0) ⊎ (length (bookOf b .requests) < mostRequests)
   pub order : WholeOrder (c .order)
   pub request : (c .requests .added ≡ 0 → ⊥) → WholeRequest (c .requests .request)
   pub found : findClient (after (bookOf b) c) (c .order .client) ≡ some p
   pub first : p < mostOrders
 
-module _ (b : List ℕ) (i p : ℕ) (c : Change) (h : Placing b i p c) where
+-- what the request of a link comes to where it is settled by the event, and the origin of a request that the change adds
+abbrev pub valueOf : List ℕ → Event → (link : ℕ) → ℕ
+valueOf b e link = settledAs b (link - 1) (outcomeBy e)
+
+abbrev pub originBy : List ℕ → Change → ℕ
+originBy b c = originOf b (c .order .client) (c .requests .request .origclordid)
+
+module _ (b : List ℕ) (e : Event) (i p : ℕ) (c : Change) (h : Placing b i p c) where
   abbrev t : ℕ
   t = length (bookOf b .requests)
 
@@ -250,44 +285,69 @@ module _ (b : List ℕ) (i p : ℕ) (c : Change) (h : Placing b i p c) where
   abbrev placed : List ℕ
   placed = putOrder b i (c .order)
 
+  placed-is : placeOrder b (c .place) (c .order) ≡ placed
+  placed-is = order-is b (h .long) i (c .place) (c .order) (h .there) inside few
+
   placed-long : length placed ≡ bookSize
   placed-long = length-put-order b (h .long) i few (c .order) (h .order .fits)
 
   placed-count : requestCount placed ≡ t
   placed-count = put-order-count b (h .long) i few (c .order) (h .order) header·requests mostRequests (omega arith) ∙ sym (length-requests b)
 
+  -- the order's record is no request's
+  placed-value : (link : ℕ) → link ≤ t → (link ≡ 0 → ⊥) → settledAs placed (link - 1) (outcomeBy e) ≡ valueOf b e link
+  placed-value link l z =
+      let k : ℕ = link - 1 in
+      let m : k < requestCount b = omega (arith, length-requests b) in
+      settled-same (outcomeBy e) b placed (h .long) placed-long k m (omega (arith, placed-count))
+      (ap (λ (x : List ℕ). requestIn (bookOf x) k) (sym placed-is)
+      ∙ ap (λ (x : Book). requestIn x k) (place-book b c (h .long) (or-left _ (le-leb (c .place) (length (bookOf b .orders)) (omega (arith, h .there, h .inside)))) (λ y. h .order)))
+      (ap (λ (x : List ℕ). outcomeAt x k) (sym placed-is) ∙ place-beside b k (omega (arith, m, count-most header·requests mostRequests b)) (c .place) (c .order) (λ y. h .order) .outcome)
+
   abbrev before : List ℕ
-  before = settled placed (c .requests)
+  before = settled placed (valueOf b e (c .requests .answered)) (valueOf b e (c .requests .superseded)) (c .requests)
+
+  -- with the values as they are before the order is placed
+  before-is : settled placed (settledAs placed (c .requests .answered - 1) (outcomeBy e)) (settledAs placed (c .requests .superseded - 1) (outcomeBy e)) (c .requests) ≡ before
+  before-is =
+      ap₂ (λ (u w : List Write). putAll (putAll placed u) w) (mark-values (c .requests .answered) _ _ (placed-value (c .requests .answered) (h .answers)))
+      (mark-values (c .requests .superseded) _ _ (placed-value (c .requests .superseded) (h .supersedes)))
 
   before-long : length before ≡ bookSize
   before-long =
-      ap length (sym (settled-is placed placed-long (c .requests) t placed-count (h .answers) (h .supersedes))) ∙ marked-keeps placed (c .requests) .same ∙ placed-long
+      ap length (sym (settled-is (outcomeBy e) (few-outcomes e) placed placed-long (c .requests) t placed-count (h .answers) (h .supersedes) ∙ before-is))
+      ∙ marked-keeps (outcomeBy e) (few-outcomes e) placed (c .requests) .same ∙ placed-long
 
-  tables-is : tablesWith b c ≡ putAll before (addWrites t (c .requests))
+  tables-is : tablesWith b e c ≡ putAll before (addWrites t (originBy b c) (c .requests))
   unfolding tablesWith
   tables-is =
-      ap (λ (x : List ℕ). placeRequests x (c .requests)) (order-is b (h .long) i (c .place) (c .order) (h .there) inside few)
-      ∙ requests-is placed placed-long (c .requests) t placed-count (h .answers) (h .supersedes) (h .room)
+      ap (λ (x : List ℕ). placeRequests x (outcomeBy e) (originBy b c) (c .requests)) placed-is
+      ∙ requests-is (outcomeBy e) (few-outcomes e) placed placed-long (c .requests) t placed-count (h .answers) (h .supersedes) (originBy b c) (h .room)
+      ∙ ap (λ (x : List ℕ). putAll x (addWrites t (originBy b c) (c .requests))) before-is
 
-  tables-long : length (tablesWith b c) ≡ bookSize
-  tables-long = tables-keeps b c (λ e. h .order) (λ e. h .request (eqb-false (c .requests .added) 0 e)) .same ∙ h .long
+  tables-long : length (tablesWith b e c) ≡ bookSize
+  tables-long = tables-keeps b e c (λ y. h .order) (λ y. h .request (eqb-false (c .requests .added) 0 y)) .same ∙ h .long
 
   -- the word goes before what is added
-  word-first : put (putAll before (addWrites t (c .requests))) (openWrite p n) ≡ putAll (put before (openWrite p n)) (addWrites t (c .requests))
+  word-first : put (putAll before (addWrites t (originBy b c) (c .requests))) (openWrite p n) ≡ putAll (put before (openWrite p n)) (addWrites t (originBy b c) (c .requests))
   word-first =
-      let added : Every (InAdded t) (addWrites t (c .requests)) = add-zones t (c .requests) (h .room) (h .request) in
+      let added : Every (InAdded t) (addWrites t (originBy b c) (c .requests)) = add-zones t (originBy b c) (c .requests) (h .room) (h .request) in
       let word : Zone No No ⊥ (λ k. k ≡ p) (openWrite p n) = in-word p refl (h .first) refl refl in
-      all-comm bookSize before (addWrites t (c .requests)) (openWrite p n ∷ []) before-long (every-map (λ w z. zone-inside w z) added) (every∷ (zone-inside (openWrite p n) word) every[])
+      all-comm bookSize before (addWrites t (originBy b c) (c .requests)) (openWrite p n ∷ []) before-long (every-map (λ w z. zone-inside w z) added) (every∷ (zone-inside (openWrite p n) word) every[])
       (every-map (λ w z. every∷ (zones-beside w (λ k y a. y) (λ k y a. a) (λ y a. a) (λ k y a. y) (openWrite p n) z word) every[]) added)
 
-  pub change-is : bookWith b c ≡ putAll (putAll b (orderWrite i (c .order) ∷ restWrites p n (c .requests))) (addWrites t (c .requests))
+  pub change-is : bookWith b e c
+      ≡ putAll (putAll b (orderWrite i (c .order) ∷ restWrites p n (valueOf b e (c .requests .answered)) (valueOf b e (c .requests .superseded)) (c .requests)))
+      (addWrites t (originBy b c) (c .requests))
   unfolding bookWith restWrites putOrder
   change-is =
       let r : Requests = c .requests in
-      open-is (tablesWith b c) tables-long (after (bookOf b) c) (c .place) (c .order .client) p (λ z. let e : c .place ≡ i + 1 = h .there in omega arith) (h .found) (h .first)
+      let f : ℕ = valueOf b e (r .answered) in
+      let s : ℕ = valueOf b e (r .superseded) in
+      open-is (tablesWith b e c) tables-long (after (bookOf b) c) (c .place) (c .order .client) p (λ z. let y : c .place ≡ i + 1 = h .there in omega arith) (h .found) (h .first)
       ∙ ap (λ (x : List ℕ). put x (openWrite p n)) tables-is
       ∙ word-first
-      ∙ ap (λ (x : List ℕ). putAll x (addWrites t r))
+      ∙ ap (λ (x : List ℕ). putAll x (addWrites t (originBy b c) r))
       (sym
-      (put-append placed (markWrites (r .answered)) _
-      ∙ put-append (putAll placed (markWrites (r .answered))) (markWrites (r .superseded)) (openWrite p n ∷ [])))
+      (put-append placed (markWrites (r .answered) f) _
+      ∙ put-append (putAll placed (markWrites (r .answered) f)) (markWrites (r .superseded) s) (openWrite p n ∷ [])))

@@ -7,7 +7,7 @@ use mathlib.Core.Logic.{_⊎_, inl, inr, ⊎-elim}
 use mathlib.Core.List.{List, [], _∷_, _++_}
 use lib.ListN.{length, take, drop, length-drop, take-append-drop}
 use lib.Seq.{take-at, drop-at, length-take-le}
-use Rattle.prelude.specs.Span.{span, splice, length-span, length-splice, span-splice-after, splice-append, splice-before}
+use Rattle.prelude.specs.Span.{span, splice, length-span, length-splice, span-splice-same, span-splice-after, splice-append, splice-before}
 use Rattle.prelude.specs.Totals.{Every, every[], every∷}
 
 -- what stands there, written again
@@ -130,3 +130,10 @@ put-over n s w v post l h a e ks ds =
     sym (one-all n (put s w) v post (length-put s w (omega (arith, h)) ∙ l) (omega (arith, h, a, e)) ks ds)
     ∙ ap (λ (x : List ℕ). putAll x post)
     (ap (λ (k : ℕ). splice (put s w) k (v .bytes)) a ∙ splice-over s (w .at) (w .bytes) (v .bytes) (sym e) (omega (arith, h)) ∙ ap (λ (k : ℕ). splice s k (v .bytes)) (sym a))
+
+-- what stands where a write was, with none behind it that touches it
+pub span-put : (n : ℕ) (s : List ℕ) (w : Write) (post : List Write) (k : ℕ) → length s ≡ n → Inside n w → length (w .bytes) ≡ k → Every (Inside n) post → Every (Beside w) post
+    → span (putAll s (w ∷ post)) (w .at) k ≡ w .bytes
+span-put n s w post k l h e ks ds =
+    ap (λ (y : List ℕ). span y (w .at) k) (one-all n s w post l h ks ds)
+    ∙ span-splice-same (putAll s post) (w .at) (w .bytes) k e (omega (arith, h, e, length-all s post n l ks))

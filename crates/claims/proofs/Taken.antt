@@ -31,11 +31,13 @@ use Rattle.claims.specs.Claims.{WritesChange, Sizes, KeepsSizes}
 use Rattle.claims.proofs.Written.{whole-held, order-written, request-written, Writes, change-writes}
 use Rattle.claims.proofs.Header.{Headed, change-head}
 use Rattle.claims.proofs.Words.{opens-after}
+use Rattle.claims.proofs.Origin.{step-added}
+use Rattle.claims.proofs.Settled.{Settled, change-settles}
 use Rattle.format.specs.Refusal.{eventRefusal}
 use Rattle.records.specs.Laws.Writing.{answer-most}
 use Rattle.store.specs.Laws.Kept.{Keeps}
 use Rattle.rules.specs.Laws.Ruled.{Held}
-use Rattle.opens.specs.Laws.Keeps.{keeps-held, held-keeps}
+use Rattle.opens.specs.Laws.Keeps.{keeps-held, keeps-outcomes, held-keeps}
 use Rattle.opens.specs.Laws.Moved.{step-clients}
 
 -- ---- the questions
@@ -75,10 +77,10 @@ call-taken b r a z = taken-by b r a (callOf b r (length a)) refl (asked b r a) z
 
 -- ---- the outcome
 
-abbrev pub left : (b a : List ℕ) → Change → Outcome
-left b a c = outcome 0 (bookWith b c) (splice a 0 (answerBytes (c .output .alarm) (c .output .alarm2) (messagesOf c)))
+abbrev pub left : (b r a : List ℕ) → Change → Outcome
+left b r a c = outcome 0 (bookWith b (eventIn r) c) (splice a 0 (answerBytes (c .output .alarm) (c .output .alarm2) (messagesOf c)))
 
-pub event-taken : (b r a : List ℕ) → eqb (callOf b r (length a) .refusal) 0 ≡ true → eventOf b r a ≡ left b a (callOf b r (length a))
+pub event-taken : (b r a : List ℕ) → eqb (callOf b r (length a) .refusal) 0 ≡ true → eventOf b r a ≡ left b r a (callOf b r (length a))
 unfolding eventOf
 event-taken b r a e = if-true _ _ _ e
 
@@ -125,18 +127,21 @@ module _ (b r : List ℕ) (bytes : Bytes b) (bytes′ : Bytes r) (keeps : keepsO
   rules-after : rules (after (bookOf b) c) ≡ true
   rules-after = ap rules (sym (after-is (bookOf b) e taken)) ∙ step-keeps (bookOf b) e ranged (held .rules)
 
-  pub writes : Writes b c
-  writes = change-writes b c (held .long) (step-room (bookOf b) e taken) whole-after
+  pub writes : Writes b e c
+  writes = change-writes b e c (held .long) (step-room (bookOf b) e taken) whole-after
 
-  head : Headed (bookWith b c)
+  head : Headed (bookWith b e c)
   head =
-      change-head b c (record { long = held .long; orders = omega (arith, held .orders, held .fewOrders); requests = omega (arith, held .requests, held .fewRequests) })
+      change-head b e c (record { long = held .long; orders = omega (arith, held .orders, held .fewOrders); requests = omega (arith, held .requests, held .fewRequests) })
       (order-written (bookOf b) c whole-after) (request-written (bookOf b) c whole-after)
 
-  pub keeps-after : keepsOf (bookWith b c) ≡ true
+  pub settled : Settled b e c
+  settled = change-settles b e c (held .long) (keeps-outcomes b keeps) (step-room (bookOf b) e taken) whole-after (step-added (bookOf b) e) writes
+
+  pub keeps-after : keepsOf (bookWith b e c) ≡ true
   keeps-after =
-      held-keeps (bookWith b c) (head .long) (head .orders) (head .requests) (ap rules (writes .is) ∙ rules-after)
-      (opens-after b c keeps writes rules-after whole-after (step-clients (bookOf b) e (held .rules) taken))
+      held-keeps (bookWith b e c) (head .long) (head .orders) (head .requests) (ap rules (writes .is) ∙ rules-after)
+      (opens-after b e c keeps writes rules-after whole-after (step-clients (bookOf b) e (held .rules) taken)) (settled .right)
 
 -- ---- check and its number
 
@@ -161,11 +166,11 @@ writes-change b r bytes bytes′ z reads taken = writes b r bytes bytes′ (kept
 
 -- ---- one call, taken or refused
 
-pub outcome-taken : (b r a : List ℕ) → Taken b r a → eventOf b r a ≡ left b a (stepOf (bookOf b) (eventIn r))
-outcome-taken b r a t = event-taken b r a (eq-eqb _ 0 (ap (λ (c : Change). c .refusal) (t .is) ∙ t .taken)) ∙ ap (left b a) (t .is)
+pub outcome-taken : (b r a : List ℕ) → Taken b r a → eventOf b r a ≡ left b r a (stepOf (bookOf b) (eventIn r))
+outcome-taken b r a t = event-taken b r a (eq-eqb _ 0 (ap (λ (c : Change). c .refusal) (t .is) ∙ t .taken)) ∙ ap (left b r a) (t .is)
 
 -- what holds where the call is taken and where it is refused holds
-pub either-way : (P : Outcome → Type 0) (b r a : List ℕ) → (Taken b r a → P (left b a (stepOf (bookOf b) (eventIn r))))
+pub either-way : (P : Outcome → Type 0) (b r a : List ℕ) → (Taken b r a → P (left b r a (stepOf (bookOf b) (eventIn r))))
     → (eqb (callOf b r (length a) .refusal) 0 ≡ false → P (outcome (callOf b r (length a) .refusal) b a)) → P (eventOf b r a)
 either-way P b r a f g = go (eqb (callOf b r (length a) .refusal) 0) refl
   where
@@ -179,7 +184,7 @@ keeps-sizes b r a =
     (λ t.
     let c : Change = stepOf (bookOf b) (eventIn r) in
     let w : List ℕ = answerBytes (c .output .alarm) (c .output .alarm2) (messagesOf c) in
-    let k : (Bytes b → Bytes r → Keeps b (bookWith b c)) = λ x y. writes b r x y (t .keeps) (t .reads) (t .taken) .keeps in
+    let k : (Bytes b → Bytes r → Keeps b (bookWith b (eventIn r) c)) = λ x y. writes b r x y (t .keeps) (t .reads) (t .taken) .keeps in
     record {
       answer = length-splice a 0 w (omega (arith, t .room, answer-most (c .output .alarm) (c .output .alarm2) (messagesOf c) (messages-few c)));
       book = λ x y. k x y .same;

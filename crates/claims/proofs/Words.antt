@@ -24,12 +24,14 @@ use Rattle.store.specs.Laws.Opens.{open-here, open-other, store-order-open, add
 use Rattle.machine.specs.declared.Requests.{Requests}
 use Rattle.machine.specs.declared.Change.{Change}
 use Rattle.machine.specs.Orders.{leavesQty}
+use Rattle.machine.specs.Changes.{Event}
 use Rattle.machine.specs.Machine.{after}
 use Rattle.machine.specs.Rules.{rules}
 use Rattle.machine.specs.Whole.{WholeBook}
 use Rattle.machine.specs.Exchange.{openOf}
 use Rattle.machine.proofs.Kept.Lift.{book-kept}
 use Rattle.machine.proofs.Claim.Filled.{after-orders, orders-same}
+use Rattle.outcomes.specs.Outcomes.{outcomeBy}
 use Rattle.opens.specs.Opens.{storedOpen, openRight, opensRight}
 use Rattle.opens.specs.Keeps.{keepsOf}
 use Rattle.opens.specs.Laws.Sums.{open-fits}
@@ -50,16 +52,16 @@ module _ (j : ℕ) (k : j < mostOrders) where
       split-if (SameWord b j) (eqb place 0) (λ e. refl)
       (λ e. split-if (SameWord b j) _ (λ f. store-order-open b j k (place - 1) o (w e .fits)) (λ f. add-order-open b j k o (w e .fits)))
 
-  link-word : (b : List ℕ) (link : ℕ) → SameWord b j (markLink b link)
+  link-word : (b : List ℕ) (link v : ℕ) → SameWord b j (markLink b link v)
   unfolding markLink
-  link-word b link = split-if (SameWord b j) (eqb link 0) (λ e. refl) (λ e. mark-open b j k (link - 1))
+  link-word b link v = split-if (SameWord b j) (eqb link 0) (λ e. refl) (λ e. mark-open b j k (link - 1) v)
 
-  requests-word : (b : List ℕ) (r : Requests) → (eqb (r .added) 0 ≡ false → WholeRequest (r .request)) → SameWord b j (placeRequests b r)
+  requests-word : (b : List ℕ) (v origin : ℕ) (r : Requests) → (eqb (r .added) 0 ≡ false → WholeRequest (r .request)) → SameWord b j (placeRequests b v origin r)
   unfolding placeRequests
-  requests-word b r w =
-      let once : List ℕ = markLink b (r .answered) in
-      let marked : SameWord b j (markLink once (r .superseded)) = link-word once (r .superseded) ∙ link-word b (r .answered) in
-      split-if (SameWord b j) (eqb (r .added) 0) (λ e. marked) (λ e. add-request-open (markLink once (r .superseded)) j k (r .request) (w e) ∙ marked)
+  requests-word b v origin r w =
+      let once : List ℕ = markLink b (r .answered) v in
+      let marked : SameWord b j (markLink once (r .superseded) v) = link-word once (r .superseded) v ∙ link-word b (r .answered) v in
+      split-if (SameWord b j) (eqb (r .added) 0) (λ e. marked) (λ e. add-request-open (markLink once (r .superseded) v) j k origin (r .request) (w e) ∙ marked)
 
 -- what is stored by the same words
 stored-same : (b f : List ℕ) (x : Option ℕ) → ((j : ℕ) → x ≡ some j → openAt f j ≡ openAt b j) → maybe 0 (openAt f) x ≡ maybe 0 (openAt b) x
@@ -67,16 +69,16 @@ unfolding maybe
 stored-same b f none h = refl
 stored-same b f (some j) h = h j refl
 
-module _ (b : List ℕ) (c : Change) (keeps : keepsOf b ≡ true) (w : Writes b c) (kept : rules (after (bookOf b) c) ≡ true) (whole : WholeBook (after (bookOf b) c))
+module _ (b : List ℕ) (ev : Event) (c : Change) (keeps : keepsOf b ≡ true) (w : Writes b ev c) (kept : rules (after (bookOf b) c) ≡ true) (whole : WholeBook (after (bookOf b) c))
     (clients : SameClients (bookOf b) (after (bookOf b) c)) where
   abbrev left : Book
   left = after (bookOf b) c
 
   abbrev d : List ℕ
-  d = tablesWith b c
+  d = tablesWith b ev c
 
   abbrev f : List ℕ
-  f = bookWith b c
+  f = bookWith b ev c
 
   abbrev client : ℕ
   client = c .order .client
@@ -97,7 +99,7 @@ module _ (b : List ℕ) (c : Change) (keeps : keepsOf b ≡ true) (w : Writes b 
   table-word : (j : ℕ) → j < mostOrders → openAt d j ≡ openAt b j
   unfolding tablesWith
   table-word j k =
-      requests-word j k (placeOrder b (c .place) (c .order)) (c .requests) (request-written (bookOf b) c whole)
+      requests-word j k (placeOrder b (c .place) (c .order)) (outcomeBy ev) _ (c .requests) (request-written (bookOf b) c whole)
       ∙ place-word j k b (c .place) (c .order) (order-written (bookOf b) c whole)
 
   -- a client whose first order, sum and word are as they were

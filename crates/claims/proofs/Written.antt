@@ -21,11 +21,13 @@ use Rattle.store.specs.Book.{Book, orderIn, orderAt, isBook, settingOf, bookOf,
 use Rattle.store.specs.Finds.{findClient}
 use Rattle.machine.specs.declared.Requests.{Requests}
 use Rattle.machine.specs.declared.Change.{Change}
+use Rattle.machine.specs.Changes.{Event}
 use Rattle.machine.specs.Machine.{hasRoom, answerLink, ordersAfter, requestsAfter, after}
 use Rattle.machine.specs.Rules.{gatewayRange, rules}
 use Rattle.machine.specs.Whole.{WholeBook}
 use Rattle.machine.proofs.Kept.Lift.{BookKept, book-kept}
 use Rattle.machine.proofs.Kept.Tables.{length-answer}
+use Rattle.outcomes.specs.Outcomes.{outcomeBy}
 use Rattle.step.specs.Entries.{placeOrder, markLink, placeRequests, placeOpen, tablesWith, bookWith}
 use Rattle.store.specs.Laws.Cells.{fits-32}
 use Rattle.store.specs.Laws.Stored.{length-orders, length-requests, order-in, request-in, order-whole, request-whole, store-order-book}
@@ -99,34 +101,42 @@ keeps-self b = record { same = refl; bytes = λ h. h }
 keeps-more : (b d f : List ℕ) → Keeps b d → Keeps d f → Keeps b f
 keeps-more b d f h g = record { same = g .same ∙ h .same; bytes = λ k. g .bytes (h .bytes k) }
 
-place-keeps : (b : List ℕ) (place : ℕ) (o : Order) → (eqb place 0 ≡ false → WholeOrder o) → Keeps b (placeOrder b place o)
+pub place-keeps : (b : List ℕ) (place : ℕ) (o : Order) → (eqb place 0 ≡ false → WholeOrder o) → Keeps b (placeOrder b place o)
 unfolding placeOrder
 place-keeps b place o w =
     split-if (Keeps b) (eqb place 0) (λ e. keeps-self b)
     (λ e. split-if (Keeps b) _ (λ f. store-order-keeps b (place - 1) o (w e .fits)) (λ f. add-order-keeps b o (w e .fits)))
 
-pub mark-link-keeps : (b : List ℕ) (k : ℕ) → Keeps b (markLink b k)
-unfolding markLink
-mark-link-keeps b k = split-if (Keeps b) (eqb k 0) (λ e. keeps-self b) (λ e. mark-keeps b (k - 1))
+-- an outcome is a byte
+pub few-outcomes : (e : Event) → outcomeBy e ≤ 3
+unfolding outcomeBy
+few-outcomes e = let P : ℕ → Type 0 = λ n. n ≤ 3 in split-if P _ (λ h. omega arith) (λ h. split-if P _ (λ g. omega arith) (λ g. omega arith))
 
-abbrev pub marked : List ℕ → Requests → List ℕ
-marked b r = markLink (markLink b (r .answered)) (r .superseded)
+-- v is the outcome of what is settled
+module _ (v : ℕ) where
+  abbrev pub marked : List ℕ → Requests → List ℕ
+  marked b r = markLink (markLink b (r .answered) v) (r .superseded) v
 
-pub marked-keeps : (b : List ℕ) (r : Requests) → Keeps b (marked b r)
-marked-keeps b r = keeps-more b (markLink b (r .answered)) (marked b r) (mark-link-keeps b (r .answered)) (mark-link-keeps (markLink b (r .answered)) (r .superseded))
+  module _ (small : v ≤ 3) where
+    pub mark-link-keeps : (b : List ℕ) (k : ℕ) → Keeps b (markLink b k v)
+    unfolding markLink
+    mark-link-keeps b k = split-if (Keeps b) (eqb k 0) (λ e. keeps-self b) (λ e. mark-keeps b (k - 1) v (omega arith))
 
-requests-keeps : (b : List ℕ) (r : Requests) → (eqb (r .added) 0 ≡ false → WholeRequest (r .request)) → Keeps b (placeRequests b r)
-unfolding placeRequests
-requests-keeps b r w =
-    split-if (Keeps b) (eqb (r .added) 0) (λ e. marked-keeps b r)
-    (λ e. keeps-more b (marked b r) (addRequest (marked b r) (r .request)) (marked-keeps b r) (add-request-keeps (marked b r) (r .request) (w e)))
+    pub marked-keeps : (b : List ℕ) (r : Requests) → Keeps b (marked b r)
+    marked-keeps b r = keeps-more b (markLink b (r .answered) v) (marked b r) (mark-link-keeps b (r .answered)) (mark-link-keeps (markLink b (r .answered) v) (r .superseded))
 
-pub tables-keeps : (b : List ℕ) (c : Change) → (eqb (c .place) 0 ≡ false → WholeOrder (c .order)) → (eqb (c .requests .added) 0 ≡ false → WholeRequest (c .requests .request))
-    → Keeps b (tablesWith b c)
+    requests-keeps : (b : List ℕ) (origin : ℕ) (r : Requests) → (eqb (r .added) 0 ≡ false → WholeRequest (r .request)) → Keeps b (placeRequests b v origin r)
+    unfolding placeRequests
+    requests-keeps b origin r w =
+        split-if (Keeps b) (eqb (r .added) 0) (λ e. marked-keeps b r)
+        (λ e. keeps-more b (marked b r) (addRequest (marked b r) origin (r .request)) (marked-keeps b r) (add-request-keeps (marked b r) origin (r .request) (w e)))
+
+pub tables-keeps : (b : List ℕ) (e : Event) (c : Change) → (eqb (c .place) 0 ≡ false → WholeOrder (c .order))
+    → (eqb (c .requests .added) 0 ≡ false → WholeRequest (c .requests .request)) → Keeps b (tablesWith b e c)
 unfolding tablesWith
-tables-keeps b c o q =
+tables-keeps b e c o q =
     let d : List ℕ = placeOrder b (c .place) (c .order) in
-    keeps-more b d (placeRequests d (c .requests)) (place-keeps b (c .place) (c .order) o) (requests-keeps d (c .requests) q)
+    keeps-more b d _ (place-keeps b (c .place) (c .order) o) (requests-keeps (outcomeBy e) (few-outcomes e) d _ (c .requests) q)
 
 -- ---- each write is the book's
 
@@ -136,7 +146,7 @@ withOrders os x = record { setting = x .setting; orders = os; requests = x .requ
 abbrev withRequests : List Request → Book → Book
 withRequests qs x = record { setting = x .setting; orders = x .orders; requests = qs }
 
-place-book : (b : List ℕ) (c : Change) → length b ≡ bookSize → leb (c .place) (length (bookOf b .orders)) || ltb (length (bookOf b .orders)) 64 ≡ true
+pub place-book : (b : List ℕ) (c : Change) → length b ≡ bookSize → leb (c .place) (length (bookOf b .orders)) || ltb (length (bookOf b .orders)) 64 ≡ true
     → (eqb (c .place) 0 ≡ false → WholeOrder (c .order)) → bookOf (placeOrder b (c .place) (c .order)) ≡ withOrders (ordersAfter (bookOf b .orders) c) (bookOf b)
 unfolding placeOrder ordersAfter if_then_else_
 place-book b c l room w = go (eqb (c .place) 0) (leb (c .place) (orderCount b)) refl refl
@@ -150,39 +160,42 @@ place-book b c l room w = go (eqb (c .place) 0) (leb (c .place) (orderCount b)) 
         let h : orderCount b < 64 = ⊎-elim (λ z. clash (leb (c .place) (orderCount b)) z f) (λ z. ltb-true (orderCount b) 64 z) (either-true (leb (c .place) (orderCount b)) _ either) in
         rw (e, length-orders b, f) (add-order-book b (c .order) l h (w e))
 
-mark-link-book : (b : List ℕ) (k : ℕ) → bookOf (markLink b k) ≡ withRequests (answerLink k (bookOf b .requests)) (bookOf b)
-unfolding markLink answerLink if_then_else_
-mark-link-book b k = go (eqb k 0) refl
-  where
-    go : (t : Bool) → eqb k 0 ≡ t → bookOf (markLink b k) ≡ withRequests (answerLink k (bookOf b .requests)) (bookOf b)
-    go true e = rw e refl
-    go false e = rw e (mark-book b (k - 1))
+module _ (v : ℕ) where
+  pub mark-link-book : (b : List ℕ) (k : ℕ) → bookOf (markLink b k v) ≡ withRequests (answerLink k (bookOf b .requests)) (bookOf b)
+  unfolding markLink answerLink if_then_else_
+  mark-link-book b k = go (eqb k 0) refl
+    where
+      go : (t : Bool) → eqb k 0 ≡ t → bookOf (markLink b k v) ≡ withRequests (answerLink k (bookOf b .requests)) (bookOf b)
+      go true e = rw e refl
+      go false e = rw e (mark-book b (k - 1) v)
 
-marked-book : (b : List ℕ) (r : Requests) → bookOf (marked b r) ≡ withRequests (answerLink (r .superseded) (answerLink (r .answered) (bookOf b .requests))) (bookOf b)
-marked-book b r =
-    mark-link-book (markLink b (r .answered)) (r .superseded)
-    ∙ ap (λ (x : Book). withRequests (answerLink (r .superseded) (x .requests)) x) (mark-link-book b (r .answered))
+  marked-book : (b : List ℕ) (r : Requests) → bookOf (marked v b r) ≡ withRequests (answerLink (r .superseded) (answerLink (r .answered) (bookOf b .requests))) (bookOf b)
+  marked-book b r =
+      mark-link-book (markLink b (r .answered) v) (r .superseded)
+      ∙ ap (λ (x : Book). withRequests (answerLink (r .superseded) (x .requests)) x) (mark-link-book b (r .answered))
 
-pub marked-count : (b : List ℕ) (r : Requests) → requestCount (marked b r) ≡ length (bookOf b .requests)
-marked-count b r =
-    sym (length-requests (marked b r))
-    ∙ ap (λ (x : Book). length (x .requests)) (marked-book b r)
-    ∙ length-answer (r .superseded) (answerLink (r .answered) (bookOf b .requests))
-    ∙ length-answer (r .answered) (bookOf b .requests)
+  pub marked-count : (b : List ℕ) (r : Requests) → requestCount (marked v b r) ≡ length (bookOf b .requests)
+  marked-count b r =
+      sym (length-requests (marked v b r))
+      ∙ ap (λ (x : Book). length (x .requests)) (marked-book b r)
+      ∙ length-answer (r .superseded) (answerLink (r .answered) (bookOf b .requests))
+      ∙ length-answer (r .answered) (bookOf b .requests)
 
-requests-book : (b : List ℕ) (c : Change) → length b ≡ bookSize → eqb (c .requests .added) 0 || ltb (length (bookOf b .requests)) 256 ≡ true
-    → (eqb (c .requests .added) 0 ≡ false → WholeRequest (c .requests .request)) → bookOf (placeRequests b (c .requests)) ≡ withRequests (requestsAfter (bookOf b .requests) c) (bookOf b)
-unfolding placeRequests requestsAfter if_then_else_
-requests-book b c l room w = go (eqb (c .requests .added) 0) refl
-  where
-    go : (t : Bool) → eqb (c .requests .added) 0 ≡ t → bookOf (placeRequests b (c .requests)) ≡ withRequests (requestsAfter (bookOf b .requests) c) (bookOf b)
-    go true e = rw e (marked-book b (c .requests))
-    go false e =
-        let d : List ℕ = marked b (c .requests) in
-        let q : Request = c .requests .request in
-        let h : requestCount d < 256 =
-        ⊎-elim (λ z. clash (eqb (c .requests .added) 0) z e) (λ z. omega (arith, ltb-true (length (bookOf b .requests)) 256 z, marked-count b (c .requests))) (either-true _ _ room) in
-        rw e (add-request-book d q (marked-keeps b (c .requests) .same ∙ l) h (w e) ∙ ap (λ (x : Book). withRequests (x .requests ++ (q ∷ [])) x) (marked-book b (c .requests)))
+  requests-book : v ≤ 3 → (b : List ℕ) (origin : ℕ) (c : Change) → length b ≡ bookSize → eqb (c .requests .added) 0 || ltb (length (bookOf b .requests)) 256 ≡ true
+      → (eqb (c .requests .added) 0 ≡ false → WholeRequest (c .requests .request)) → bookOf (placeRequests b v origin (c .requests)) ≡ withRequests (requestsAfter (bookOf b .requests) c) (bookOf b)
+  unfolding placeRequests requestsAfter if_then_else_
+  requests-book small b origin c l room w = go (eqb (c .requests .added) 0) refl
+    where
+      go : (t : Bool) → eqb (c .requests .added) 0 ≡ t → bookOf (placeRequests b v origin (c .requests)) ≡ withRequests (requestsAfter (bookOf b .requests) c) (bookOf b)
+      go true e = rw e (marked-book b (c .requests))
+      go false e =
+          let d : List ℕ = marked v b (c .requests) in
+          let q : Request = c .requests .request in
+          let h : requestCount d < 256 =
+          ⊎-elim (λ z. clash (eqb (c .requests .added) 0) z e) (λ z. omega (arith, ltb-true (length (bookOf b .requests)) 256 z, marked-count b (c .requests))) (either-true _ _ room) in
+          rw e
+          (add-request-book d origin q (marked-keeps v small b (c .requests) .same ∙ l) h (w e)
+          ∙ ap (λ (x : Book). withRequests (x .requests ++ (q ∷ [])) x) (marked-book b (c .requests)))
 
 -- ---- the word of an open quantity
 
@@ -201,38 +214,38 @@ open-keeps b left place client =
 -- ---- the whole change
 
 -- a change in the tables is the change on the book, and keeps length and bytes
-pub record Tables (b : List ℕ) (c : Change) : Type 0 where
-  pub is : bookOf (tablesWith b c) ≡ after (bookOf b) c
-  pub keeps : Keeps b (tablesWith b c)
+pub record Tables (b : List ℕ) (e : Event) (c : Change) : Type 0 where
+  pub is : bookOf (tablesWith b e c) ≡ after (bookOf b) c
+  pub keeps : Keeps b (tablesWith b e c)
 
-tables-writes : (b : List ℕ) (c : Change) → length b ≡ bookSize → hasRoom (bookOf b) c ≡ true → WholeBook (after (bookOf b) c) → Tables b c
+tables-writes : (b : List ℕ) (e : Event) (c : Change) → length b ≡ bookSize → hasRoom (bookOf b) c ≡ true → WholeBook (after (bookOf b) c) → Tables b e c
 unfolding tablesWith after hasRoom
-tables-writes b c l room w =
+tables-writes b e c l room w =
     let d : List ℕ = placeOrder b (c .place) (c .order) in
     let (orders, requests) = both-true _ _ room in
     let o : (eqb (c .place) 0 ≡ false → WholeOrder (c .order)) = order-written (bookOf b) c w in
     let q : (eqb (c .requests .added) 0 ≡ false → WholeRequest (c .requests .request)) = request-written (bookOf b) c w in
     let k : Keeps b d = place-keeps b (c .place) (c .order) o in
-    let e : bookOf d ≡ withOrders (ordersAfter (bookOf b .orders) c) (bookOf b) = place-book b c l orders o in
-    let n : length (bookOf d .requests) ≡ length (bookOf b .requests) = ap (λ (x : Book). length (x .requests)) e in
+    let put : bookOf d ≡ withOrders (ordersAfter (bookOf b .orders) c) (bookOf b) = place-book b c l orders o in
+    let n : length (bookOf d .requests) ≡ length (bookOf b .requests) = ap (λ (x : Book). length (x .requests)) put in
     record {
       is =
-          requests-book d c (k .same ∙ l) (ap (λ (m : ℕ). eqb (c .requests .added) 0 || ltb m 256) n ∙ requests) q
-          ∙ ap (λ (x : Book). withRequests (requestsAfter (x .requests) c) x) e;
-      keeps = tables-keeps b c o q;
+          requests-book (outcomeBy e) (few-outcomes e) d _ c (k .same ∙ l) (ap (λ (m : ℕ). eqb (c .requests .added) 0 || ltb m 256) n ∙ requests) q
+          ∙ ap (λ (x : Book). withRequests (requestsAfter (x .requests) c) x) put;
+      keeps = tables-keeps b e c o q;
     }
 
 -- A CHANGE ON BYTES is the change on the book, and keeps length and bytes
-pub record Writes (b : List ℕ) (c : Change) : Type 0 where
-  pub is : bookOf (bookWith b c) ≡ after (bookOf b) c
-  pub keeps : Keeps b (bookWith b c)
-  pub tables : Keeps b (tablesWith b c)
+pub record Writes (b : List ℕ) (e : Event) (c : Change) : Type 0 where
+  pub is : bookOf (bookWith b e c) ≡ after (bookOf b) c
+  pub keeps : Keeps b (bookWith b e c)
+  pub tables : Keeps b (tablesWith b e c)
 
-pub change-writes : (b : List ℕ) (c : Change) → length b ≡ bookSize → hasRoom (bookOf b) c ≡ true → WholeBook (after (bookOf b) c) → Writes b c
+pub change-writes : (b : List ℕ) (e : Event) (c : Change) → length b ≡ bookSize → hasRoom (bookOf b) c ≡ true → WholeBook (after (bookOf b) c) → Writes b e c
 unfolding bookWith
-change-writes b c l room w =
-    let t : Tables b c = tables-writes b c l room w in
-    let d : List ℕ = tablesWith b c in
+change-writes b e c l room w =
+    let t : Tables b e c = tables-writes b e c l room w in
+    let d : List ℕ = tablesWith b e c in
     let f : List ℕ = placeOpen d (after (bookOf b) c) (c .place) (c .order .client) in
     record {
       is = open-book d (after (bookOf b) c) (c .place) (c .order .client) ∙ t .is;

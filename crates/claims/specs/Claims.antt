@@ -78,7 +78,7 @@ AnswersOnBytes = (b r a : List ℕ) → Bytes b → Bytes r → eventOf b r a .r
 -- the bytes that an event taken leaves are the book that the machine's change leaves
 abbrev pub WritesChange : Type 0
 WritesChange = (b r : List ℕ) → Bytes b → Bytes r → checkOf b ≡ 0 → eventRefusal r ≡ 0 → stepOf (bookOf b) (eventIn r) .refusal ≡ 0
-    → bookOf (bookWith b (stepOf (bookOf b) (eventIn r))) ≡ after (bookOf b) (stepOf (bookOf b) (eventIn r))
+    → bookOf (bookWith b (eventIn r) (stepOf (bookOf b) (eventIn r))) ≡ after (bookOf b) (stepOf (bookOf b) (eventIn r))
 
 -- no call changes a length, and the book's bytes stay bytes
 pub record Sizes (b r a : List ℕ) (o : Outcome) : Type 0 where

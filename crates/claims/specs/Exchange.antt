@@ -5,8 +5,9 @@ use mathlib.Core.Path.{_≡_}
 use mathlib.Core.List.{List}
 use lib.ListN.{length}
 use Rattle.prelude.specs.Number.{Bytes}
-use Rattle.prelude.specs.Span.{splice}
-use Rattle.store.specs.Book.{bookOf, orderIn, requestIn, requestCount, storeOrder, storeRequest}
+use Rattle.prelude.specs.Span.{span, splice}
+use Rattle.store.specs.Layout.{requestSize, requestBase}
+use Rattle.store.specs.Book.{bookOf, orderIn, requestCount, storeOrder}
 use Rattle.machine.specs.Exchange.{openOf, SameOrder, turnedOrder, Turned}
 use Rattle.opens.specs.Opens.{storedOpen}
 use Rattle.opens.specs.Keeps.{opened, openCall}
@@ -41,11 +42,13 @@ pub record SameAnswer (a a′ out out′ : List ℕ) : Type 0 where
   pub one : out ≡ splice a 0 written
   pub two : out′ ≡ splice a′ 0 written
 
--- the bytes with the requests t and t + 1 exchanged, and the links of the orders at i and j that name them; every other byte as it was
+-- the bytes with the 128-byte records of the requests t and t + 1 exchanged, and the links of the orders at i and j that name them; every other byte as it was
 abbrev pub turnedBytes : (t i j : ℕ) → List ℕ → List ℕ
 turnedBytes t i j b =
     let x = bookOf b in
-    storeOrder (storeOrder (storeRequest (storeRequest b (t + 1) (requestIn x t)) t (requestIn x (t + 1))) j (turnedOrder t (orderIn x j))) i (turnedOrder t (orderIn x i))
+    let turned : List ℕ =
+    splice (splice b (requestBase (t + 1)) (span b (requestBase t) requestSize)) (requestBase t) (span b (requestBase (t + 1)) requestSize) in
+    storeOrder (storeOrder turned j (turnedOrder t (orderIn x j))) i (turnedOrder t (orderIn x i))
 
 -- what two books, in bytes, have in common after the two ways round
 pub record SameBooks (one two : List ℕ) : Type 0 where

@@ -1,6 +1,8 @@
 pub mod Questions
 pub mod Claims
 pub mod Opens
+pub mod Outcomes
+pub mod Chain
 pub mod Concern
 pub mod Exchange
 pub mod Net

@@ -9,6 +9,7 @@ use Rattle.store.specs.Book.{bookOf, orderIn, orderCount, storeOpen}
 use Rattle.store.specs.Finds.{findClient}
 use Rattle.machine.specs.Exchange.{openOf}
 use Rattle.rules.specs.Ruled.{ruledOf}
+use Rattle.outcomes.specs.Outcomes.{outcomesRight}
 use Rattle.opens.specs.Opens.{storedOpen}
 use Rattle.opens.specs.Keeps.{opened, openCall}
 use Rattle.step.specs.Entries.{eventOf, startOf, startRefusal, checkOf}
@@ -33,7 +34,8 @@ pub record OpenOnBytes : Type 0 where
   pub one : (b : List ℕ) (client : ℕ) → Exactly (openCall b client ≡ opened 1 0) (checkOf b ≡ 1)
   -- a book with another sum is refused with 1
   pub other : (b : List ℕ) (client : ℕ) → (storedOpen b client ≡ openOf (bookOf b) client → ⊥) → (checkOf b ≡ 1) × ((r a : List ℕ) → eventOf b r a .returned ≡ 1)
-  -- and no more is asked: a book that keeps machine's rules and stores each client's sum is taken, whatever its other words and the bytes behind them say
-  pub exact : (b : List ℕ) → ruledOf b ≡ true → ((client : ℕ) → storedOpen b client ≡ openOf (bookOf b) client) → checkOf b ≡ 0
+  -- and no more is asked: a book that keeps machine's rules, stores each client's sum and has right outcomes (Outcomes) is taken, whatever its other words and the
+  -- bytes behind them say
+  pub exact : (b : List ℕ) → ruledOf b ≡ true → ((client : ℕ) → storedOpen b client ≡ openOf (bookOf b) client) → outcomesRight b ≡ true → checkOf b ≡ 0
   -- the sum stands in the bytes: on any book, another number written in the word of a client's first order is refused with 1
   pub bytes : (b : List ℕ) (i q : ℕ) → i < orderCount b → findClient (bookOf b) (orderIn (bookOf b) i .client) ≡ some i → q < 2 ^ 64 → (q ≡ openOf (bookOf b) (orderIn (bookOf b) i .client) → ⊥) → checkOf (storeOpen b i q) ≡ 1

@@ -9,3 +9,5 @@ pub mod Counted
 pub mod Broken
 pub mod ExchangeDay
 pub mod ExchangeLimits
+pub mod Outcomes
+pub mod Chains

@@ -2,9 +2,9 @@
 // `start` makes an empty book, `event` takes one record and writes the answer, `check` says whether a
 // book keeps its rules, `page` prints the evening page, `open_quantity` gives a client's open quantity,
 // `net_position` writes the net position's lines, `set_mark` marks the book and `return_to_mark` makes it
-// what it was then, `needs` gives what an event will need. Each is total: whatever the bytes, it
-// returns its number, and a refused call has written nothing. Rests on step, opens, records, store,
-// page, net, marks and needs.
+// what it was then, `needs` gives what an event will need, `chain` writes the chain of a ClOrdID. Each
+// is total: whatever the bytes, it returns its number, and a refused call has written nothing. Rests on
+// step, outcomes, opens, records, store, page, net, marks, needs and chain.
 ghost use mathlib.Core.Path.{_≡_};
 ghost use Rattle.step.specs.Entries.{startOf, startRefusal, checkOf, outcome, eventOf};
 ghost use Rattle.page.specs.Page.{paged, pageCall};
@@ -12,11 +12,13 @@ ghost use Rattle.opens.specs.Keeps.{openCall};
 ghost use Rattle.net.specs.Net.{IsNet};
 ghost use Rattle.marks.specs.Marks.{marked, setMarkOf, returnOf};
 ghost use Rattle.needs.specs.Needs.{needsCall};
+ghost use Rattle.chain.specs.Chain.{chained, chainCall};
 use counted::Counted;
 use opens::Opened;
 use orders::order;
 use store::layout;
 
+mod beside; // what goes beside the requests' fields, by value
 mod write; // a change written into the book
 
 // Makes an empty book: zeros but for the setting, the most ClOrdIDs that a client may use.
@@ -42,8 +44,10 @@ pub extern "C" fn event(book: &mut [u8], record: &[u8], answer: &mut [u8]) -> u3
     }
     let leaves = order::leaves_qty(c.order);
     let opening = opens::opening(book, c.place, c.order.client, leaves);
+    let outcome = beside::outcome(record, c.requests);
+    let origin = beside::origin(book, c.order.client, c.requests);
     write::place_order(book, c.place, c.order);
-    write::place_requests(book, c.requests);
+    write::place_requests(book, outcome, origin, c.requests);
     write::place_open(book, c.place, opening);
     let out = c.output;
     let _ = records::write_answer(
@@ -117,4 +121,13 @@ pub extern "C" fn needs(book: &[u8], record: &[u8]) -> needs::Needs
     ensures { λ r. ⌜ r ≡ needsCall (now (book .entry)) (now («record» .entry)) ⌝ }
 {
     needs::needs_of(book, record)
+}
+
+// Writes the chain of a client's ClOrdID back to the first to the front of `list`, 34 bytes for each
+// request; the number is their count, 0 for a name that the client never used.
+#[no_mangle]
+pub extern "C" fn chain(book: &[u8], client: u16, name: &[u8], list: &mut [u8]) -> Counted
+    ensures { λ r. ⌜ chained r (now (list .exit)) ≡ chainCall (now (book .entry)) client (now (name .entry)) (now (list .entry)) ⌝ }
+{
+    chain::chain(book, client, name, list)
 }

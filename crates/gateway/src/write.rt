@@ -22,25 +22,26 @@ pub(crate) fn place_order(book: &mut [u8], place: u16, o: Order)
     store::add_order(book, o);
 }
 
-// The request of this link is marked answered; 0 is none.
-fn mark_link(book: &mut [u8], link: u16)
-    ensures { λ _. ⌜ now (book .exit) ≡ markLink (now (book .entry)) link ⌝ }
+// The request of this link is marked answered, with this outcome where it was not; 0 is none.
+fn mark_link(book: &mut [u8], link: u16, outcome: u8)
+    ensures { λ _. ⌜ now (book .exit) ≡ markLink (now (book .entry)) link outcome ⌝ }
 {
     if link == 0 {
         return;
     }
-    store::mark_answered(book, (link - 1) as usize);
+    store::mark_answered(book, (link - 1) as usize, outcome);
 }
 
-pub(crate) fn place_requests(book: &mut [u8], r: Requests)
-    ensures { λ _. ⌜ now (book .exit) ≡ placeRequests (now (book .entry)) r ⌝ }
+// The requests settled have the outcome, and the one added has the origin beside it.
+pub(crate) fn place_requests(book: &mut [u8], outcome: u8, origin: u16, r: Requests)
+    ensures { λ _. ⌜ now (book .exit) ≡ placeRequests (now (book .entry)) outcome origin r ⌝ }
 {
-    mark_link(book, r.answered);
-    mark_link(book, r.superseded);
+    mark_link(book, r.answered, outcome);
+    mark_link(book, r.superseded, outcome);
     if r.added == 0 {
         return;
     }
-    store::add_request(book, r.request);
+    store::add_request(book, origin, r.request);
 }
 
 // The open quantity of the client of the order at `place`, 0 for none, goes to its word.

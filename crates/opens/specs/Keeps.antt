@@ -1,5 +1,5 @@
--- THE BOOK'S RULES on bytes, what question 1 and `check` decide: machine's rules of the book that the bytes are, and that what is stored for each client is
--- its open quantity. And the call that gives it. Rests on rules and Opens.
+-- THE BOOK'S RULES on bytes, what question 1 and `check` decide: machine's rules of the book that the bytes are, that what is stored for each client is its
+-- open quantity, and that what stands beside each request is right. And the call that gives the open quantity. Rests on rules, Opens and outcomes.
 use Prim.Native.Nat.{ℕ}
 use mathlib.Core.Bool.{Bool, _&&_}
 use mathlib.Core.List.{List}
@@ -7,11 +7,12 @@ use Rattle.prelude.specs.Cases.{if_then_else_}
 use Rattle.store.specs.Book.{bookOf}
 use Rattle.machine.specs.Exchange.{openOf}
 use Rattle.rules.specs.Ruled.{ruledOf}
+use Rattle.outcomes.specs.Outcomes.{outcomesRight}
 use Rattle.opens.specs.Opens.{opensRight}
 use Rattle.opens.specs.declared.Opened.{Opened}
 
 unfoldable pub keepsOf : List ℕ → Bool
-keepsOf b = ruledOf b && opensRight b
+keepsOf b = ruledOf b && opensRight b && outcomesRight b
 
 -- ---- the call
 

@@ -1,5 +1,4 @@
 -- Proof text: sums in the bytes, what a caller has, and what a change moves.
-pub mod Found
 pub mod Sums
 pub mod Keeps
 pub mod Moved

@@ -1,5 +1,5 @@
 -- What the entries `start`, `event` and `check` of gateway do, on bytes: what each returns and what it leaves in each buffer that it is lent.
--- Rests on opens (`keepsOf`), records (`eventIn`, `answerBytes`), machine (`stepOf`) and store (the book in its bytes).
+-- Rests on opens (`keepsOf`), outcomes (`outcomeBy`, `originOf`), records (`eventIn`, `answerBytes`), machine (`stepOf`) and store (the book in its bytes).
 use Prim.Native.Nat.{ℕ, _-_}
 use mathlib.Core.Bool.{not}
 use mathlib.Core.List.{List}
@@ -14,10 +14,11 @@ use Rattle.store.specs.Book.{Book, isBook, orderCount, bookOf, storeOrder, addO
 use Rattle.store.specs.Finds.{findClient}
 use Rattle.machine.specs.declared.Requests.{Requests}
 use Rattle.machine.specs.declared.Change.{Change}
-use Rattle.machine.specs.Changes.{refusing}
+use Rattle.machine.specs.Changes.{Event, refusing}
 use Rattle.machine.specs.Machine.{after, stepOf}
 use Rattle.machine.specs.Exchange.{openOf}
 use Rattle.machine.specs.History.{messagesOf}
+use Rattle.outcomes.specs.Outcomes.{outcomeBy, originOf}
 use Rattle.opens.specs.Keeps.{keepsOf}
 use Rattle.format.specs.Refusal.{eventRefusal}
 
@@ -30,14 +31,15 @@ placeOrder b place o =
     else if leb place (orderCount b) then storeOrder b (place - 1) o
     else addOrder b o
 
--- the request of this link is marked answered
-unfoldable pub markLink : List ℕ → ℕ → List ℕ
-markLink b link = if eqb link 0 then b else markAnswered b (link - 1)
+-- the request of this link is marked answered, with this outcome where it was not
+unfoldable pub markLink : List ℕ → (link outcome : ℕ) → List ℕ
+markLink b link outcome = if eqb link 0 then b else markAnswered b (link - 1) outcome
 
-unfoldable pub placeRequests : List ℕ → Requests → List ℕ
-placeRequests b r =
-    let marked : List ℕ = markLink (markLink b (r .answered)) (r .superseded) in
-    if eqb (r .added) 0 then marked else addRequest marked (r .request)
+-- the requests settled have the outcome, and the one added has the origin beside it
+unfoldable pub placeRequests : List ℕ → (outcome origin : ℕ) → Requests → List ℕ
+placeRequests b outcome origin r =
+    let marked : List ℕ = markLink (markLink b (r .answered) outcome) (r .superseded) outcome in
+    if eqb (r .added) 0 then marked else addRequest marked origin (r .request)
 
 -- the order's client has its open quantity, in the book as it is left, in the word of its first order there; no other word is written
 unfoldable pub placeOpen : List ℕ → (left : Book) → (place client : ℕ) → List ℕ
@@ -45,12 +47,13 @@ placeOpen b left place client =
     if eqb place 0 then b
     else maybe b (λ i. storeOpen b i (openOf left client)) (findClient left client)
 
--- the change in the tables
-unfoldable pub tablesWith : List ℕ → Change → List ℕ
-tablesWith b c = placeRequests (placeOrder b (c .place) (c .order)) (c .requests)
+-- the change that an event makes, in the tables. What it settles comes to `outcomeBy`, and what it adds has the link of the request that its OrigClOrdID names.
+unfoldable pub tablesWith : List ℕ → Event → Change → List ℕ
+tablesWith b e c =
+    placeRequests (placeOrder b (c .place) (c .order)) (outcomeBy e) (originOf b (c .order .client) (c .requests .request .origclordid)) (c .requests)
 
-unfoldable pub bookWith : List ℕ → Change → List ℕ
-bookWith b c = placeOpen (tablesWith b c) (after (bookOf b) c) (c .place) (c .order .client)
+unfoldable pub bookWith : List ℕ → Event → Change → List ℕ
+bookWith b e c = placeOpen (tablesWith b e c) (after (bookOf b) c) (c .place) (c .order .client)
 
 -- ---- the entries
 
@@ -75,7 +78,7 @@ callOf b r room =
 unfoldable pub eventOf : (book event answer : List ℕ) → Outcome
 eventOf b r a =
     let c = callOf b r (length a) in
-    if eqb (c .refusal) 0 then outcome 0 (bookWith b c) (splice a 0 (answerBytes (c .output .alarm) (c .output .alarm2) (messagesOf c)))
+    if eqb (c .refusal) 0 then outcome 0 (bookWith b (eventIn r) c) (splice a 0 (answerBytes (c .output .alarm) (c .output .alarm2) (messagesOf c)))
     else outcome (c .refusal) b a
 
 -- `start`: zeros but for the setting, or nothing where the length is another

@@ -14,7 +14,7 @@ use Rattle.prelude.specs.Table.{rowAt, putRow}
 use Rattle.prelude.specs.Bytes.{zeros}
 use Rattle.store.specs.declared.Order.{Order}
 use Rattle.store.specs.declared.Request.{Request}
-use Rattle.store.specs.Layout.{bookSize, header·orders, header·requests, header·setting, ordersAt, orderSize, mostOrders, requestsAt, requestSize, mostRequests, requestBase, request·answered, openBase}
+use Rattle.store.specs.Layout.{bookSize, header·orders, header·requests, header·setting, ordersAt, orderSize, mostOrders, requestsAt, requestSize, mostRequests, requestBase, request·answered, request·outcome, request·origin, openBase}
 use Rattle.store.specs.Orders.{decodeOrder, encodeOrder, noOrder}
 use Rattle.store.specs.Requests.{decodeRequest, encodeRequest, noRequest}
 
@@ -40,8 +40,8 @@ putOrder b i o = putRow ordersAt orderSize encodeOrder b i o
 unfoldable pub requestAt : List ℕ → ℕ → Request
 requestAt b i = rowAt requestsAt requestSize decodeRequest b i
 
-unfoldable pub putRequest : List ℕ → ℕ → Request → List ℕ
-putRequest b i r = putRow requestsAt requestSize encodeRequest b i r
+unfoldable pub putRequest : List ℕ → ℕ → (origin : ℕ) → Request → List ℕ
+putRequest b i origin r = putRow requestsAt requestSize (encodeRequest origin) b i r
 
 -- ---- the header
 
@@ -80,21 +80,39 @@ loadRequest b i = if isBook b && ltb i mostRequests then requestAt b i else noRe
 unfoldable pub storeOrder : List ℕ → ℕ → Order → List ℕ
 storeOrder b i o = if isBook b && ltb i mostOrders then putOrder b i o else b
 
-unfoldable pub storeRequest : List ℕ → ℕ → Request → List ℕ
-storeRequest b i r = if isBook b && ltb i mostRequests then putRequest b i r else b
-
 unfoldable pub setCount : List ℕ → ℕ → ℕ → List ℕ
 setCount b at n = splice b at (bytesOf 2 n)
 
 unfoldable pub addOrder : List ℕ → Order → List ℕ
 addOrder b o = if isBook b && ltb (orderCount b) mostOrders then setCount (putOrder b (orderCount b) o) header·orders (orderCount b + 1) else b
 
-unfoldable pub addRequest : List ℕ → Request → List ℕ
-addRequest b r =
-    if isBook b && ltb (requestCount b) mostRequests then setCount (putRequest b (requestCount b) r) header·requests (requestCount b + 1) else b
+-- the origin is the link of the request that the OrigClOrdID names, 0 for none
+unfoldable pub addRequest : List ℕ → (origin : ℕ) → Request → List ℕ
+addRequest b origin r =
+    if isBook b && ltb (requestCount b) mostRequests then setCount (putRequest b (requestCount b) origin r) header·requests (requestCount b + 1) else b
 
-unfoldable pub markAnswered : List ℕ → ℕ → List ℕ
-markAnswered b i = if isBook b && ltb i mostRequests then splice b (requestBase i + request·answered) (1 ∷ []) else b
+-- beside the request's fields, no part of the book that the bytes are: what came of it, and its origin
+abbrev pub outcomeAt : List ℕ → ℕ → ℕ
+outcomeAt b i = getD b (requestBase i + request·outcome) 0
+
+abbrev pub originAt : List ℕ → ℕ → ℕ
+originAt b i = word16 b (requestBase i + request·origin)
+
+unfoldable pub loadOutcome : List ℕ → ℕ → ℕ
+loadOutcome b i = if isBook b && ltb i mostRequests then outcomeAt b i else 0
+
+unfoldable pub loadOrigin : List ℕ → ℕ → ℕ
+loadOrigin b i = if isBook b && ltb i mostRequests then originAt b i else 0
+
+-- an outcome is set once, for good: a request that is answered keeps the one that it has
+unfoldable pub settledAs : List ℕ → ℕ → (outcome : ℕ) → ℕ
+settledAs b i outcome = if eqb (requestAt b i .answered) 0 then outcome else outcomeAt b i
+
+abbrev pub settle : List ℕ → ℕ → (outcome : ℕ) → List ℕ
+settle b i outcome = splice (splice b (requestBase i + request·answered) (1 ∷ [])) (requestBase i + request·outcome) (settledAs b i outcome ∷ [])
+
+unfoldable pub markAnswered : List ℕ → ℕ → (outcome : ℕ) → List ℕ
+markAnswered b i outcome = if isBook b && ltb i mostRequests then settle b i outcome else b
 
 -- the word of order i's place behind the tables; it is no part of the book that the bytes are
 abbrev pub openAt : List ℕ → ℕ → ℕ

@@ -9,3 +9,4 @@ pub mod Adds
 pub mod Finds
 pub mod Kept
 pub mod Opens
+pub mod Beside

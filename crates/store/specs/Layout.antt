@@ -164,5 +164,9 @@ request·origclordid = 37
 abbrev pub request·downstream : ℕ
 request·downstream = 70
 
-abbrev pub request·spare : ℕ
-request·spare = 103
+-- beside the fields, and no part of the book that the bytes are: what came of the request, and the link of the one that its OrigClOrdID names
+abbrev pub request·outcome : ℕ
+request·outcome = 103
+
+abbrev pub request·origin : ℕ
+request·origin = 104

@@ -1,6 +1,6 @@
 -- A request's record: what its bytes say, and the bytes that say it. Rests on Layout and Cells.
 use mathlib.Core.Path.{_≡_}
-use mathlib.Core.List.{List, [], _∷_}
+use mathlib.Core.List.{List, [], _∷_, _++_}
 use Prim.Native.Nat.{ℕ, _<_}
 use lib.ListN.{getD, replicate}
 use Rattle.prelude.specs.Number.{word16, bytesOf}
@@ -30,23 +30,27 @@ pub record IsRequest (s : List ℕ) (r : Request) : Type 0 where
   pub origclordid : r .origclordid ≡ textAt s request·origclordid
   pub downstream : r .downstream ≡ textAt s request·downstream
 
+-- behind the fields: an outcome of 0, the origin, and 22 bytes that are written as zeros and never read
+abbrev pub besideBytes : (origin : ℕ) → List ℕ
+besideBytes origin = 0 ∷ (bytesOf 2 origin ++ replicate 22 0)
+
 -- the widths of a record's pieces, 128 bytes in all, and the pieces
 abbrev pub widthsRequest : List ℕ
 widthsRequest = 2 ∷ 1 ∷ 1 ∷ 33 ∷ 33 ∷ 33 ∷ 25 ∷ []
 
-abbrev pub piecesRequest : Request → List (List ℕ)
-piecesRequest r =
+abbrev pub piecesRequest : (origin : ℕ) → Request → List (List ℕ)
+piecesRequest origin r =
     bytesOf 2 (r .order)
     ∷ (r .kind ∷ [])
     ∷ (r .answered ∷ [])
     ∷ textBytes (r .clordid)
     ∷ textBytes (r .origclordid)
     ∷ textBytes (r .downstream)
-    ∷ replicate 25 0
+    ∷ besideBytes origin
     ∷ []
 
-unfoldable pub encodeRequest : Request → List ℕ
-encodeRequest r = joined (piecesRequest r)
+unfoldable pub encodeRequest : (origin : ℕ) → Request → List ℕ
+encodeRequest origin r = joined (piecesRequest origin r)
 
 -- the record of zeros
 abbrev pub noRequest : Request

@@ -103,4 +103,7 @@ pub const REQUEST_ORIGCLORDID: usize = 37;
 
 pub const REQUEST_DOWNSTREAM: usize = 70;
 
-pub const REQUEST_SPARE: usize = 103;
+// Beside the fields: what came of the request, and the link of the one that its OrigClOrdID names.
+pub const REQUEST_OUTCOME: usize = 103;
+
+pub const REQUEST_ORIGIN: usize = 104;

@@ -6,7 +6,7 @@ ghost use Prim.Native.Nat.{_+_, _≤_};
 ghost use Rattle.store.specs.Layout.{ordersAt};
 ghost use Rattle.store.specs.Orders.{noPending, noGateway, noNames, noOrder};
 ghost use Rattle.store.specs.Requests.{noRequest};
-ghost use Rattle.store.specs.Book.{countAt, orderCount, requestCount, settingOf, loadOrder, storeOrder, addOrder, loadRequest, storeRequest, addRequest, markAnswered, loadOpen, storeOpen, clearBook};
+ghost use Rattle.store.specs.Book.{countAt, orderCount, requestCount, settingOf, loadOrder, storeOrder, addOrder, loadRequest, addRequest, markAnswered, loadOutcome, loadOrigin, loadOpen, storeOpen, clearBook};
 use prelude::Terms;
 use prelude::Text;
 
@@ -278,22 +278,9 @@ pub fn load_request(book: &[u8], i: usize) -> Request
     requests::read(book, i)
 }
 
-// Writes record i, or nothing where there is no such record.
-pub fn store_request(book: &mut [u8], i: usize, r: Request)
-    ensures { λ _. ⌜ now (book .exit) ≡ storeRequest (now (book .entry)) i r ⌝ }
-{
-    if book.len() != layout::BOOK {
-        return;
-    }
-    if i >= layout::MOST_REQUESTS {
-        return;
-    }
-    requests::write(book, i, r);
-}
-
-// Writes a request behind those in use, or nothing where the table is full.
-pub fn add_request(book: &mut [u8], r: Request)
-    ensures { λ _. ⌜ now (book .exit) ≡ addRequest (now (book .entry)) r ⌝ }
+// Writes a request behind those in use, with its origin, or nothing where the table is full.
+pub fn add_request(book: &mut [u8], origin: u16, r: Request)
+    ensures { λ _. ⌜ now (book .exit) ≡ addRequest (now (book .entry)) origin r ⌝ }
 {
     if book.len() != layout::BOOK {
         return;
@@ -302,13 +289,43 @@ pub fn add_request(book: &mut [u8], r: Request)
     if n >= layout::MOST_REQUESTS {
         return;
     }
-    requests::write(book, n, r);
+    requests::write(book, n, origin, r);
     cells::put16(book, layout::REQUEST_COUNT, (n + 1) as u16);
 }
 
-// Sets the answered byte of request i, or nothing where there is no such record.
-pub fn mark_answered(book: &mut [u8], i: usize)
-    ensures { λ _. ⌜ now (book .exit) ≡ markAnswered (now (book .entry)) i ⌝ }
+// What came of request i, or 0 where there is no such record.
+pub fn load_outcome(book: &[u8], i: usize) -> u8
+    ensures { λ r. ⌜ r ≡ loadOutcome (now (book .entry)) i ⌝ }
+{
+    if book.len() != layout::BOOK {
+        return 0;
+    }
+    if i >= layout::MOST_REQUESTS {
+        return 0;
+    }
+    book[layout::REQUESTS + i * layout::REQUEST + layout::REQUEST_OUTCOME]
+}
+
+// The origin of request i, or 0 where there is no such record.
+pub fn load_origin(book: &[u8], i: usize) -> u16
+    ensures { λ r. ⌜ r ≡ loadOrigin (now (book .entry)) i ⌝ }
+{
+    if book.len() != layout::BOOK {
+        return 0;
+    }
+    if i >= layout::MOST_REQUESTS {
+        return 0;
+    }
+    cells::get16(
+        book,
+        layout::REQUESTS + i * layout::REQUEST + layout::REQUEST_ORIGIN,
+    )
+}
+
+// Sets the answered byte of request i, and the outcome where that was not set; or nothing where
+// there is no such record.
+pub fn mark_answered(book: &mut [u8], i: usize, outcome: u8)
+    ensures { λ _. ⌜ now (book .exit) ≡ markAnswered (now (book .entry)) i outcome ⌝ }
 {
     if book.len() != layout::BOOK {
         return;
@@ -316,7 +333,7 @@ pub fn mark_answered(book: &mut [u8], i: usize)
     if i >= layout::MOST_REQUESTS {
         return;
     }
-    requests::mark(book, i);
+    requests::mark(book, i, outcome);
 }
 
 // The word of order i's place behind the tables, or 0 where there is no such place.

@@ -56,7 +56,7 @@ fn store_orders(book: &mut [u8]) {
 fn add_requests(book: &mut [u8]) {
     let mut j: u16 = 0;
     while j < 256 {
-        store::add_request(book, request(j, 0));
+        store::add_request(book, j, request(j, 0));
         j += 1;
     }
 }
@@ -64,7 +64,7 @@ fn add_requests(book: &mut [u8]) {
 fn mark_requests(book: &mut [u8]) {
     let mut j: u16 = 0;
     while j < 256 {
-        store::mark_answered(book, j as usize);
+        store::mark_answered(book, j as usize, 2);
         j += 1;
     }
 }
@@ -160,7 +160,7 @@ fn changed(book: &mut [u8]) {
 // A full table takes no more.
 fn full(book: &mut [u8]) {
     store::add_order(book, order(64, 2));
-    store::add_request(book, request(256, 1));
+    store::add_request(book, 0, request(256, 1));
     line(b"orders when full ", store::order_count(book) as u64);
     line(b"requests when full ", store::request_count(book) as u64);
 }

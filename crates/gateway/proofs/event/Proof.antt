@@ -16,11 +16,13 @@ returns-2 c =
     let o = a .before .before .before .before .before in
     let q = o .before .before .before .before in
     let p = q .before .before .before .before in
-    let n = p .before .before in
+    let g = p .before .before in
+    let s = g .before .before in
+    let n = s .before in
     let v = n .before .before in
     let w = v .before in
-    left-0 _ _ _ _ (w .before .before .call-of .ensures) (eq-eqb _ _ (w .if1 .left)) _ _ _ _ _ _ (v .leaves-qty .ensures) (n .opening .ensures) (p .place-order .ensures) (q .place-requests .ensures)
-    (o .place-open .ensures) (a .write-answer .ensures .1)
+    left-0 _ _ _ _ (w .before .before .call-of .ensures) (eq-eqb _ _ (w .if1 .left)) _ _ _ _ _ _ _ _ (v .leaves-qty .ensures) (n .opening .ensures) (s .outcome .ensures)
+    (g .origin .ensures) (p .place-order .ensures) (q .place-requests .ensures) (o .place-open .ensures) (a .write-answer .ensures .1)
 
 pub event-spec : {M : Type 1} → statement M
 event-spec =
@@ -30,6 +32,8 @@ event-spec =
     (λ c. search needs)
     (λ c. search needs)
     returns
+    (λ c κs. search needs)
+    (λ c κs. search needs)
     (λ c κs. search needs)
     (λ c κs. search needs)
     (λ c κs. search needs)

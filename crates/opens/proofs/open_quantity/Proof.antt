@@ -1,7 +1,7 @@
 -- `open_quantity` is `openCall`: refused, or the word of the client's first order, or 0. Assumes nothing.
 use mathlib.Core.Path.{sym, _∙_}
 use borrow.Author.Tests.{not-true, not-false}
-use Rattle.opens.specs.Laws.Found.{found-at, found-none}
+use Rattle.outcomes.specs.Laws.Found.{found-at, found-none}
 use Rattle.opens.specs.Laws.Keeps.{call-bad, call-found, call-none}
 use borrow.Author.Needs.{needs}
 use Rattle.opens.proofs.open_quantity.Statement.{statement}

@@ -1,6 +1,6 @@
 -- `opening` is `openingOf`: the word of the client's first order, or of the order that is added. Assumes nothing.
 use mathlib.Core.Path.{sym, _∙_}
-use Rattle.opens.specs.Laws.Found.{found-at, found-none}
+use Rattle.outcomes.specs.Laws.Found.{found-at, found-none}
 use Rattle.opens.specs.Laws.Moved.{by-found, by-none}
 use borrow.Author.Needs.{needs}
 use Rattle.opens.proofs.opening.Statement.{statement}

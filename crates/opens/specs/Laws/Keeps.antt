@@ -1,4 +1,4 @@
--- What a caller has of a book that keeps its rules, and the call as the code comes to it. Rests on rules' laws and Sums.
+-- What a caller has of a book that keeps its rules, and the call as the code comes to it. Rests on rules' laws, outcomes and Sums.
 use Prim.Native.Nat.{ℕ, _≤_}
 use mathlib.Core.Path.{_≡_, refl, sym, ap, _∙_}
 use mathlib.Core.Bool.{Bool, true, false, _&&_}
@@ -15,40 +15,52 @@ use Rattle.machine.specs.Exchange.{openOf}
 use Rattle.machine.specs.Rules.{rules}
 use Rattle.rules.specs.Ruled.{ruledOf}
 use Rattle.rules.specs.Laws.Ruled.{Held, ruled-held, held-ruled}
+use Rattle.outcomes.specs.Outcomes.{outcomesRight}
 use Rattle.opens.specs.Opens.{storedOpen, opensRight}
 use Rattle.opens.specs.Keeps.{keepsOf, opened, openCall}
 use Rattle.opens.specs.Laws.Sums.{client-at, stored-right}
 
 module _ (b : List ℕ) where
   module _ (e : keepsOf b ≡ true) where
-    keeps-both : (ruledOf b ≡ true) × (opensRight b ≡ true)
+    keeps-parts : (ruledOf b ≡ true) × (opensRight b ≡ true) × (outcomesRight b ≡ true)
     unfolding keepsOf
-    keeps-both = both-true (ruledOf b) (opensRight b) e
+    keeps-parts =
+        let p = both-true (ruledOf b && opensRight b) (outcomesRight b) e in
+        let q = both-true (ruledOf b) (opensRight b) (p .0) in
+        (q .0, q .1, p .1)
 
     -- THE LAWS for callers
     pub keeps-held : Held b
-    keeps-held = ruled-held b (keeps-both .0)
+    keeps-held = ruled-held b (keeps-parts .0)
 
     pub keeps-opens : opensRight b ≡ true
-    keeps-opens = keeps-both .1
+    keeps-opens = keeps-parts .1
+
+    pub keeps-outcomes : outcomesRight b ≡ true
+    keeps-outcomes = keeps-parts .2
 
     pub keeps-stored : (client : ℕ) → storedOpen b client ≡ openOf (bookOf b) client
     keeps-stored client = stored-right b keeps-opens client
 
   -- and their converse
   pub held-keeps : length b ≡ bookSize → word16 b header·orders ≤ mostOrders → word16 b header·requests ≤ mostRequests → rules (bookOf b) ≡ true → opensRight b ≡ true
-      → keepsOf b ≡ true
+      → outcomesRight b ≡ true → keepsOf b ≡ true
   unfolding keepsOf
-  held-keeps l n m r o = both-hold (ruledOf b) (opensRight b) (held-ruled b l n m r) o
+  held-keeps l n m r o t = both-hold (ruledOf b && opensRight b) (outcomesRight b) (both-hold (ruledOf b) (opensRight b) (held-ruled b l n m r) o) t
 
   -- as it is decided
   pub keeps-not : ruledOf b ≡ false → keepsOf b ≡ false
   unfolding keepsOf
-  keeps-not e = ap (λ (t : Bool). t && opensRight b) e
+  keeps-not e = ap (λ (t : Bool). t && opensRight b && outcomesRight b) e
 
-  pub keeps-then : ruledOf b ≡ true → keepsOf b ≡ opensRight b
-  unfolding keepsOf
-  keeps-then e = ap (λ (t : Bool). t && opensRight b) e
+  module _ (e : ruledOf b ≡ true) where
+    pub keeps-nor : opensRight b ≡ false → keepsOf b ≡ false
+    unfolding keepsOf
+    keeps-nor o = rw (e, o)
+
+    pub keeps-then : opensRight b ≡ true → keepsOf b ≡ outcomesRight b
+    unfolding keepsOf
+    keeps-then o = rw (e, o)
 
   -- ---- the call
 

@@ -25,7 +25,7 @@ wordsAgree s x y =
 
 module _ (s : List ℕ) (bytes : Bytes s) (x y : ℕ) (hx : x + 33 ≤ length s) (hy : y + 33 ≤ length s) where
   -- THE LAW of two texts compared by words
-  same-here : eqb (getD s (x + 32) 0) (getD s (y + 32) 0) && wordsAgree s x y ≡ sameText (textAt s x) (textAt s y)
+  pub same-here : eqb (getD s (x + 32) 0) (getD s (y + 32) 0) && wordsAgree s x y ≡ sameText (textAt s x) (textAt s y)
   same-here =
       rw (sym (word-first s y), sym (word-in s y 8 (omega arith)), sym (word-in s y 16 (omega arith)), sym (word-in s y 24 (omega arith)))
       (same-words s x (textAt s y) bytes hx (length-span s y 32 (omega arith)) (bytes-span s y 32 bytes))

@@ -1,4 +1,4 @@
--- What a lookup finds, and that its index and the order of a request fit the code's numbers. Rests on store's lookups and opens' Keeps.
+-- What a lookup finds, and that its index and the order of a request fit the code's numbers. Rests on store's lookups, outcomes' Found and opens' Keeps.
 use mathlib.Core.Path.{_≡_, refl, sym, ap, _∙_}
 use mathlib.Core.Bool.{true, false}
 use mathlib.Core.Option.{Option}
@@ -21,7 +21,7 @@ use Rattle.store.specs.Orders.{noOrder}
 use Rattle.machine.specs.Changes.{Event}
 use Rattle.machine.specs.Machine.{orderOf, unused}
 use Rattle.opens.specs.Keeps.{keepsOf}
-use Rattle.opens.specs.Laws.Found.{found-at, found-none}
+use Rattle.outcomes.specs.Laws.Found.{found-at, found-none}
 use Rattle.opens.specs.Laws.Keeps.{keeps-held}
 use Rattle.machine.proofs.Kept.Lift.{book-kept}
 

@@ -1,6 +1,6 @@
 -- What every function keeps, on any buffer: its length, and that its elements are bytes. Rests on Laws.
 use mathlib.Core.Path.{_≡_, refl, sym, _∙_}
-use mathlib.Core.List.{List, [], _∷_}
+use mathlib.Core.List.{List, [], _∷_, _++_}
 use Prim.Native.Nat.{ℕ, _+_, _≤_, _<_}
 use native.Mathlib.Omega.{arith}
 use lib.Dec.{eqb}
@@ -14,11 +14,11 @@ use Rattle.prelude.specs.declared.Text.{Text}
 use Rattle.store.specs.declared.GatewayCancel.{GatewayCancel}
 use Rattle.store.specs.declared.Order.{Order}
 use Rattle.store.specs.declared.Request.{Request}
-use Rattle.store.specs.Layout.{bookSize, header·orders, header·requests, header·setting, ordersAt, mostOrders, mostRequests, requestBase, request·answered, openBase}
+use Rattle.store.specs.Layout.{bookSize, header·orders, header·requests, header·setting, ordersAt, mostOrders, mostRequests, requestBase, request·answered, request·outcome, openBase}
 use Rattle.store.specs.Cells.{textBytes}
 use Rattle.store.specs.Orders.{FitsOrder, stageOf, encodeOrder, piecesOrder}
 use Rattle.store.specs.Requests.{WholeRequest, encodeRequest, piecesRequest}
-use Rattle.store.specs.Book.{putOrder, putRequest, orderCount, requestCount, storeOrder, storeRequest, setCount, addOrder, addRequest, markAnswered, storeOpen, blank}
+use Rattle.store.specs.Book.{requestAt, putOrder, putRequest, orderCount, requestCount, storeOrder, setCount, addOrder, addRequest, settledAs, settle, markAnswered, storeOpen, blank}
 use Rattle.store.specs.Laws.Tables.{length-put-order, length-put-request}
 use Rattle.store.specs.Laws.Stored.{in-table}
 
@@ -40,11 +40,11 @@ bytes-order o h =
     bytes-joined (piecesOrder o)
     (bytes-of 2 (o .client), (bytes-of 2 (o .venue), (bytes-text (o .names .name) (h .names .name), (bytes-text (o .names .clordid) (h .names .clordid), (bytes-text (o .names .downstream) (h .names .downstream), (bytes-text (o .names .symbol) (h .names .symbol), (bytes-text (o .names .venueorderid) (h .names .venueorderid), (bytes-one (o .terms .side) (h .terms .side), (bytes-one (o .terms .ordtype) (h .terms .ordtype), (bytes-one (o .terms .timeinforce) (h .terms .timeinforce), (bytes-of 8 (o .terms .qty), (bytes-of 8 (o .terms .price), (bytes-one (o .state .status) (h .state .status), (bytes-of 8 (o .state .cumqty), (bytes-of 8 (o .state .avgpx), (bytes-of 8 (o .state .execseq), (bytes-of 2 (o .links .amendments), (bytes-of 2 (o .links .current), (bytes-of 2 (o .links .cancel), (bytes-of 2 (o .pending .request), (bytes-of 8 (o .pending .qty), (bytes-of 8 (o .pending .price), (bytes-one (o .pending .ordtype) (h .pending .ordtype), (bytes-one (o .pending .timeinforce) (h .pending .timeinforce), (bytes-one (stageOf (o .gateway)) (stage-small (o .gateway)), (bytes-one (o .gateway .tries) (h .gateway .tries), (bytes-of 2 (o .gateway .origdownstream), (bytes-of 4 (o .gateway .refusedsends), (bytes-zeros 9, tt)))))))))))))))))))))))))))))
 
-pub bytes-request : (r : Request) → WholeRequest r → Bytes (encodeRequest r)
+pub bytes-request : (origin : ℕ) (r : Request) → WholeRequest r → Bytes (encodeRequest origin r)
 unfolding encodeRequest
-bytes-request r h =
-    bytes-joined (piecesRequest r)
-    (bytes-of 2 (r .order), (bytes-one (r .kind) (h .kind), (bytes-one (r .answered) (h .answered), (bytes-text (r .clordid) (h .clordid), (bytes-text (r .origclordid) (h .origclordid), (bytes-text (r .downstream) (h .downstream), (bytes-zeros 25, tt)))))))
+bytes-request origin r h =
+    bytes-joined (piecesRequest origin r)
+    (bytes-of 2 (r .order), (bytes-one (r .kind) (h .kind), (bytes-one (r .answered) (h .answered), (bytes-text (r .clordid) (h .clordid), (bytes-text (r .origclordid) (h .origclordid), (bytes-text (r .downstream) (h .downstream), (bytes-append (0 ∷ []) (bytesOf 2 origin ++ zeros 22) (bytes-one 0 (omega arith)) (bytes-append (bytesOf 2 origin) (zeros 22) (bytes-of 2 origin) (bytes-zeros 22)), tt)))))))
 
 -- ---- the functions
 
@@ -71,17 +71,13 @@ module _ (b : List ℕ) (l : length b ≡ bookSize) where
   unfolding putOrder
   keeps-put-order i o h w = record { same = length-put-order b l i h o w ∙ sym l; bytes = λ g. bytes-splice b _ (encodeOrder o) g (bytes-order o w) }
 
-  keeps-put-request : (i : ℕ) (r : Request) → i < mostRequests → WholeRequest r → Keeps b (putRequest b i r)
+  keeps-put-request : (i origin : ℕ) (r : Request) → i < mostRequests → WholeRequest r → Keeps b (putRequest b i origin r)
   unfolding putRequest
-  keeps-put-request i r h w = record { same = length-put-request b l i h r w ∙ sym l; bytes = λ g. bytes-splice b _ (encodeRequest r) g (bytes-request r w) }
+  keeps-put-request i origin r h w = record { same = length-put-request b l i h origin r w ∙ sym l; bytes = λ g. bytes-splice b _ (encodeRequest origin r) g (bytes-request origin r w) }
 
 pub store-order-keeps : (b : List ℕ) (i : ℕ) (o : Order) → FitsOrder o → Keeps b (storeOrder b i o)
 unfolding storeOrder if_then_else_
 store-order-keeps b i o w = in-table (λ t. Keeps b (if t then putOrder b i o else b)) b mostOrders i (λ l h. keeps-put-order b l i o h w) (λ d. keeps-self b)
-
-pub store-request-keeps : (b : List ℕ) (i : ℕ) (r : Request) → WholeRequest r → Keeps b (storeRequest b i r)
-unfolding storeRequest if_then_else_
-store-request-keeps b i r w = in-table (λ t. Keeps b (if t then putRequest b i r else b)) b mostRequests i (λ l h. keeps-put-request b l i r h w) (λ d. keeps-self b)
 
 pub add-order-keeps : (b : List ℕ) (o : Order) → FitsOrder o → Keeps b (addOrder b o)
 unfolding addOrder if_then_else_
@@ -91,19 +87,34 @@ add-order-keeps b o w =
     (keeps-count (putOrder b (orderCount b) o) (length-put-order b l (orderCount b) h o w) header·orders (orderCount b + 1) (omega arith)))
     (λ d. keeps-self b)
 
-pub add-request-keeps : (b : List ℕ) (r : Request) → WholeRequest r → Keeps b (addRequest b r)
+pub add-request-keeps : (b : List ℕ) (origin : ℕ) (r : Request) → WholeRequest r → Keeps b (addRequest b origin r)
 unfolding addRequest if_then_else_
-add-request-keeps b r w =
-    in-table (λ t. Keeps b (if t then setCount (putRequest b (requestCount b) r) header·requests (requestCount b + 1) else b)) b mostRequests (requestCount b)
-    (λ l h. keeps-more b (putRequest b (requestCount b) r) (setCount (putRequest b (requestCount b) r) header·requests (requestCount b + 1)) (keeps-put-request b l (requestCount b) r h w)
-    (keeps-count (putRequest b (requestCount b) r) (length-put-request b l (requestCount b) h r w) header·requests (requestCount b + 1) (omega arith)))
+add-request-keeps b origin r w =
+    let n : ℕ = requestCount b in
+    let d : List ℕ = putRequest b n origin r in
+    in-table (λ t. Keeps b (if t then setCount d header·requests (n + 1) else b)) b mostRequests n
+    (λ l h. keeps-more b d (setCount d header·requests (n + 1)) (keeps-put-request b l n origin r h w)
+    (keeps-count d (length-put-request b l n h origin r w) header·requests (n + 1) (omega arith)))
     (λ d. keeps-self b)
 
-pub mark-keeps : (b : List ℕ) (i : ℕ) → Keeps b (markAnswered b i)
+-- the outcome that is there, or one that is a byte
+settled-small : (b : List ℕ) (i outcome : ℕ) → outcome < 256 → Bytes b → settledAs b i outcome < 256
+unfolding settledAs
+settled-small b i outcome h bytes = split-if (λ n. n < 256) (eqb (requestAt b i .answered) 0) (λ e. h) (λ e. bytes (requestBase i + request·outcome))
+
+pub mark-keeps : (b : List ℕ) (i outcome : ℕ) → outcome < 256 → Keeps b (markAnswered b i outcome)
 unfolding markAnswered if_then_else_
-mark-keeps b i =
-    in-table (λ t. Keeps b (if t then splice b (requestBase i + request·answered) (1 ∷ []) else b)) b mostRequests i
-    (λ l h. keeps-splice b (requestBase i + request·answered) (1 ∷ []) (omega arith) (bytes-one 1 (omega arith)))
+mark-keeps b i outcome small =
+    let d : List ℕ = splice b (requestBase i + request·answered) (1 ∷ []) in
+    in-table (λ t. Keeps b (if t then settle b i outcome else b)) b mostRequests i
+    (λ l h.
+    let m : length d ≡ length b = length-splice b (requestBase i + request·answered) (1 ∷ []) (omega arith) in
+    record {
+      same = length-splice d (requestBase i + request·outcome) (settledAs b i outcome ∷ []) (omega arith) ∙ m;
+      bytes = λ g.
+          bytes-splice d (requestBase i + request·outcome) (settledAs b i outcome ∷ [])
+          (bytes-splice b (requestBase i + request·answered) (1 ∷ []) g (bytes-one 1 (omega arith))) (bytes-one (settledAs b i outcome) (settled-small b i outcome small g));
+    })
     (λ d. keeps-self b)
 
 pub store-open-keeps : (b : List ℕ) (i n : ℕ) → Keeps b (storeOpen b i n)

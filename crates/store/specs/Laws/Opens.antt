@@ -13,13 +13,14 @@ use Rattle.prelude.specs.Number.{bound, bytesOf}
 use Rattle.prelude.specs.Span.{span, splice, length-splice, span-splice-same, span-splice-before, span-splice-after}
 use Rattle.store.specs.declared.Order.{Order}
 use Rattle.store.specs.declared.Request.{Request}
-use Rattle.store.specs.Layout.{bookSize, header·orders, header·requests, header·setting, orderSize, mostOrders, requestSize, mostRequests, orderBase, requestBase, opensAt, openSize, openBase, request·answered}
+use Rattle.store.specs.Layout.{bookSize, header·orders, header·requests, header·setting, orderSize, mostOrders, requestSize, mostRequests, orderBase, requestBase, opensAt, openSize, openBase}
 use Rattle.store.specs.Orders.{FitsOrder, decodeOrder}
 use Rattle.store.specs.Requests.{WholeRequest, decodeRequest}
-use Rattle.store.specs.Book.{orderAt, putOrder, requestAt, putRequest, orderCount, requestCount, bookOf, setCount, storeOrder, addOrder, addRequest, markAnswered, openAt, loadOpen, storeOpen}
+use Rattle.store.specs.Book.{orderAt, putOrder, requestAt, putRequest, orderCount, requestCount, bookOf, setCount, storeOrder, addOrder, addRequest, settle, markAnswered, openAt, loadOpen, storeOpen}
 use Rattle.store.specs.Laws.Cells.{read-64, same-64}
 use Rattle.store.specs.Laws.Tables.{same-count, same-setting, length-put-order, span-put-order, length-put-request, span-put-request, length-set-count, span-set-count}
 use Rattle.store.specs.Laws.Stored.{count-book, count-most, in-table}
+use Rattle.store.specs.Laws.Adds.{length-settle, span-settle}
 
 -- a word whose bytes are as they were
 same-open : (b d : List ℕ) → length b ≡ bookSize → length d ≡ bookSize → (j : ℕ) → j < mostOrders → span d (openBase j) openSize ≡ span b (openBase j) openSize → openAt d j ≡ openAt b j
@@ -119,24 +120,21 @@ module _ (b : List ℕ) (j : ℕ) (k : j < mostOrders) where
       ∙ same-open b d l m j k (span-put-order b l n h o w (openBase j) openSize (inr (omega arith))))
       (λ d. refl)
 
-  pub add-request-open : (r : Request) → WholeRequest r → openAt (addRequest b r) j ≡ openAt b j
+  pub add-request-open : (origin : ℕ) (r : Request) → WholeRequest r → openAt (addRequest b origin r) j ≡ openAt b j
   unfolding addRequest if_then_else_
-  add-request-open r w =
+  add-request-open origin r w =
       let n : ℕ = requestCount b in
-      in-table (λ t. openAt (if t then setCount (putRequest b n r) header·requests (n + 1) else b) j ≡ openAt b j) b mostRequests n
+      in-table (λ t. openAt (if t then setCount (putRequest b n origin r) header·requests (n + 1) else b) j ≡ openAt b j) b mostRequests n
       (λ l h.
-      let d : List ℕ = putRequest b n r in
-      let m : length d ≡ bookSize = length-put-request b l n h r w in
+      let d : List ℕ = putRequest b n origin r in
+      let m : length d ≡ bookSize = length-put-request b l n h origin r w in
       same-open d (setCount d header·requests (n + 1)) m (length-set-count d m header·requests (n + 1) (omega arith)) j k (span-set-count d m header·requests (n + 1) (omega arith) (openBase j) openSize (inr (omega arith)))
-      ∙ same-open b d l m j k (span-put-request b l n h r w (openBase j) openSize (inr (omega arith))))
+      ∙ same-open b d l m j k (span-put-request b l n h origin r w (openBase j) openSize (inr (omega arith))))
       (λ d. refl)
 
-  pub mark-open : (i : ℕ) → openAt (markAnswered b i) j ≡ openAt b j
+  pub mark-open : (i outcome : ℕ) → openAt (markAnswered b i outcome) j ≡ openAt b j
   unfolding markAnswered if_then_else_
-  mark-open i =
-      in-table (λ t. openAt (if t then splice b (requestBase i + request·answered) (1 ∷ []) else b) j ≡ openAt b j) b mostRequests i
-      (λ l h.
-      let d : List ℕ = splice b (requestBase i + request·answered) (1 ∷ []) in
-      same-open b d l (length-splice b (requestBase i + request·answered) (1 ∷ []) (omega arith) ∙ l) j k
-      (span-splice-after b (requestBase i + request·answered) (1 ∷ []) (openBase j) openSize (omega arith) (omega arith)))
+  mark-open i outcome =
+      in-table (λ t. openAt (if t then settle b i outcome else b) j ≡ openAt b j) b mostRequests i
+      (λ l h. same-open b (settle b i outcome) l (length-settle b l i h outcome) j k (span-settle b l i h outcome (openBase j) openSize (inr (omega arith))))
       (λ d. refl)

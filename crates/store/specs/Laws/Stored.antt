@@ -21,7 +21,7 @@ use Rattle.store.specs.Orders.{FitsOrder, WholeOrder, noOrder}
 use Rattle.store.specs.Laws.Orders.{fits-order, whole-order}
 use Rattle.store.specs.Requests.{WholeRequest, noRequest}
 use Rattle.store.specs.Laws.Requests.{whole-request}
-use Rattle.store.specs.Book.{orderIn, requestIn, orderAt, putOrder, requestAt, putRequest, isBook, countAt, orderCount, requestCount, settingOf, bookOf, loadOrder, loadRequest, storeOrder, storeRequest, withOrder, withRequest}
+use Rattle.store.specs.Book.{orderIn, requestIn, orderAt, putOrder, requestAt, putRequest, isBook, countAt, orderCount, requestCount, settingOf, bookOf, loadOrder, loadRequest, storeOrder, withOrder}
 use Rattle.store.specs.Laws.Tables.{same-count, same-setting, length-put-order, span-put-order, order-put, order-put-other, request-put-order, length-put-request, span-put-request, request-put, request-put-other, order-put-request}
 
 -- ---- counts and records
@@ -144,42 +144,17 @@ unfolding loadOrder storeOrder if_then_else_
 load-stored-order b i o l h w =
     rw (eq-eqb _ _ l, lt-ltb _ _ h, eq-eqb _ _ (length-put-order b l i h o (w .fits))) (order-put b l i h o w)
 
--- ---- a request stored
+-- ---- a request written: the header and the orders stay
 
-module _ (b : List ℕ) (l : length b ≡ bookSize) (i : ℕ) (h : i < mostRequests) (r : Request) (w : WholeRequest r) where
-  pub put-request-count : (at most : ℕ) → at + 2 ≤ ordersAt → countAt at most (putRequest b i r) ≡ countAt at most b
+module _ (b : List ℕ) (l : length b ≡ bookSize) (i : ℕ) (h : i < mostRequests) (origin : ℕ) (r : Request) (w : WholeRequest r) where
+  pub put-request-count : (at most : ℕ) → at + 2 ≤ ordersAt → countAt at most (putRequest b i origin r) ≡ countAt at most b
   put-request-count at most k =
-      same-count b (putRequest b i r) l (length-put-request b l i h r w) at most k (span-put-request b l i h r w at 2 (inl (omega arith)))
+      same-count b (putRequest b i origin r) l (length-put-request b l i h origin r w) at most k (span-put-request b l i h origin r w at 2 (inl (omega arith)))
 
-  pub put-request-setting : settingOf (putRequest b i r) ≡ settingOf b
-  put-request-setting = same-setting b (putRequest b i r) l (length-put-request b l i h r w) (span-put-request b l i h r w header·setting 4 (inl (omega arith)))
+  pub put-request-setting : settingOf (putRequest b i origin r) ≡ settingOf b
+  put-request-setting = same-setting b (putRequest b i origin r) l (length-put-request b l i h origin r w) (span-put-request b l i h origin r w header·setting 4 (inl (omega arith)))
 
-  pub put-request-orders : listBelow (orderAt (putRequest b i r)) (orderCount (putRequest b i r)) ≡ listBelow (orderAt b) (orderCount b)
+  pub put-request-orders : listBelow (orderAt (putRequest b i origin r)) (orderCount (putRequest b i origin r)) ≡ listBelow (orderAt b) (orderCount b)
   put-request-orders =
-      ap (listBelow (orderAt (putRequest b i r))) (put-request-count header·orders mostOrders (omega arith))
-      ∙ list-ext (orderAt (putRequest b i r)) (orderAt b) (orderCount b) (λ k m. order-put-request b l i h r w k (omega (arith, count-most header·orders mostOrders b)))
-
-  pub put-request-book : bookOf (putRequest b i r) ≡ withRequest (bookOf b) i r
-  unfolding bookOf
-  put-request-book = λ t. record {
-    setting = put-request-setting t;
-    orders = put-request-orders t;
-    requests =
-        (ap (listBelow (requestAt (putRequest b i r))) (put-request-count header·requests mostRequests (omega arith))
-        ∙ list-set-any (requestAt b) (requestAt (putRequest b i r)) (requestCount b) i r (λ k. request-put b l i h r w)
-        (λ k n m. request-put-other b l i h r w k n)) t;
-  }
-
--- THE LAW of a stored request: on any buffer, at any index
-pub store-request-book : (b : List ℕ) (i : ℕ) (r : Request) → WholeRequest r → bookOf (storeRequest b i r) ≡ withRequest (bookOf b) i r
-unfolding storeRequest if_then_else_
-store-request-book b i r w =
-    in-table (λ t. bookOf (if t then putRequest b i r else b) ≡ withRequest (bookOf b) i r) b mostRequests i (λ l h. put-request-book b l i h r w) (λ d. sym (out d))
-  where
-    out : ((length b ≡ bookSize → ⊥) ⊎ (mostRequests ≤ i)) → withRequest (bookOf b) i r ≡ bookOf b
-    out d = λ t. record { setting = bookOf b .setting; orders = bookOf b .orders; requests = set-out (bookOf b .requests) i r (omega (arith, length-requests b, count-out header·requests mostRequests b i d)) t }
-
-pub load-stored-request : (b : List ℕ) (i : ℕ) (r : Request) → length b ≡ bookSize → i < mostRequests → WholeRequest r → loadRequest (storeRequest b i r) i ≡ r
-unfolding loadRequest storeRequest if_then_else_
-load-stored-request b i r l h w =
-    rw (eq-eqb _ _ l, lt-ltb _ _ h, eq-eqb _ _ (length-put-request b l i h r w)) (request-put b l i h r w)
+      ap (listBelow (orderAt (putRequest b i origin r))) (put-request-count header·orders mostOrders (omega arith))
+      ∙ list-ext (orderAt (putRequest b i origin r)) (orderAt b) (orderCount b) (λ k m. order-put-request b l i h origin r w k (omega (arith, count-most header·orders mostOrders b)))

@@ -59,24 +59,24 @@ order-put b l i h o w =
 
 -- ---- a request written
 
-module _ (b : List ℕ) (l : length b ≡ bookSize) (i : ℕ) (h : i < mostRequests) (r : Request) (w : WholeRequest r) where
-  pub length-put-request : length (putRequest b i r) ≡ bookSize
+module _ (b : List ℕ) (l : length b ≡ bookSize) (i : ℕ) (h : i < mostRequests) (origin : ℕ) (r : Request) (w : WholeRequest r) where
+  pub length-put-request : length (putRequest b i origin r) ≡ bookSize
   unfolding putRequest
-  length-put-request = length-put-row requestsAt requestSize mostRequests encodeRequest b (omega arith) i h r (length-request r w) ∙ l
+  length-put-request = length-put-row requestsAt requestSize mostRequests (encodeRequest origin) b (omega arith) i h r (length-request origin r w) ∙ l
 
-  pub span-put-request : (at n : ℕ) → (at + n ≤ requestsAt) ⊎ (requestBase mostRequests ≤ at) → span (putRequest b i r) at n ≡ span b at n
+  pub span-put-request : (at n : ℕ) → (at + n ≤ requestsAt) ⊎ (requestBase mostRequests ≤ at) → span (putRequest b i origin r) at n ≡ span b at n
   unfolding putRequest
-  span-put-request at n d = span-put-row requestsAt requestSize mostRequests encodeRequest b (omega arith) i h r (length-request r w) at n d
+  span-put-request at n d = span-put-row requestsAt requestSize mostRequests (encodeRequest origin) b (omega arith) i h r (length-request origin r w) at n d
 
-  pub request-put : requestAt (putRequest b i r) i ≡ r
+  pub request-put : requestAt (putRequest b i origin r) i ≡ r
   unfolding putRequest requestAt
-  request-put = row-put requestsAt requestSize mostRequests encodeRequest b (omega arith) i h r (length-request r w) decodeRequest (decode-request r w)
+  request-put = row-put requestsAt requestSize mostRequests (encodeRequest origin) b (omega arith) i h r (length-request origin r w) decodeRequest (decode-request origin r w)
 
-  pub request-put-other : (j : ℕ) → (i ≡ j → ⊥) → requestAt (putRequest b i r) j ≡ requestAt b j
+  pub request-put-other : (j : ℕ) → (i ≡ j → ⊥) → requestAt (putRequest b i origin r) j ≡ requestAt b j
   unfolding putRequest requestAt
-  request-put-other j n = row-put-other requestsAt requestSize mostRequests encodeRequest b (omega arith) i h r (length-request r w) decodeRequest j n
+  request-put-other j n = row-put-other requestsAt requestSize mostRequests (encodeRequest origin) b (omega arith) i h r (length-request origin r w) decodeRequest j n
 
-  pub order-put-request : (j : ℕ) → j < mostOrders → orderAt (putRequest b i r) j ≡ orderAt b j
+  pub order-put-request : (j : ℕ) → j < mostOrders → orderAt (putRequest b i origin r) j ≡ orderAt b j
   unfolding orderAt
   order-put-request j k = ap decodeOrder (span-put-request (orderBase j) orderSize (inl (omega arith)))
 

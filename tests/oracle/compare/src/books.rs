@@ -7,7 +7,7 @@ use model::codes::{ORD_TYPES, SIDES, STATUSES, TIMES_IN_FORCE, is_done};
 use model::machine::{BOOK_BYTES, MOST_ORDERS, MOST_REQUESTS};
 use model::numbers::{MAX_PRICE, MAX_QTY};
 
-use crate::keeps::opens;
+use crate::keeps::{opens, origin};
 use crate::layout::{self, Book, Order, Request, Text};
 use crate::mirror::{self, Sending};
 
@@ -24,6 +24,9 @@ const FULL_SEED: u64 = 99;
 fn bytes(book: &Book, random: &mut Random) -> Vec<u8> {
     let mut bytes: Vec<u8> = (0..BOOK_BYTES / 8).flat_map(|_| random.next().to_le_bytes()).collect();
     book.write(&mut bytes);
+    for at in layout::spare(book) {
+        bytes[at] = random.next() as u8;
+    }
     bytes
 }
 
@@ -107,6 +110,7 @@ pub fn random(random: &mut Random) -> Vec<u8> {
         book.requests.push(request(index, owner, number, &name, random));
     }
     (0..orders).for_each(|index| link(&mut book, index, random));
+    (0..book.requests.len()).for_each(|index| settle(&mut book, index, random));
     book.opens = opens(&book);
     bytes(&book, random)
 }
@@ -192,6 +196,24 @@ fn request(index: usize, owner: u64, number: usize, name: &[u8], random: &mut Ra
         cl_ord_id: if kind == layout::GATEWAY_CANCEL { Text::new(b"") } else { Text::new(&cl_ord_id) },
         orig_cl_ord_id: if amends { any_text(random, 1, 32) } else { Text::new(b"") },
         downstream: Text::new(&downstream),
+        outcome: 0,
+        origin: 0,
+    }
+}
+
+/// What the request came to, where it is answered, and which request of its order that stands before it its OrigClOrdID names.
+fn settle(book: &mut Book, index: usize, random: &mut Random) {
+    let request = &book.requests[index];
+    let own = |other: &&Request| other.order == request.order && other.kind != layout::GATEWAY_CANCEL;
+    let names: Vec<Text> = book.requests[..index].iter().filter(own).map(|other| other.cl_ord_id).collect();
+    let outcome = if request.answered == 0 { 0 } else { random.range(1, 3) };
+    let amends = request.orig_cl_ord_id.length > 0;
+    let named = amends.then(|| if random.chance(50) { names[names.len() - 1] } else { *random.pick(&names) });
+    let request = &mut book.requests[index];
+    request.outcome = outcome;
+    if let Some(named) = named {
+        request.orig_cl_ord_id = named;
+        book.requests[index].origin = origin(book, index).expect("it is there");
     }
 }
 

@@ -1,6 +1,6 @@
 //! A library's calls against the model: what `needs` says before each event; of the event refusal, answer bytes, bytes past
 //! the length, nothing written by a refused event, every field of the book by docs/LAYOUT.md and
-//! no other byte of it, `check` 0, the evening page, the clients' open quantities and their nets
+//! no other byte of it, `check` 0, the evening page, the clients' open quantities and their nets, chains of ClOrdIDs
 //! after each event, events on copies of the book, and demand 3 and the nets counted from the
 //! messages.
 
@@ -13,6 +13,7 @@ use model::machine::{ANSWER_BYTES, BOOK_BYTES};
 use model::watch::Watched;
 
 use crate::books;
+use crate::chains;
 use crate::entries::{Entries, Needs};
 use crate::expected::{self, Lent};
 use crate::keeps::broken;
@@ -135,9 +136,11 @@ pub fn compare(
             let chains = (0..CHAINS).filter_map(|_| probes::draw(&watched.machine, &mut random));
             probe(&caller, &watched.machine, chains).map_err(found(at))?;
             damaged(&caller, &item.record, &mut random).map_err(found(at))?;
+            chains::hold_all(entries, &caller.book, &watched.machine).map_err(found(at))?;
         }
     }
     let last = list.items.len().saturating_sub(1);
+    chains::hold_all(entries, &caller.book, &watched.machine).map_err(found(last))?;
     let chains = if probing.at_end { probes::all(&watched.machine) } else { Vec::new() };
     probe(&caller, &watched.machine, chains.into_iter()).map_err(found(last))
 }
@@ -185,7 +188,8 @@ pub fn compare_built(
             tally.add(&item.record, &outcome, &watched.machine);
         }
     }
-    Ok(())
+    let last = built.list.items.len().saturating_sub(1);
+    chains::hold_all(entries, &caller.book, &watched.machine).map_err(found(last))
 }
 
 /// An event on a book that keeps its rules, whether events lead there or not.

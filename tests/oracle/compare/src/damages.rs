@@ -1,5 +1,6 @@
 //! Damages to a book's bytes: each byte, each field at its limits, pairs, records swapped, copied
-//! and moved, with the links put right and without, names that come twice, and the open quantities.
+//! and moved, with the links put right and without, names that come twice, the open quantities, and
+//! outcomes and origins.
 //! Each is shown to a visitor and undone.
 
 use lists::random::Random;
@@ -7,7 +8,7 @@ use model::codes::{ORD_TYPES, STATUSES};
 use model::machine::{BOOK_BYTES, MOST_ORDERS};
 use model::numbers::{MAX_PRICE, MAX_QTY};
 
-use crate::keeps::opens;
+use crate::keeps::{opens, origin};
 use crate::layout::{self, Book, Field, Order, Request, Text};
 
 /// Damages that nearly fit are shown so many times as often.
@@ -41,7 +42,8 @@ impl<'a> Damaged<'a> {
         self.pairs()?;
         self.records()?;
         self.names()?;
-        self.opens()
+        self.opens()?;
+        self.outcomes()
     }
 
     /// Calls `show` with the numbers below `end`, or with one of so many of them.
@@ -153,8 +155,8 @@ impl<'a> Damaged<'a> {
                 }
             }
         }
-        for (index, request) in book.requests.iter().enumerate() {
-            for request in near_requests(request) {
+        for index in 0..book.requests.len() {
+            for request in near_requests(&book, index) {
                 if self.random.below(one_in) == 0 {
                     self.rewrite("a request nearly the same", |book| book.requests[index] = request)?;
                 }
@@ -291,7 +293,44 @@ impl<'a> Damaged<'a> {
         })
     }
 
-    /// Shows the book with its records rewritten, the open quantities put right; and, where they
+    /// Every outcome byte at other values, every origin as each link near it, the order's own ones and none; every OrigClOrdID
+    /// changed in each of its bytes, cut and longer; and a byte of each request's spare ones, changed.
+    fn outcomes(&mut self) -> Result<(), String> {
+        let book = self.book();
+        let one_in = self.one_in.div_ceil(MORE_NEAR);
+        for (index, request) in book.requests.iter().enumerate() {
+            let start = layout::request_at(index).start;
+            for value in [0, 1, 2, 3, 4, 255] {
+                if self.random.below(one_in) == 0 && u64::from(value) != request.outcome {
+                    self.show_byte(start + 103, value)?;
+                }
+            }
+            let own = book.requests.iter().zip(1_u64..).filter(|(other, _)| other.order == request.order);
+            let near = [0, request.origin + 1, request.origin.wrapping_sub(1), index as u64 + 1, 0xFFFF];
+            let high = [request.origin ^ 0x0100, request.origin ^ 0x8000];
+            for link in own.map(|(_, link)| link).chain(near).chain(high) {
+                if self.random.below(one_in) == 0 {
+                    let link = (link as u16).to_le_bytes();
+                    self.show("another origin", |bytes, _| {
+                        bytes[start + 104..start + 106].copy_from_slice(&link)
+                    })?;
+                }
+            }
+            for at in start + 37..start + 70 {
+                if self.random.below(one_in) == 0 {
+                    let value = self.whole[at] ^ self.random.range(1, 255) as u8;
+                    self.show_byte(at, value)?;
+                }
+            }
+            if self.random.below(one_in) == 0 {
+                let at = start + self.random.range(106, 127) as usize;
+                self.show_byte(at, self.whole[at] ^ 1)?;
+            }
+        }
+        Ok(())
+    }
+
+    /// Shows the book with its records rewritten, the open quantities and the requests' origins put right; and, where they
     /// differ now, with these as they were.
     fn rewrite(&mut self, what: &str, change: impl FnOnce(&mut Book)) -> Result<(), String> {
         let mut book = self.book();
@@ -304,6 +343,11 @@ impl<'a> Damaged<'a> {
             self.show(&format!("{what}, open quantities as they were"), |bytes, _| book.write(bytes))?;
         }
         book.opens = right;
+        let origins = origins(&book);
+        if origins.iter().zip(&book.requests).any(|(origin, request)| *origin != request.origin) {
+            self.show(&format!("{what}, origins as they were"), |bytes, _| book.write(bytes))?;
+        }
+        book.requests.iter_mut().zip(origins).for_each(|(request, origin)| request.origin = origin);
         self.show(what, |bytes, _| book.write(bytes))
     }
 }
@@ -359,8 +403,27 @@ fn near_orders(book: &Book, index: usize) -> Vec<Order> {
     near
 }
 
-/// The request with another mark, or of another kind with and without what goes with it.
-fn near_requests(request: &Request) -> Vec<Request> {
+/// The origin of each request, where its OrigClOrdID names one before it; else the one that it has.
+fn origins(book: &Book) -> Vec<u64> {
+    let requests = book.requests.iter().enumerate();
+    requests.map(|(index, request)| origin(book, index).unwrap_or(request.origin)).collect()
+}
+
+/// The request with another mark or outcome, or of another kind with and without what goes with it; and, where it has an
+/// OrigClOrdID, with another that is a request's of its order or, now and then, any request's.
+fn near_requests(book: &Book, index: usize) -> Vec<Request> {
+    let request = &book.requests[index];
+    let settled = (0..=4).flat_map(|outcome| (0..=1).map(move |answered| (outcome, answered)));
+    let settled = settled.map(|(outcome, answered)| Request { outcome, answered, ..request.clone() });
+    let amends = request.orig_cl_ord_id.length > 0;
+    let others = book.requests.iter().enumerate().filter(|(at, other)| {
+        amends && other.cl_ord_id.length > 0 && (other.order == request.order || (at + index) % 29 == 0)
+    });
+    let others = others.map(|(_, other)| Request { orig_cl_ord_id: other.cl_ord_id, ..request.clone() });
+    near_kinds(request).into_iter().chain(settled).chain(others).collect()
+}
+
+fn near_kinds(request: &Request) -> Vec<Request> {
     let none = Text::new(b"");
     let first = Request { kind: layout::FIRST, orig_cl_ord_id: none, ..request.clone() };
     let gateway = Request { kind: layout::GATEWAY_CANCEL, cl_ord_id: none, ..first.clone() };
@@ -427,6 +490,9 @@ fn swap_requests(book: &mut Book, one: usize, other: usize) {
         for link in [&mut order.current, &mut order.cancel, &mut order.pending, &mut order.orig_downstream] {
             *link = swapped(*link, one, other);
         }
+    }
+    for request in &mut book.requests {
+        request.origin = swapped(request.origin, one, other);
     }
 }
 

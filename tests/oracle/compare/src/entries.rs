@@ -9,6 +9,7 @@ pub type OpenQuantity = unsafe extern "C" fn(*const u8, usize, u16) -> Opened;
 pub type NetPosition = unsafe extern "C" fn(*const u8, usize, *mut u64, usize, *mut u8, usize) -> Counted;
 pub type SetMark = unsafe extern "C" fn(*const u8, usize, *const u8, usize, *mut u8, usize) -> u32;
 pub type ReturnToMark = unsafe extern "C" fn(*mut u8, usize, *const u8, usize, *const u8, usize) -> u32;
+pub type ChainCall = unsafe extern "C" fn(*const u8, usize, u16, *const u8, usize, *mut u8, usize) -> Counted;
 pub type NeedsCall = unsafe extern "C" fn(*const u8, usize, *const u8, usize) -> Needs;
 
 /// A refusal, or 0 and the number that was asked for.
@@ -51,6 +52,7 @@ pub struct Entries {
     pub needs: NeedsCall,
     pub set_mark: SetMark,
     pub return_to_mark: ReturnToMark,
+    pub chain: ChainCall,
 }
 
 // Each call lends whole slices for its time, which is all that an entry may touch.
@@ -103,6 +105,12 @@ impl Entries {
             (self.return_to_mark)(book.as_mut_ptr(), book.len(), name.as_mut_ptr(), name.len(), at, length)
         }
     }
+
+    /// The name is lent as one that may be written, so that a library that does is seen.
+    pub fn chain(&self, book: &[u8], client: u16, name: &mut [u8], list: &mut [u8]) -> Counted {
+        let (at, length) = (list.as_mut_ptr(), list.len());
+        unsafe { (self.chain)(book.as_ptr(), book.len(), client, name.as_mut_ptr(), name.len(), at, length) }
+    }
 }
 
 #[cfg(library)]
@@ -147,6 +155,15 @@ mod linked {
             places: *const u8,
             places_len: usize,
         ) -> u32;
+        pub fn chain(
+            book: *const u8,
+            book_len: usize,
+            client: u16,
+            name: *const u8,
+            name_len: usize,
+            list: *mut u8,
+            list_len: usize,
+        ) -> Counted;
     }
 }
 
@@ -163,6 +180,7 @@ pub fn library() -> Option<Entries> {
         needs: linked::needs,
         set_mark: linked::set_mark,
         return_to_mark: linked::return_to_mark,
+        chain: linked::chain,
     })
 }
 

@@ -6,12 +6,12 @@ use std::collections::BTreeSet;
 
 use lists::random::Random;
 use lists::{Generator, PROFILES};
-use model::machine::ANSWER_BYTES;
+use model::machine::{ANSWER_BYTES, MOST_REQUESTS};
 use model::record::*;
 
 use crate::entries::Entries;
 use crate::layout::{self, Book, Header};
-use crate::{books, mirror, probes, show};
+use crate::{books, chains, mirror, probes, show};
 
 /// Records drawn for a book: so many from a generator, and so many chains of probes.
 const DRAWN: usize = 8;
@@ -163,9 +163,31 @@ fn same(entries: &Entries, before: &[u8], one: &Way, two: &Way) -> Result<(), St
         }
     }
     match entries.check(&two.book) {
-        0 => Ok(()),
+        0 => same_chains(entries, &one.book, &two.book),
         check => Err(format!("check gives {check} the other way round")),
     }
+}
+
+/// The chains of the last two requests that have a ClOrdID, which are those that two events may have added, by both books.
+fn same_chains(entries: &Entries, one: &[u8], two: &[u8]) -> Result<(), String> {
+    let book = Book::read(one);
+    let names = book.requests.iter().rev().filter(|request| request.cl_ord_id.length > 0);
+    for request in names.take(2) {
+        let client = book.orders[request.order as usize].client as u16;
+        let chain = |of: &[u8]| {
+            let mut list = vec![0; MOST_REQUESTS * chains::ENTRY];
+            let given = entries.chain(of, client, &mut request.cl_ord_id.text().to_vec(), &mut list);
+            (given, list)
+        };
+        let (given, list) = chain(one);
+        if given.refusal != 0 || given.number == 0 || (given, list) != chain(two) {
+            return Err(format!(
+                "chain of {:?} of client {client}: {given:?}, and another",
+                request.cl_ord_id
+            ));
+        }
+    }
+    Ok(())
 }
 
 /// Runs a pair both ways round.

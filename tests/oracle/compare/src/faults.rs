@@ -11,6 +11,7 @@ use model::numbers::{Fill, Source, qty_count};
 use model::record::*;
 use model::short;
 
+use crate::chaining::{self, ChainFault};
 use crate::entries::Needs;
 use crate::layout::{self, Book, Header};
 use crate::marking::MarkFault;
@@ -200,6 +201,8 @@ pub enum Fault {
     RuleLeftOut(usize),
     /// A fault in setting a mark or returning to it.
     Mark(MarkFault),
+    /// A fault in what requests come to, or in their chains.
+    Chain(ChainFault),
 }
 
 impl Fault {
@@ -520,6 +523,9 @@ fn spoil(fault: Fault, machine: &mut Machine) {
 /// Faults in how the fields of the book after an event are written.
 pub fn write(fault: Fault, record: &[u8], before: &Book, after: &mut Book) {
     write_opens(fault, record, before, after);
+    if let Fault::Chain(fault) = fault {
+        chaining::write(fault, record, before, after);
+    }
     for (was, order) in before.orders.iter().zip(&mut after.orders) {
         write_order(fault, was, order);
     }

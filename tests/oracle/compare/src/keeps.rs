@@ -18,7 +18,7 @@ const MARKET: u64 = b'1' as u64;
 type Rule = (&'static str, fn(&Book) -> bool);
 
 /// The rules in the order in which docs/SCOPE.md, Rules, names them; each holds up by itself on any book.
-pub const RULES: [Rule; 20] = [
+pub const RULES: [Rule; 23] = [
     ("counts are within their tables", counts_fit),
     ("every field of an order is in its range", orders_in_range),
     ("every field of a request is in its range", requests_in_range),
@@ -39,6 +39,9 @@ pub const RULES: [Rule; 20] = [
     ("an unanswered gateway cancel of a live order is its latest cancel", open_is_latest),
     ("an unanswered gateway cancel of a live order has tries above 0, is sent and not stuck", open_is_sent),
     ("a client's open quantity is the sum over its orders", opens_right),
+    ("exactly the unanswered have outcome 0, and none has one above 3", outcomes_right),
+    ("an OrigClOrdID names a request of its order numbered lower", origins_earlier),
+    ("the origin of a request with an OrigClOrdID leads to the request that it names", origins_lead),
 ];
 
 pub fn keeps(bytes: &[u8]) -> bool {
@@ -279,4 +282,37 @@ pub fn opens(book: &Book) -> Vec<Option<u64>> {
 
 fn opens_right(book: &Book) -> bool {
     book.opens == opens(book)
+}
+
+fn outcomes_right(book: &Book) -> bool {
+    book.requests.iter().all(|request| {
+        let answered = request.answered != 0;
+        (request.outcome != 0) == answered && request.outcome <= 3
+    })
+}
+
+/// The link of the request that the OrigClOrdID of the one at an index names, among those of its order that stand before it.
+pub fn origin(book: &Book, index: usize) -> Option<u64> {
+    let named = &book.requests[index];
+    for (other, request) in book.requests[..index].iter().enumerate() {
+        let own = request.order == named.order && request.kind != GATEWAY_CANCEL;
+        if own && request.cl_ord_id.text() == named.orig_cl_ord_id.text() {
+            return Some(other as u64 + 1);
+        }
+    }
+    None
+}
+
+/// The indices of the requests that have an OrigClOrdID.
+fn amending(book: &Book) -> impl Iterator<Item = usize> {
+    (0..book.requests.len()).filter(|&index| book.requests[index].orig_cl_ord_id.length != 0)
+}
+
+fn origins_earlier(book: &Book) -> bool {
+    amending(book).all(|index| origin(book, index).is_some())
+}
+
+/// Where no such request stands, the rule before this one says so.
+fn origins_lead(book: &Book) -> bool {
+    amending(book).all(|index| origin(book, index).is_none_or(|link| book.requests[index].origin == link))
 }

@@ -148,6 +148,8 @@ record! {
     4 33 cl_ord_id: Text = "clordid",
     37 33 orig_cl_ord_id: Text = "origclordid",
     70 33 downstream: Text = "downstream",
+    103 1 outcome: u64 = "outcome",
+    104 2 origin: u64 = "origin",
 }
 
 /// Kinds of request.
@@ -196,6 +198,22 @@ pub fn is_first(orders: &[Order], index: usize) -> bool {
     orders[..index].iter().all(|order| order.client != orders[index].client)
 }
 
+impl Request {
+    /// Where its spare bytes begin: without an OrigClOrdID the bytes of the origin are spare too.
+    fn spare(&self) -> usize {
+        if self.orig_cl_ord_id.length == 0 { 104 } else { 106 }
+    }
+
+    /// The request in a record of the table; an origin that may be anything is read as 0.
+    fn of(record: &[u8]) -> Self {
+        let mut request = Self::read(record);
+        if request.orig_cl_ord_id.length == 0 {
+            request.origin = 0;
+        }
+        request
+    }
+}
+
 impl Book {
     pub fn read(bytes: &[u8]) -> Self {
         let header = Header::read(bytes);
@@ -204,7 +222,7 @@ impl Book {
         let orders: Vec<Order> = (0..orders).map(|index| Order::read(&bytes[order_at(index)])).collect();
         let open = |index: usize| is_first(&orders, index).then(|| u64::read(&bytes[open_at(index)]));
         Self {
-            requests: (0..requests).map(|index| Request::read(&bytes[request_at(index)])).collect(),
+            requests: (0..requests).map(|index| Request::of(&bytes[request_at(index)])).collect(),
             opens: (0..orders.len()).map(open).collect(),
             orders,
             header,
@@ -249,7 +267,8 @@ impl Book {
     }
 }
 
-const LINKS: [&str; 4] = ["links.current", "links.cancel", "pending.request", "gateway.origdownstream"];
+const LINKS: [&str; 5] =
+    ["links.current", "links.cancel", "pending.request", "gateway.origdownstream", "origin"];
 
 /// A record's place in a message: which it is, its fields, where it stands in the book, and its spare
 /// bytes.
@@ -273,13 +292,23 @@ fn records(book: &Book) -> Vec<Record> {
     let requests = book.requests.iter().enumerate().map(|(index, request)| {
         let place = request_at(index);
         let what = format!("request {index} ({})", name(&request.downstream));
-        Record { what, fields: Request::FIELDS, at: place.start, spare: place.start + 103..place.end }
+        Record {
+            what,
+            fields: Request::FIELDS,
+            at: place.start,
+            spare: place.start + request.spare()..place.end,
+        }
     });
     let opens = book.opens.iter().zip(&book.orders).enumerate().filter_map(|(index, (open, order))| {
         let what = format!("word {index}, of client {}", order.client);
         open.map(|_| Record { what, fields: OPEN, at: open_at(index).start, spare: 0..0 })
     });
     std::iter::once(header).chain(orders).chain(requests).chain(opens).collect()
+}
+
+/// The bytes of the records in use that are no field.
+pub fn spare(book: &Book) -> impl Iterator<Item = usize> {
+    records(book).into_iter().flat_map(|record| record.spare)
 }
 
 /// A field's bytes for a reader.
@@ -347,7 +376,7 @@ mod tests {
 
     #[test]
     fn the_fields_of_a_record_follow_one_another() {
-        for (fields, spare) in [(Order::FIELDS, 247), (Request::FIELDS, 103), (Header::FIELDS, 8)] {
+        for (fields, spare) in [(Order::FIELDS, 247), (Request::FIELDS, 106), (Header::FIELDS, 8)] {
             let end = fields.iter().fold(0, |at, field| {
                 assert_eq!(field.at, at, "{}", field.name);
                 at + field.bytes

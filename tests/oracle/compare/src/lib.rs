@@ -1,6 +1,8 @@
 //! The comparison of a library with the model, and what the binaries share.
 
 pub mod books;
+pub mod chaining;
+pub mod chains;
 pub mod comparison;
 pub mod coverage;
 pub mod damages;

@@ -12,6 +12,7 @@ use model::Machine;
 use model::answer::{bytes, client_number, latin1};
 use model::codes;
 use model::numbers::{price, price_count, qty, qty_count};
+use model::outcomes::Outcomes;
 
 use crate::layout::{self, Book, Text};
 use crate::opens;
@@ -39,15 +40,31 @@ pub fn book(machine: &Machine, sending: &Sending) -> Book {
     let link = |downstream: &CompactString| links.get(downstream.as_str()).copied().expect("a request");
     let orders = machine.book().order_table().len() as u64;
     let order = |id: u64| machine.book().order(OrderId(id)).expect("orders are numbered as they are booked");
+    let sent = |name: &CompactString| machine.book().sent(name).expect("a request");
+    let origins = origins(requests, sent);
+    let beside = |name: &CompactString| (machine.outcomes().of(name), origins(name));
     Book {
         header: layout::Header { orders, requests: requests.len() as u64, setting: machine.setting().into() },
         orders: (1..=orders).map(|id| order_record(order(id), link)).collect(),
-        requests: requests
-            .iter()
-            .map(|name| request_record(name, machine.book().sent(name).expect("a request")))
-            .collect(),
+        requests: requests.iter().map(|name| request_record(name, sent(name), beside(name))).collect(),
         opens: opens::stored(machine),
     }
+}
+
+/// The link of the request that each request's OrigClOrdID names, among those of its order; 0 without one.
+fn origins<'a>(
+    requests: &'a [CompactString],
+    sent: impl Fn(&'a CompactString) -> &'a Sent,
+) -> impl Fn(&CompactString) -> u64 {
+    let key = |sent: &Sent, name: &CompactString| (sent.order, bytes(name));
+    let clients = requests.iter().zip(1..).map(|(name, link)| (sent(name), link));
+    let clients = clients.filter(|(sent, _)| sent.origin == Origin::Client);
+    let links: HashMap<_, u64> = clients.map(|(sent, link)| (key(sent, &sent.cl_ord_id), link)).collect();
+    let named = requests.iter().filter_map(|name| Some((name, sent(name).orig_cl_ord_id.as_ref()?)));
+    let named: HashMap<_, u64> = named
+        .map(|(name, named)| (name.clone(), links.get(&key(sent(name), named)).copied().unwrap_or(0)))
+        .collect();
+    move |name| named.get(name).copied().unwrap_or(0)
 }
 
 fn text(text: &CompactString) -> Text {
@@ -106,7 +123,8 @@ fn stage(gateway: &GatewayCancel) -> u64 {
     }
 }
 
-fn request_record(downstream: &CompactString, sent: &Sent) -> layout::Request {
+/// A request's record; its outcome and its origin come beside it.
+fn request_record(downstream: &CompactString, sent: &Sent, (outcome, origin): (u8, u64)) -> layout::Request {
     let kind = match (sent.origin, sent.kind) {
         (Origin::Client, None) => layout::FIRST,
         (Origin::Client, Some(CancelKind::Cancel)) => layout::CLIENT_CANCEL,
@@ -121,6 +139,8 @@ fn request_record(downstream: &CompactString, sent: &Sent) -> layout::Request {
         cl_ord_id: text(&sent.cl_ord_id),
         orig_cl_ord_id: text(&sent.orig_cl_ord_id.clone().unwrap_or_default()),
         downstream: text(downstream),
+        outcome: outcome.into(),
+        origin,
     }
 }
 
@@ -131,7 +151,9 @@ pub fn machine(book: &Book) -> (Machine, Sending) {
     let orders = book.orders.iter().zip(1..).map(|(order, id)| order_back(book, order, id, downstream));
     let requests =
         book.requests.iter().map(|request| (latin1(request.downstream.text()), sent_back(request)));
-    (Machine::restored(book.header.setting as u32, orders.collect(), requests.collect()), sending)
+    let outcomes = sending.0.iter().cloned().zip(book.requests.iter().map(|request| request.outcome as u8));
+    let outcomes = Outcomes::new(outcomes);
+    (Machine::restored(book.header.setting as u32, orders.collect(), requests.collect(), outcomes), sending)
 }
 
 fn order_back(

@@ -11,6 +11,8 @@ use model::answer::bytes;
 use model::machine::{ANSWER_BYTES, BOOK_BYTES};
 use model::record::Record;
 
+use crate::chaining;
+use crate::chains::Requests;
 use crate::entries::{Counted, Entries, Needs, Opened};
 use crate::faults::{self, Fault};
 use crate::keeps::broken_but;
@@ -31,6 +33,7 @@ pub const STAND_IN: Entries = Entries {
     needs: need,
     set_mark,
     return_to_mark,
+    chain,
 };
 
 thread_local! {
@@ -39,6 +42,8 @@ thread_local! {
     static ASKED: RefCell<(Vec<u8>, Option<Fault>, bool)> = const { RefCell::new((Vec::new(), None, false)) };
     /// The book that a machine was made of last, and the machine.
     static MADE: RefCell<Option<(Vec<u8>, Rc<Machine>)>> = const { RefCell::new(None) };
+    /// The machine that chains were asked of last, and its requests.
+    static CHAINED: RefCell<Option<(Rc<Machine>, Rc<Requests>)>> = const { RefCell::new(None) };
 }
 
 /// Plants `fault`, or none, in all that follows on this thread.
@@ -209,6 +214,37 @@ unsafe extern "C" fn return_to_mark(
         (lent(book, book_len), lent(name.cast_mut(), name_len), lent(places.cast_mut(), places_len))
     };
     Marking { fault: mark_fault(), keeps: &ask }.return_to(book, name, places)
+}
+
+unsafe extern "C" fn chain(
+    book: *const u8,
+    book_len: usize,
+    client: u16,
+    name: *const u8,
+    name_len: usize,
+    list: *mut u8,
+    list_len: usize,
+) -> Counted {
+    // SAFETY: what the caller lends, three times; book and name are only read.
+    let (book, name, list) =
+        unsafe { (lent(book.cast_mut(), book_len), lent(name.cast_mut(), name_len), lent(list, list_len)) };
+    let fault = match FAULT.get() {
+        Some(Fault::Chain(fault)) => Some(fault),
+        _ => None,
+    };
+    chaining::call(fault, book, || keeps(book).then(|| requests(&machine(book))), (client, name), list)
+}
+
+/// The requests of a machine, for chains.
+fn requests(machine: &Rc<Machine>) -> Rc<Requests> {
+    CHAINED.with_borrow_mut(|chained| match chained {
+        Some((of, requests)) if Rc::ptr_eq(of, machine) => requests.clone(),
+        _ => {
+            let requests = Rc::new(Requests::of(machine));
+            *chained = Some((machine.clone(), requests.clone()));
+            requests
+        }
+    })
 }
 
 fn mark_fault() -> Option<MarkFault> {

@@ -6,6 +6,7 @@ use gateway::LOG_SITES;
 use model::Machine;
 use model::answer::{alarms, messages};
 use model::filled::Met;
+use model::outcomes::Outcomes;
 use model::record::{PRICE_SOURCE, Record};
 
 #[derive(Debug, Clone, Default)]
@@ -26,8 +27,11 @@ pub struct Tally {
     /// Taken events that added a request, by kind; the fewest and the most fields of messages, by kind.
     pub added: BTreeMap<u8, u64>,
     pub fields: BTreeMap<u8, (u32, u32)>,
-    /// The requests that stood before the event that is about to come.
+    /// Requests by the kind of the event that settled them and what they came to.
+    pub settled: BTreeMap<(u8, u8), u64>,
+    /// The requests that stood before the event that is about to come, and what they had come to.
     requests: usize,
+    outcomes: Outcomes,
 }
 
 impl Tally {
@@ -36,6 +40,12 @@ impl Tally {
         self.events += 1;
         if machine.book().request_table().len() > self.requests {
             *self.added.entry(record[0]).or_default() += 1;
+        }
+        for downstream in machine.book().request_table().keys() {
+            let outcome = machine.outcomes().of(downstream);
+            if outcome != self.outcomes.of(downstream) {
+                *self.settled.entry((record[0], outcome)).or_default() += 1;
+            }
         }
         match outcome {
             Err(refusal) => *self.refused.entry(*refusal).or_default() += 1,
@@ -58,6 +68,7 @@ impl Tally {
     /// An event that is about to come: the requests before it, and where it is a report whose price is exactly half way.
     pub fn before(&mut self, machine: &Machine, record: &[u8]) {
         self.requests = machine.book().request_table().len();
+        self.outcomes = machine.outcomes().clone();
         let read = Record::read_event(record).filter(Record::in_range);
         let fill = read.and_then(|read| machine.fill(&read));
         self.halves += u64::from(fill.is_some_and(|fill| fill.at_half()));
@@ -72,9 +83,13 @@ impl Tally {
             self.sources, self.halves
         );
         println!("  the events that add a request by kind {:?}", self.added);
+        println!("  the requests settled by the event's kind and what they came to {:?}", self.settled);
         println!("  the fewest and most fields of messages by kind {:?}", self.fields);
     }
 }
+
+/// The kinds of event that settle requests, with what the requests come to.
+pub const SETTLES: [(u8, u8); 5] = [(4, 1), (4, 2), (6, 2), (7, 3), (8, 2)];
 
 /// Functions with log sites that no event of docs/SCOPE.md reaches, how many, and why.
 const UNREACHABLE: [(&str, usize, &str); 8] = [

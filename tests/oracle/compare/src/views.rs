@@ -4,12 +4,16 @@
 use model::Machine;
 
 use crate::entries::Entries;
-use crate::{net, opens, page};
+use crate::{chains, net, opens, page};
 
 type Holds = fn(&Entries, &[u8], Option<&Machine>) -> Result<(), String>;
 
-const VIEWS: [(&str, Holds); 3] =
-    [("page", page::holds), ("open quantity", opens::holds), ("net position", net::holds)];
+const VIEWS: [(&str, Holds); 4] = [
+    ("page", page::holds),
+    ("open quantity", opens::holds),
+    ("net position", net::holds),
+    ("chain", chains::holds),
+];
 
 pub fn hold(entries: &Entries, book: &[u8], machine: Option<&Machine>) -> Result<(), String> {
     let before = book.to_vec();

@@ -121,6 +121,11 @@ impl Book {
         self.downstream.get_mut(downstream).expect("a request").answered = answered;
     }
 
+    /// A request, to be changed from outside.
+    pub fn sent_mut(&mut self, downstream: &str) -> Option<&mut Sent> {
+        self.downstream.get_mut(downstream)
+    }
+
     pub fn request_table(&self) -> &HashMap<CompactString, Sent> {
         &self.downstream
     }

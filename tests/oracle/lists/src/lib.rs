@@ -1,6 +1,7 @@
 //! Seeded lists of events, drawn against the model's own book so that they meet it where it
 //! stands: see `profile` for the kinds of lists.
 
+pub mod chains;
 pub mod damage;
 pub mod draw;
 pub mod exhaustive;

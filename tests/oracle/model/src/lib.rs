@@ -9,6 +9,7 @@ pub mod events;
 pub mod filled;
 pub mod machine;
 pub mod numbers;
+pub mod outcomes;
 pub mod record;
 pub mod rules;
 pub mod short;

@@ -14,6 +14,7 @@ use gateway::{CompactString, book};
 use crate::answer::{self, Alarms, Brought, latin1};
 use crate::codes;
 use crate::numbers::{Fill, price, price_count, qty, qty_count};
+use crate::outcomes::Outcomes;
 use crate::record::*;
 use crate::short::{self, Short};
 
@@ -28,6 +29,7 @@ pub struct Machine {
     clients: HashMap<u16, ClientId>,
     /// Orders whose latest report had the last sequence number, 2^64 - 1.
     at_last_sequence: HashSet<OrderId>,
+    outcomes: Outcomes,
 }
 
 impl Clone for Machine {
@@ -35,26 +37,30 @@ impl Clone for Machine {
         let mut book = Book::with_setting(self.setting);
         book.set_tables(self.book.tables());
         let (clients, at_last_sequence) = (self.clients.clone(), self.at_last_sequence.clone());
-        Self { book, setting: self.setting, clients, at_last_sequence }
+        let outcomes = self.outcomes.clone();
+        Self { book, setting: self.setting, clients, at_last_sequence, outcomes }
     }
 }
 
 impl Machine {
     pub fn start(setting: u32) -> Self {
         let book = Book::with_setting(setting);
-        Self { book, setting, clients: HashMap::new(), at_last_sequence: HashSet::new() }
+        let (clients, at_last_sequence) = (HashMap::new(), HashSet::new());
+        Self { book, setting, clients, at_last_sequence, outcomes: Outcomes::default() }
     }
 
-    /// A machine whose book has these orders and requests, as a store would give them back.
+    /// A machine whose book has these orders and requests, as a store would give them back, and what the requests came to.
     pub fn restored(
         setting: u32,
         orders: Vec<book::Order>,
         requests: Vec<(CompactString, book::Sent)>,
+        outcomes: Outcomes,
     ) -> Self {
         let mut machine = Self::start(setting);
         let last = orders.iter().filter(|order| order.exec_seq == u64::MAX).map(|order| order.id);
         machine.at_last_sequence = last.collect();
         machine.book.restore_tables(orders, requests);
+        machine.outcomes = outcomes;
         machine
     }
 
@@ -64,6 +70,11 @@ impl Machine {
 
     pub fn setting(&self) -> u32 {
         self.setting
+    }
+
+    /// What the requests came to.
+    pub fn outcomes(&self) -> &Outcomes {
+        &self.outcomes
     }
 
     /// The order of that name.
@@ -77,6 +88,11 @@ impl Machine {
     pub fn order_mut(&mut self, name: &[u8]) -> Option<&mut book::Order> {
         let id = self.order(name)?.id;
         self.book.order_mut(id)
+    }
+
+    /// A request, to be changed from outside.
+    pub fn sent_mut(&mut self, downstream: &[u8]) -> Option<&mut book::Sent> {
+        self.book.sent_mut(&latin1(downstream))
     }
 
     /// The answer to the event in `bytes`, or the number of the first question it fails.
@@ -134,6 +150,7 @@ impl Machine {
             self.book.set_tables(before.expect("copied where a question may say no"));
             return Err(number);
         }
+        self.outcomes.follow(&self.book, record);
         self.wrap_sequence(&mut outputs);
         let brought = Brought { text: record.maybe(TEXT, |r| r.text(TEXT)), fill };
         Ok(answer::write(&outputs, alarms, brought))

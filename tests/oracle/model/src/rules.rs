@@ -49,7 +49,7 @@ fn cl_ord_ids_distinct(book: &Book) -> bool {
 
 /// The first rule that the order and its own requests break.
 fn broken_by(book: &Book, order: &Order) -> Option<String> {
-    let rules: [(&str, fn(&Book, &Order) -> bool); 9] = [
+    let rules: [(&str, fn(&Book, &Order) -> bool); 10] = [
         ("every field is in its range", in_range),
         ("the current downstream is the first request or a replace", current_is_own),
         ("the latest cancel is a cancel", latest_is_cancel),
@@ -59,6 +59,7 @@ fn broken_by(book: &Book, order: &Order) -> Option<String> {
         ("requests are the amendments and one, numbered in order", numbered),
         ("tries are at most 3, and at most 2 where unsent", few_tries),
         ("an unanswered gateway cancel is the latest, tried, sent and not stuck", gateway_cancel_open),
+        ("an OrigClOrdID names an earlier request of the order", origins_earlier),
     ];
     let broken = rules.iter().find(|(_, kept)| !kept(book, order));
     broken.map(|(rule, _)| format!("order {}: {rule}", order.name))
@@ -159,4 +160,21 @@ fn gateway_cancel_open(book: &Book, order: &Order) -> bool {
     let goes = sent_once.is_some_and(|gateway| gateway.tries > 0 && !gateway.unsent && !gateway.stuck);
     let mut open = requests(book, order).filter(|(_, s)| s.origin == Origin::Gateway && !s.answered);
     is_done(order) || open.all(|(downstream, _)| order.cancel.as_ref() == Some(downstream) && goes)
+}
+
+/// What stands behind the name in a downstream ClOrdID, which `numbered` has found right.
+fn place(order: &Order, downstream: &str) -> u32 {
+    let suffix = downstream.strip_prefix(order.name.as_str()).and_then(|rest| rest.strip_prefix('-'));
+    suffix.map_or(0, |number| number.parse().expect("a number"))
+}
+
+fn origins_earlier(book: &Book, order: &Order) -> bool {
+    requests(book, order).all(|(downstream, sent)| {
+        sent.orig_cl_ord_id.as_ref().is_none_or(|named| {
+            requests(book, order).any(|(other, of)| {
+                let earlier = place(order, other) < place(order, downstream);
+                earlier && of.origin == Origin::Client && of.cl_ord_id == *named
+            })
+        })
+    })
 }

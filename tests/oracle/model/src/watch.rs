@@ -1,5 +1,5 @@
 //! A machine under watch: after every event the Rust's own `check()`, the book's rules, demand
-//! 3 since the start or the last return, what a Filled leaves, and the rules of docs/SCOPE.md, Over the Rust, are asserted. The Rust keeps the last
+//! 3 since the start or the last return, what a Filled leaves, what the requests came to, and the rules of docs/SCOPE.md, Over the Rust, are asserted. The Rust keeps the last
 //! by itself in all that is run; a run where it does not ends in an error that names the rule.
 
 use std::panic::{AssertUnwindSafe, catch_unwind};
@@ -9,6 +9,7 @@ use crate::demand::{Before, History, Misread};
 use crate::filled::{self, Filled, Met};
 use crate::machine::Machine;
 use crate::numbers::Fill;
+use crate::outcomes;
 use crate::record::*;
 use crate::rules;
 use crate::short;
@@ -51,12 +52,14 @@ impl Watched {
         let read = Record::read_event(record).filter(Record::in_range);
         let before = read.as_ref().map(|read| (Before::of(&self.machine, read), self.machine.fill(read)));
         let filled = read.as_ref().and_then(|read| Filled::of(self.machine.book(), read));
+        let stood = outcomes::Before::of(&self.machine);
         let outcome = self.machine.event(record, answer_buffer);
         self.judge(filled, &outcome)?;
         let (Ok(answer), Some(read), Some((before, fill))) = (&outcome, &read, before) else {
             return Ok(outcome);
         };
         priced(read, fill, answer)?;
+        stood.judge(&self.machine, read)?;
         let book = self.machine.book();
         if self.reached {
             rules::broken(book).map_or(Ok(()), Err)?;

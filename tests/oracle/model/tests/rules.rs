@@ -67,3 +67,20 @@ fn each_part_of_demand_3() {
     let heard = said(day, |order| order.status = Status::Expired);
     assert!(heard.contains("done status 4 became C"), "{heard}");
 }
+
+#[test]
+fn an_orig_cl_ord_id_names_an_earlier_request() {
+    for named in ["c3", "", "c9"] {
+        let mut day = busy();
+        day.0.machine.sent_mut(b"A-1").expect("a request").orig_cl_ord_id = Some(named.into());
+        let heard = said(day, |_| {});
+        assert!(
+            heard.contains(if named.is_empty() { "in its range" } else { "an earlier request" }),
+            "{heard}"
+        );
+    }
+    let mut day = busy();
+    day.0.machine.sent_mut(b"A-1").expect("a request").orig_cl_ord_id = Some("c2".into());
+    let heard = said(day, |_| {});
+    assert!(heard.contains("an earlier request"), "{heard}");
+}

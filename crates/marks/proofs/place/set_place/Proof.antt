@@ -6,7 +6,7 @@ use mathlib.Core.List.{List}
 use Prim.Native.Nat.{ℕ}
 use Rattle.prelude.specs.Below.{firstBelow}
 use Rattle.store.specs.Finds.{foundOf}
-use Rattle.opens.specs.Laws.Found.{found-at, found-none}
+use Rattle.outcomes.specs.Laws.Found.{found-at, found-none}
 use Rattle.marks.specs.Marks.{placeCount, hasName}
 use Rattle.marks.specs.Laws.Places.{set-again, set-fresh}
 use Rattle.marks.proofs.place.set_place.Statement.{statement}

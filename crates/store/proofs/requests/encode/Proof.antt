@@ -9,14 +9,14 @@ small s = search needs
 
 returns : tie.Need-returns
 returns c = let c1 = c .before .before in
-    let c2 = c1 .before .before .before .before .before in
+    let c2 = c1 .before .before .before .before .before .before in
     let c3 = c2 .before .before .before .before .before in
     let c4 = c3 .before .before .before .before .before in
     let c5 = c4 .before .before .before .before .before in
     let c6 = c5 .before .before .before .before in
     let c7 = c6 .before .before .before .before in
     let s = small (c7 .before .before .before) in (
-      rw (c1 .put .ensures, c2 .put-text3 .ensures .0, c3 .put-text2 .ensures .0, c4 .put-text .ensures .0, c5 .put82 .ensures, c6 .put8 .ensures, c7 .put16 .ensures),
+      rw (c1 .put .ensures, c1 .before .before .before .beside .ensures, c2 .put-text3 .ensures .0, c3 .put-text2 .ensures .0, c4 .put-text .ensures .0, c5 .put82 .ensures, c6 .put8 .ensures, c7 .put16 .ensures),
       record {
         order = s .0;
         kind = s .1;
@@ -31,6 +31,7 @@ pub encode-spec : {M : Type 1} → statement M
 encode-spec =
     tie.close
     (tie.spec
+    (λ c κs. search needs)
     (λ c κs. search needs)
     (λ c κs. search needs)
     (λ c κs. search needs)

@@ -18,7 +18,7 @@ returns c = let a = c .before .before .before .before .before .args in
     let e = c .before .before .encode .ensures in
     let at = requestBase (a .i) in
     let l : length (take ((at + requestSize) - at) (drop at (a .book .now))) ≡ requestSize = simp (length-take, length-drop) (omega arith) in
-    rw (e .0 ∙ write-request (a .r) (e .1) _ l) (part-splice (a .book .now) (encodeRequest (a .r)) at requestSize (length-request (a .r) (e .1)))
+    rw (e .0 ∙ write-request (a .origin) (a .r) (e .1) _ l) (part-splice (a .book .now) (encodeRequest (a .origin) (a .r)) at requestSize (length-request (a .origin) (a .r) (e .1)))
 
 pub write-spec : {M : Type 1} → statement M
 write-spec =

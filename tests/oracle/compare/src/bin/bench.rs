@@ -6,6 +6,7 @@
 use std::cell::RefCell;
 use std::hint::black_box;
 
+use compare::chains::ENTRY;
 use compare::entries::{Entries, library};
 use compare::marks::PLACE;
 use compare::net::{LINES, SCRATCH};
@@ -17,7 +18,7 @@ use model::Machine;
 use model::answer::{latin1, messages};
 use model::codes;
 use model::events::{self, Filled, Named};
-use model::machine::{BOOK_BYTES, order_request, venue};
+use model::machine::{BOOK_BYTES, MOST_REQUESTS, order_request, venue};
 use model::numbers::Source;
 use model::record::*;
 
@@ -56,6 +57,7 @@ fn main() {
         bench.by_size(&what, &sized(orders, requests, usual_id));
     }
     bench.by_size("64 orders, 256 requests, ids that collide", &sized(64, 256, colliding_id));
+    bench.by_size("1 order, 256 requests, each for the one before", &chained());
     PAIRS.into_iter().for_each(|pairs| bench.by_pairs(pairs));
     if bench.entries.is_none() {
         println!("  no library is linked");
@@ -125,6 +127,26 @@ impl Bench {
         });
         line("the rules alone", &[("Rust's check()", Some(checked)), ("library's check", ported)]);
         self.views(&book, named().client, ported);
+        self.chain(list, &book, ported);
+    }
+
+    /// The chain of the last ClOrdID that was used, beside the library's `check`.
+    fn chain(&self, list: &List, book: &[u8], check: Option<f64>) {
+        let used = list.items.iter().rev().filter_map(|item| Record::read_event(&item.record));
+        let Some(last) =
+            used.filter(|event| event.has(CL_ORD_ID)).map(|event| event.text(CL_ORD_ID).to_vec()).next()
+        else {
+            return;
+        };
+        let time = self.ported(|entries| {
+            for _ in 0..CALLS {
+                let (mut name, mut entries_of) = (last.clone(), [0; ENTRY * MOST_REQUESTS]);
+                let given = entries.chain(black_box(book), named().client, &mut name, &mut entries_of);
+                assert!(black_box(given).number > 0);
+                black_box(&entries_of);
+            }
+        });
+        line("the last ClOrdID's chain", &[("library's check", check), ("library", time)]);
     }
 
     /// The calls that look at a book of 64 orders, of so many clients.
@@ -317,6 +339,21 @@ fn sized(orders: usize, requests: usize, id: fn(usize) -> Vec<u8>) -> List {
         let (order, number) = (request % orders, (request - orders) / orders + 1);
         let downstream = [&name(order)[..], format!("-{number}").as_bytes()].concat();
         items.push(item(events::cancel(&named(), &id(request), &id(order))));
+        items.push(item(events::cancel_reject(1, &downstream, None, Some(0))));
+    }
+    List { setting: 10_000, items }
+}
+
+/// A list that leaves one order, acknowledged, and as many requests as there may be: cancels that the venue refused, each naming
+/// the request before it.
+fn chained() -> List {
+    let mut items = vec![
+        item(events::book(1, &named(), b"0A1B2C0", &usual_id(0), 1_000_000, Some(10))),
+        item(events::report(1, b"0A1B2C0", b'0', Some(b'0'), Default::default())),
+    ];
+    for number in 1..MOST_REQUESTS {
+        items.push(item(events::cancel(&named(), &usual_id(number), &usual_id(number - 1))));
+        let downstream = format!("0A1B2C0-{number}").into_bytes();
         items.push(item(events::cancel_reject(1, &downstream, None, Some(0))));
     }
     List { setting: 10_000, items }

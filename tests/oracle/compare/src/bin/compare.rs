@@ -6,12 +6,13 @@
 use std::ops::{Range, RangeInclusive};
 use std::process::ExitCode;
 
+use compare::chaining::ChainFault;
 use compare::comparison::{Built, Mismatch, Probing, compare, compare_built, explain, explain_built};
 use compare::entries::{Entries, library};
 use compare::faults::Fault;
 use compare::stand_in::{STAND_IN, plant};
 use compare::tally::Tally;
-use lists::{List, PROFILES, exhaustive, list, positions};
+use lists::{List, PROFILES, chains, exhaustive, list, positions};
 
 const PROBING: Probing = Probing { every: 25, at_end: false };
 /// Events on a book that was built.
@@ -40,7 +41,7 @@ fn compare_lists(lists: u64, events: usize, first: u64) -> ExitCode {
         println!("{}", explain(&entries, list, mismatch));
         ExitCode::FAILURE
     };
-    for list in exhaustive::all().into_iter().chain(positions::all()) {
+    for list in exhaustive::all().into_iter().chain(positions::all()).chain(chains::all()) {
         tally.lists += 1;
         if let Err(mismatch) = compare(&entries, &list, PROBING, Some(&mut tally)) {
             return differs("a list without chance", &list, &mismatch);
@@ -96,9 +97,10 @@ fn compare_seed(
 
 fn find_faults(lists: u64) -> ExitCode {
     let mut missed = 0;
-    for fault in Fault::COMPARED {
+    let faults: Vec<Fault> = Fault::COMPARED.into_iter().chain(ChainFault::ALL.map(Fault::Chain)).collect();
+    for &fault in &faults {
         plant(Some(fault));
-        // A profile each, then the lists about positions, quotients and a refusal, then more.
+        // A profile each, then the lists about positions, chains, quotients and a refusal, then more.
         let drawn = |seeds: RangeInclusive<u64>| {
             seeds.map(|seed| {
                 (format!("seed {seed}"), list(&PROFILES[seed as usize % PROFILES.len()], seed, 400))
@@ -108,7 +110,8 @@ fn find_faults(lists: u64) -> ExitCode {
         let halves =
             exhaustive::every_quotient().into_iter().map(|list| ("a list of quotients".into(), list));
         let filled = [("a refusal with Filled".into(), exhaustive::refused_filled())];
-        let fixed = about.chain(halves).chain(filled);
+        let chains = chains::all().into_iter().map(|list| ("a list about chains".into(), list));
+        let fixed = about.chain(chains).chain(halves).chain(filled);
         let mut tried = drawn(1..=10).chain(fixed).chain(drawn(11..=lists));
         let found = tried.find_map(|(origin, list)| {
             compare(&STAND_IN, &list, PROBING, None).err().map(|mismatch| (origin, mismatch))
@@ -125,7 +128,7 @@ fn find_faults(lists: u64) -> ExitCode {
         }
     }
     plant(None);
-    let all = Fault::COMPARED.len();
+    let all = faults.len();
     println!("compare: planted faults, {} of {all} found", all - missed);
     if missed == 0 { ExitCode::SUCCESS } else { ExitCode::FAILURE }
 }

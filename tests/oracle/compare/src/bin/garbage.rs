@@ -7,12 +7,12 @@
 use std::collections::BTreeMap;
 use std::process::ExitCode;
 
-use compare::entries::{Entries, library};
+use compare::entries::{Counted, Entries, library};
 use compare::expected::{self, Lent};
 use compare::faults::Fault;
-use compare::layout::Header;
+use compare::layout::{Book, Header};
 use compare::stand_in::{STAND_IN, plant};
-use compare::{books, needs, show, views};
+use compare::{books, chains, needs, show, views};
 use lists::damage::damage;
 use lists::random::Random;
 use lists::{Generator, PROFILES, Profile};
@@ -119,6 +119,7 @@ impl<'a> User<'a> {
                 (entries.needs)(null, 0, null, 0).refusal,
                 (entries.set_mark)(null, 0, null, 0, null, 0),
                 (entries.return_to_mark)(null, 0, null, 0, null, 0),
+                (entries.chain)(null, 0, 1, null, 0, null, 0).refusal,
             ]
         };
         let mut book = self.full.clone();
@@ -130,13 +131,13 @@ impl<'a> User<'a> {
         let no_record = unsafe { (entries.event)(book.as_mut_ptr(), book.len(), null, 0, start, length) };
         // SAFETY: a whole book is lent, and nothing else.
         let no_needs = unsafe { (entries.needs)(book.as_ptr(), book.len(), null, 0).refusal };
-        self.calls += 13;
+        self.calls += 14;
         // SAFETY: a whole book is lent, and nothing else.
         let netted = unsafe {
             (entries.net_position)(book.as_ptr(), book.len(), std::ptr::null_mut(), 0, null, 0).refusal
         };
         match (given, on_book, no_record, no_needs, netted) {
-            ([1, 1, 1, 1, 1, 1, 1, 1, 1], 2, 3, 3, 11) => self.no_places(&mut book),
+            ([1, 1, 1, 1, 1, 1, 1, 1, 1, 1], 2, 3, 3, 11) => self.no_places(&mut book),
             given => Err(format!("on slices of no length: {given:?}")),
         }
     }
@@ -155,7 +156,33 @@ impl<'a> User<'a> {
                 (entries.return_to_mark)(at, size, name, 1, null, 0),
             ]
         };
-        if given == [13, 15, 13, 14] { Ok(()) } else { Err(format!("marks without a place: {given:?}")) }
+        if given == [13, 15, 13, 14] {
+            self.no_list(book)
+        } else {
+            Err(format!("marks without a place: {given:?}"))
+        }
+    }
+
+    /// A whole book and no list, with no name, with one that nobody has, and with the first ClOrdID.
+    fn no_list(&mut self, book: &mut [u8]) -> Result<(), String> {
+        let (entries, null) = (self.entries, std::ptr::null_mut());
+        let (at, size) = (book.as_ptr(), book.len());
+        let Book { orders, requests, .. } = Book::read(book);
+        let (client, name) = (orders[0].client as u16, requests[0].cl_ord_id);
+        self.calls += 3;
+        // SAFETY: a book is lent, and a name or nothing else.
+        let given = unsafe {
+            [
+                (entries.chain)(at, size, client, null, 0, null, 0),
+                (entries.chain)(at, size, client, b"nobody's".as_ptr(), 8, null, 0),
+                (entries.chain)(at, size, client, name.bytes.as_ptr(), name.text().len(), null, 0),
+            ]
+        };
+        let none = Counted { refusal: 0, number: 0 };
+        match given {
+            [one, two, Counted { refusal: 12, number: 0 }] if one == none && two == none => Ok(()),
+            given => Err(format!("chains without a list: {given:?}")),
+        }
     }
 
     /// Books of every length around 0 and around the right one, the front of a good one or longer.
@@ -304,6 +331,9 @@ impl<'a> User<'a> {
             return Err(format!("check gives {check} on {} bytes, or writes", lent.bytes.len()));
         }
         views::hold(self.entries, book.lend(), lent.machine())?;
+        if let Some(machine) = lent.machine() {
+            chains::hold_all(self.entries, book.lend(), machine)?;
+        }
         let setting = self.random.next() as u32;
         let started = self.entries.start(book.lend(), setting);
         let after = book.back()?;

@@ -4,9 +4,9 @@
 
 use std::process::ExitCode;
 
-use compare::tally::{Tally, log_sites};
+use compare::tally::{SETTLES, Tally, log_sites};
 use compare::{minimize::minimize, show};
-use lists::{List, PROFILES, exhaustive, list};
+use lists::{List, PROFILES, chains, exhaustive, list};
 use model::filled::MEETINGS;
 use model::watch::Watched;
 
@@ -27,9 +27,14 @@ fn main() -> ExitCode {
     }
     // Drawn lists seldom refuse the gateway's cancel with both a short Filled and a full table.
     watch(&exhaustive::full(), Some(&mut tally)).expect("its rules are kept");
+    chains::all().iter().for_each(|list| watch(list, None).expect("its rules are kept"));
     tally.print();
     println!("  a status Filled {:?}", tally.met);
     let unmet: Vec<_> = MEETINGS.iter().filter(|&&met| !tally.met.contains_key(met)).collect();
+    if !tally.settled.keys().eq(SETTLES.iter()) {
+        println!("requests should be settled by {SETTLES:?}");
+        return ExitCode::FAILURE;
+    }
     let (reached, all, missed) = log_sites();
     let (lists, events) = (tally.lists, tally.events);
     println!("lists: {lists} lists, {events} events, all rules kept; {reached} of {all} log sites reached");

@@ -1,0 +1,3 @@
+-- Proof text: the rule on the bytes, and what a caller has of it.
+pub mod Found
+pub mod Here

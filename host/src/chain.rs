@@ -1,0 +1,161 @@
+//! Which ClOrdID stands for which order: the chain of a client's ClOrdID back to the first; and the links of a book from before
+//! they were stored. Rests on entries, book and docs/LAYOUT.md.
+
+use crate::book::Book;
+use crate::entries::{self, BookBytes, CHAIN_ENTRY, REQUESTS};
+use crate::error::Refusal;
+use crate::list::listed;
+
+/// The bytes of an entry of a chain.
+pub const CHAIN_ENTRY_BYTES: usize = CHAIN_ENTRY;
+
+/// The bytes that the chain of any ClOrdID has at most.
+pub const CHAIN_BYTES: usize = CHAIN_ENTRY * REQUESTS;
+
+/// Where the requests stand, and the fields of one (docs/LAYOUT.md).
+const REQUESTS_AT: usize = 16_640;
+const REQUEST: usize = 128;
+const ORDER: usize = 0;
+const CL_ORD_ID: usize = 4;
+const ORIG_CL_ORD_ID: usize = 37;
+const ORIGIN: usize = 104;
+
+listed! {
+    /// What a request came to. It is open until the request is settled, and from then on stays what that made it.
+    ///
+    /// ```
+    /// use jubafiye::Outcome;
+    ///
+    /// assert_eq!(Outcome::from_number(3), Some(Outcome::FailedToSend));
+    /// assert_eq!((Outcome::Accepted.number(), Outcome::Refused.to_string()), (1, "refused".into()));
+    /// ```
+    #[non_exhaustive]
+    Outcome: number, from_number {
+        Open = 0 "open",
+        Accepted = 1 "accepted",
+        Refused = 2 "refused",
+        FailedToSend = 3 "failed to send",
+    }
+}
+
+/// A ClOrdID of a chain, and what its request came to.
+#[derive(Debug, Clone, PartialEq, Eq, Hash)]
+#[non_exhaustive]
+pub struct ChainEntry {
+    /// The ClOrdID, which may hold any byte.
+    pub cl_ord_id: Vec<u8>,
+    /// What its request came to.
+    pub outcome: Outcome,
+}
+
+impl ChainEntry {
+    /// The entry at the front of some bytes; none where they are no entry.
+    ///
+    /// ```
+    /// use jubafiye::{ChainEntry, Outcome, CHAIN_ENTRY_BYTES};
+    ///
+    /// let mut bytes = [0; CHAIN_ENTRY_BYTES];
+    /// (bytes[0], bytes[1], bytes[33]) = (1, b'C', 2);
+    /// let entry = ChainEntry::read(&bytes).unwrap();
+    /// assert_eq!((&entry.cl_ord_id[..], entry.outcome), (&b"C"[..], Outcome::Refused));
+    /// assert_eq!(ChainEntry::read(b"no entry"), None);
+    /// ```
+    pub fn read(entry: &[u8]) -> Option<Self> {
+        let (length, rest) = entry.split_first()?;
+        let (name, rest) = rest.split_first_chunk::<32>()?;
+        let cl_ord_id = name.get(..usize::from(*length))?.to_vec();
+        Some(Self { cl_ord_id, outcome: Outcome::from_number(*rest.first()?)? })
+    }
+}
+
+impl Book {
+    /// The chain of a client's ClOrdID: that name, the one that its request's OrigClOrdID names, and so on back to the first,
+    /// with what each request came to. A name that the client never used has an empty chain. The book keeps its rules and the
+    /// room is enough, so that the library refuses nothing; should one of another version do so, the chain is empty.
+    ///
+    /// ```
+    /// # use jubafiye::{Amend, Book, Booking, Event, OrdType, Qty, Side};
+    /// use jubafiye::Outcome;
+    ///
+    /// let mut book = Book::new(10_000);
+    /// # book.take(&Event::Book(Booking {
+    /// #     client: 7, venue: 3, name: b"G1", cl_ord_id: b"C1", symbol: b"WHEATH27", side: Side::Buy,
+    /// #     ord_type: OrdType::Market, qty: Qty::units(100), price: None, time_in_force: None,
+    /// # }))?;
+    /// # let amend = Amend { client: 7, cl_ord_id: b"C2", orig_cl_ord_id: b"C1", symbol: b"WHEATH27", side: Side::Buy, redelivered: false };
+    /// # book.take(&Event::Cancel(amend))?;
+    /// # book.take(&Event::SendFailed { venue: 3, downstream: b"G1-1", text: b"down" })?;
+    /// # book.take(&Event::Cancel(Amend { cl_ord_id: b"C3", orig_cl_ord_id: b"C2", ..amend }))?;
+    /// // client 7 booked C1; its cancel C2 could not be sent; its cancel C3, of C2, is out
+    /// let chain = book.chain(7, b"C3");
+    /// let names: Vec<(&[u8], Outcome)> = chain.iter().map(|entry| (&entry.cl_ord_id[..], entry.outcome)).collect();
+    /// assert_eq!(names, [(&b"C3"[..], Outcome::Open), (b"C2", Outcome::FailedToSend), (b"C1", Outcome::Open)]);
+    /// assert_eq!(book.chain(7, b"C4"), []);
+    /// # Ok::<(), jubafiye::Error>(())
+    /// ```
+    pub fn chain(&self, client: u16, cl_ord_id: impl AsRef<[u8]>) -> Vec<ChainEntry> {
+        let mut list = [0; CHAIN_BYTES];
+        let entries = self.chain_into(client, cl_ord_id, &mut list).unwrap_or_default();
+        entries.chunks(CHAIN_ENTRY).map_while(ChainEntry::read).collect()
+    }
+
+    /// Writes the entries, [`CHAIN_ENTRY_BYTES`] each ([`ChainEntry::read`]), to the front of `list` and gives them back. Nothing
+    /// is allocated. A list that cannot hold the whole chain is refused with [`Refusal::ChainList`] and stays as it was;
+    /// [`CHAIN_BYTES`] hold any chain.
+    ///
+    /// ```
+    /// use jubafiye::{Book, CHAIN_BYTES};
+    ///
+    /// let mut list = [0; CHAIN_BYTES];
+    /// assert_eq!(Book::new(10_000).chain_into(7, "C1", &mut list)?, b"");
+    /// assert_eq!(Book::new(10_000).chain_into(7, "C1", &mut [])?, b"");
+    /// # Ok::<(), jubafiye::Refusal>(())
+    /// ```
+    pub fn chain_into<'a>(
+        &self,
+        client: u16,
+        cl_ord_id: impl AsRef<[u8]>,
+        list: &'a mut [u8],
+    ) -> Result<&'a [u8], Refusal> {
+        let count = entries::chain(self.bytes(), client, cl_ord_id.as_ref(), list)?;
+        Ok(list.get(..count.saturating_mul(CHAIN_ENTRY)).unwrap_or(list))
+    }
+}
+
+/// Writes the link of the request that each OrigClOrdID names, among those of its order that stand before it, and no other byte.
+pub(crate) fn write_origins(book: &mut BookBytes) {
+    let requests: Vec<Named> = (0..sent(book)).map_while(|index| named(book, index)).collect();
+    for (index, request) in requests.iter().enumerate().filter(|(_, request)| !request.orig.is_empty()) {
+        let own = |other: &Named| other.order == request.order && other.name == request.orig;
+        let Some(origin) = requests.iter().take(index).position(own) else { continue };
+        let at = index.saturating_mul(REQUEST).saturating_add(REQUESTS_AT).saturating_add(ORIGIN);
+        let link = u16::try_from(origin.saturating_add(1)).unwrap_or_default();
+        if let Some(word) = book.get_mut(at..).and_then(|rest| rest.first_chunk_mut()) {
+            *word = link.to_le_bytes();
+        }
+    }
+}
+
+/// A request's order, its ClOrdID and its OrigClOrdID.
+struct Named {
+    order: u16,
+    name: Vec<u8>,
+    orig: Vec<u8>,
+}
+
+/// How many requests are in use.
+fn sent(book: &BookBytes) -> usize {
+    let count = book.get(2..).and_then(|rest| rest.first_chunk());
+    usize::from(count.map_or(0, |count| u16::from_le_bytes(*count))).min(REQUESTS)
+}
+
+fn named(book: &BookBytes, index: usize) -> Option<Named> {
+    let request =
+        book.get(index.checked_mul(REQUEST)?.checked_add(REQUESTS_AT)?..)?.first_chunk::<REQUEST>()?;
+    let text = |at: usize| {
+        let (text, rest) = request.get(at..)?.split_first_chunk::<32>()?;
+        Some(text.get(..usize::from(*rest.first()?))?.to_vec())
+    };
+    let order = u16::from_le_bytes(*request.get(ORDER..)?.first_chunk()?);
+    Some(Named { order, name: text(CL_ORD_ID)?, orig: text(ORIG_CL_ORD_ID)? })
+}
