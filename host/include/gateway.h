@@ -185,7 +185,7 @@ enum {
     JUBAFIYE_PRICE = 10,           /* 8: a count of 10^-8, 0 to 10^14 */
     JUBAFIYE_TIME_IN_FORCE = 11,   /* 1: 0 1 3 4 */
     JUBAFIYE_EXEC_TYPE = 12,       /* 1: A 0 F 6 4 E 5 8 C D 3 I */
-    JUBAFIYE_ORD_STATUS = 13,      /* 1: A 0 1 2 6 E 4 C 8 */
+    JUBAFIYE_ORD_STATUS = 13,      /* 1: A 0 1 2 6 E 4 C 8, and 3 done for the day: live, LeavesQty 0 */
     JUBAFIYE_LAST_QTY = 14,        /* 8: as QTY */
     JUBAFIYE_LAST_PX = 15,         /* 8: as PRICE */
     JUBAFIYE_CUM_QTY = 16,         /* 8: as QTY */

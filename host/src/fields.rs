@@ -35,6 +35,7 @@ listed! {
     /// ```
     /// # use jubafiye::OrdStatus;
     /// assert!(OrdStatus::Expired.is_done() && !OrdStatus::PendingCancel.is_done());
+    /// assert!(OrdStatus::DoneForDay.leaves_nothing() && !OrdStatus::DoneForDay.is_done());
     /// assert_eq!(OrdStatus::PartiallyFilled.to_string(), "partially filled");
     /// ```
     #[non_exhaustive]
@@ -48,6 +49,7 @@ listed! {
         Canceled = b'4' "canceled",
         Expired = b'C' "expired",
         Rejected = b'8' "rejected",
+        DoneForDay = b'3' "done for day",
     }
 }
 
@@ -74,6 +76,12 @@ impl OrdStatus {
     pub const fn is_done(self) -> bool {
         matches!(self, Self::Filled | Self::Canceled | Self::Expired | Self::Rejected)
     }
+
+    /// Whether an order with it has a LeavesQty of 0, whatever was filled: done, or done for the day. The latter is live all
+    /// the same: it may be cancelled and replaced, fills count, and a later report may set another status.
+    pub const fn leaves_nothing(self) -> bool {
+        self.is_done() || matches!(self, Self::DoneForDay)
+    }
 }
 
 #[cfg(test)]
@@ -88,7 +96,7 @@ mod tests {
         assert_eq!(codes(Side::from_code, Side::code), b"125");
         assert_eq!(codes(OrdType::from_code, OrdType::code), b"12");
         assert_eq!(codes(TimeInForce::from_code, TimeInForce::code), b"0134");
-        assert_eq!(codes(OrdStatus::from_code, OrdStatus::code), b"012468ACE");
+        assert_eq!(codes(OrdStatus::from_code, OrdStatus::code), b"0123468ACE");
         assert_eq!(codes(ExecType::from_code, ExecType::code), b"034568ACDEFI");
     }
 }

@@ -93,12 +93,12 @@ fn booked(book: &BookBytes) -> usize {
     usize::from(book.first_chunk().map_or(0, |count| u16::from_le_bytes(*count))).min(ORDERS)
 }
 
-/// The client of the order at an index, and what the order leaves open: nothing where it is done.
+/// The client of the order at an index, and what the order leaves open: nothing where it is done or done for the day.
 fn order(book: &BookBytes, index: usize) -> Option<(u16, u64)> {
     let order = book.get(index.checked_mul(ORDER)?.checked_add(ORDERS_AT)?..)?.first_chunk::<ORDER>()?;
     let number = |at: usize| Some(u64::from_le_bytes(*order.get(at..)?.first_chunk()?));
     let client = u16::from_le_bytes(*order.get(CLIENT..)?.first_chunk()?);
-    let done = OrdStatus::from_code(*order.get(STATUS)?).is_some_and(OrdStatus::is_done);
+    let nothing = OrdStatus::from_code(*order.get(STATUS)?).is_some_and(OrdStatus::leaves_nothing);
     let leaves = number(QTY)?.saturating_sub(number(CUM_QTY)?);
-    Some((client, if done { 0 } else { leaves }))
+    Some((client, if nothing { 0 } else { leaves }))
 }

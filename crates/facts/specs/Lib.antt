@@ -4,6 +4,7 @@ pub mod Pinned
 pub mod Sources
 pub mod Opens
 pub mod Short
+pub mod DoneForDay
 pub mod Handled
 pub mod Counted
 pub mod Broken

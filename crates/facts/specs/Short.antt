@@ -19,31 +19,31 @@ use Rattle.facts.specs.Play.{number, spelled, bytes, shares, money, X, X
 use Rattle.machine.specs.declared.Change.{Change}
 use Rattle.store.specs.Orders.{noPending, noGateway}
 
--- ---- the words of the tables
+-- ---- the words of the tables, here and in DoneForDay
 
 -- a message: its kind, ExecType, status, LastQty and leaves, 0 where the kind has none
-record Told : Type 0 where
-  kind : ℕ
-  exectype : ℕ
-  status : ℕ
-  last : ℕ
-  leaves : ℕ
+pub record Told : Type 0 where
+  pub kind : ℕ
+  pub exectype : ℕ
+  pub status : ℕ
+  pub last : ℕ
+  pub leaves : ℕ
 
 -- order X as it is left: status, filled, ordered, leaves, whether it has pending terms and a gateway cancel; and of each request whether it is answered
-record Left : Type 0 where
-  status : ℕ
-  cum : ℕ
-  qty : ℕ
-  leaves : ℕ
-  pending : Bool
-  gateway : Bool
-  answered : List ℕ
+pub record Left : Type 0 where
+  pub status : ℕ
+  pub cum : ℕ
+  pub qty : ℕ
+  pub leaves : ℕ
+  pub pending : Bool
+  pub gateway : Bool
+  pub answered : List ℕ
 
-record Came : Type 0 where
-  messages : List Told
-  alarm : ℕ
-  alarm2 : ℕ
-  left : Left
+pub record Came : Type 0 where
+  pub messages : List Told
+  pub alarm : ℕ
+  pub alarm2 : ℕ
+  pub left : Left
 
 abbrev toldOf : Message → Told
 toldOf m = record { kind = m .kind; exectype = m .exec .exectype; status = m .exec .status; last = m .exec .lastqty; leaves = m .told .leavesqty }
@@ -65,28 +65,28 @@ leftOf o qs = record {
 abbrev cameOf : Change → Book → Came
 cameOf c b = record { messages = map toldOf (messagesOf c); alarm = c .output .alarm; alarm2 = c .output .alarm2; left = leftOf (orderIn b 0) (b .requests) }
 
-abbrev comesOn : Book → (event : List ℕ) → Came
+abbrev pub comesOn : Book → (event : List ℕ) → Came
 comesOn b event = let c = called b event in cameOf c (leftBy b c)
 
 -- the order is booked, then some calls, and the one
-abbrev comes : List (List ℕ) → (event : List ℕ) → Came
+abbrev pub comes : List (List ℕ) → (event : List ℕ) → Came
 comes before event = comesOn (playing (empty 10000) (books ∷ before)) event
 
 -- as it should be; quantities in shares
-abbrev came : List Told → (alarm alarm2 : ℕ) → Left → Came
+abbrev pub came : List Told → (alarm alarm2 : ℕ) → Left → Came
 came messages alarm alarm2 left = record { messages = messages; alarm = alarm; alarm2 = alarm2; left = left }
 
-abbrev report : (exectype status last leaves : ℕ) → Told
+abbrev pub report : (exectype status last leaves : ℕ) → Told
 report exectype status last leaves = record { kind = 16; exectype = exectype; status = status; last = shares last; leaves = shares leaves }
 
-abbrev reject : (status : ℕ) → Told
+abbrev pub reject : (status : ℕ) → Told
 reject status = record { kind = 17; exectype = 0; status = status; last = 0; leaves = 0 }
 
 -- a cancel request goes out
-abbrev sent : Told
+abbrev pub sent : Told
 sent = record { kind = 19; exectype = 0; status = 0; last = 0; leaves = 0 }
 
-abbrev left : (status cum qty leaves : ℕ) (pending gateway : Bool) (answered : List ℕ) → Left
+abbrev pub left : (status cum qty leaves : ℕ) (pending gateway : Bool) (answered : List ℕ) → Left
 left status cum qty leaves pending gateway answered = record {
   status = status;
   cum = shares cum;
@@ -98,14 +98,14 @@ left status cum qty leaves pending gateway answered = record {
 }
 
 -- with its first request alone
-abbrev alone : (status cum leaves : ℕ) → Left
+abbrev pub alone : (status cum leaves : ℕ) → Left
 alone status cum leaves = left status cum 100 leaves false false (0 ∷ [])
 
 -- Filled at a cumulative with a LastQty, in a report and under a name; and at status 1
-abbrev filledAt : (downstream : List ℕ) (exectype last cum : ℕ) → List ℕ
+abbrev pub filledAt : (downstream : List ℕ) (exectype last cum : ℕ) → List ℕ
 filledAt downstream exectype last cum = reportOf downstream exectype 50 last (money 10) cum (money 10) []
 
-abbrev partly : (cum : ℕ) → List ℕ
+abbrev pub partly : (cum : ℕ) → List ℕ
 partly cum = fills cum cum (money 10) (money 10)
 
 -- Filled as a refusal's status, with and without a reason

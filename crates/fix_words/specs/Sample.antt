@@ -56,6 +56,13 @@ told =
     ∷ word 10 100000000 ∷ says 11 "0" ∷ says 12 "5" ∷ says 13 "0" ∷ word 14 0 ∷ word 16 0 ∷ word 17 0 ∷ holds 19 (99 ∷ 0 ∷ 0 ∷ 0 ∷ [])
     ∷ says 20 "ok" ∷ word 24 10000 ∷ word 25 300 ∷ holds 26 (bytesOf 16 100000000) ∷ holds 28 (2 ∷ []) ∷ holds 31 (2 ∷ []) ∷ [])
 
+-- done for the day: status 3, and nothing left
+abbrev ended : List ℕ
+ended =
+    made 16 (holds 0 (3 ∷ 0 ∷ []) ∷ says 2 "A" ∷ says 3 "c2" ∷ says 4 "c1" ∷ says 6 "X" ∷ says 7 "1" ∷ says 8 "2" ∷ word 9 10000
+    ∷ word 10 100000000 ∷ says 11 "0" ∷ says 12 "3" ∷ says 13 "3" ∷ word 14 0 ∷ word 16 0 ∷ word 17 0
+    ∷ word 24 0 ∷ word 25 300 ∷ holds 26 (bytesOf 16 100000000) ∷ holds 31 (2 ∷ []) ∷ [])
+
 -- a reject without an order and with a fixed text, and one of an order with the venue's text
 abbrev reject : List ℕ
 reject =
@@ -83,6 +90,7 @@ record Samples : Type 0 where
   timed : writes timed "8=FIX.4.4|9=89|35=D|49=GW|56=DSK|34=702|52=t1|11=A|55=X|54=1|40=2|38=100.0000|44=10.00000000|59=3|60=t1|10=225|" ≡ true
   report : writes report "8=FIX.4.4|9=171|35=8|49=GW|56=DSK|34=702|52=t1|37=A|11=c1|55=X|54=1|40=1|38=100.0000|150=F|39=1|32=0.5000|14=40.0000|6=0.00000000|103=99|151=60.0000|17=A.2|31=10.70000000|58=below filled|10=029|" ≡ true
   told : writes told "8=FIX.4.4|9=183|35=8|49=GW|56=DSK|34=702|52=t1|37=A|11=c2|41=c1|55=X|54=1|40=2|38=1.0000|44=1.00000000|59=0|150=5|39=0|32=0.0000|14=0.0000|6=0.00000000|103=99|58=ok|151=1.0000|17=A.300|31=1.00000000|10=053|" ≡ true
+  ended : writes ended "8=FIX.4.4|9=170|35=8|49=GW|56=DSK|34=702|52=t1|37=A|11=c2|41=c1|55=X|54=1|40=2|38=1.0000|44=1.00000000|59=0|150=3|39=3|32=0.0000|14=0.0000|6=0.00000000|151=0.0000|17=A.300|31=1.00000000|10=104|" ≡ true
   reject : writes reject "8=FIX.4.4|9=85|35=9|49=GW|56=DSK|34=702|52=t1|37=NONE|11=c2|41=c1|39=8|102=1|58=unknown order|434=2|10=106|" ≡ true
   refused : writes refused "8=FIX.4.4|9=74|35=9|49=GW|56=DSK|34=702|52=t1|37=B|11=c2|41=c1|39=0|102=1000|58=no|434=1|10=146|" ≡ true
   cancel : writes cancel "8=FIX.4.4|9=77|35=F|49=GW|56=DSK|34=702|52=t1|11=A-1|55=X|54=5|38=0.0001|37=NONE|41=A|60=t1|10=054|" ≡ true
@@ -90,7 +98,7 @@ record Samples : Type 0 where
 
 samples : Samples
 unfolding if_then_else_ encode size range fields inRange value required allowed requiredBits allowedBits allBelow isSide sides isOrdtype ordtypes isTimeinforce timesinforce isStatus statuses isExectype exectypes isAlnum isNone isName isKind joined bitsRight span extent next start strip part content endOf rightAt recordShaped messageShaped textOf nameIn recordRanged wholeMessage digitsBy digits lowDigits down decimal piece spellings body tables rows types typeOf texts wordsOf isPlain places spelling valueOf inner front framed fieldsOf bytesFor texted fieldAt writeRefusal
-samples = record { order = refl; timed = refl; report = refl; told = refl; reject = refl; refused = refl; cancel = refl; replace = refl }
+samples = record { order = refl; timed = refl; report = refl; told = refl; ended = refl; reject = refl; refused = refl; cancel = refl; replace = refl }
 
 -- ---- numbers
 

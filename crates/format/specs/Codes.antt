@@ -73,8 +73,12 @@ expired = 67
 abbrev pub rejected : ℕ
 rejected = 56
 
+-- not among the Rust's
+abbrev pub doneForDay : ℕ
+doneForDay = 51
+
 unfoldable pub statuses : List ℕ
-statuses = pendingNew ∷ new ∷ partiallyFilled ∷ filled ∷ pendingCancel ∷ pendingReplace ∷ canceled ∷ expired ∷ rejected ∷ []
+statuses = pendingNew ∷ new ∷ partiallyFilled ∷ filled ∷ pendingCancel ∷ pendingReplace ∷ canceled ∷ expired ∷ rejected ∷ doneForDay ∷ []
 
 -- ExecType(150)
 abbrev pub execPendingNew : ℕ

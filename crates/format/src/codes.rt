@@ -20,6 +20,8 @@ pub const EXPIRED: u8 = b'C';
 
 pub const REJECTED: u8 = b'8';
 
+pub const DONE_FOR_DAY: u8 = b'3';
+
 // OrdType(40).
 pub const MARKET: u8 = b'1';
 

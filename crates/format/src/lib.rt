@@ -40,7 +40,7 @@ pub fn is_timeinforce(code: u8) -> bool
 pub fn is_status(code: u8) -> bool
     ensures { λ r. ⌜ r ≡ isStatus code ⌝ }
 {
-    in_map(2752855, code)
+    in_map(2752863, code)
 }
 
 pub fn is_exectype(code: u8) -> bool

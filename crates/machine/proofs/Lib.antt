@@ -2,4 +2,5 @@ pub mod Numbered
 pub mod Kept
 pub mod Claim
 pub mod Said
+pub mod DoneForDay
 pub mod Exchange

@@ -17,5 +17,6 @@ pub mod Kept
 pub mod Whole
 pub mod Reads
 pub mod Short
+pub mod DoneForDay
 pub mod Said
 pub mod Exchange

@@ -19,7 +19,7 @@ use Rattle.store.specs.declared.Order.{Order}
 use Rattle.store.specs.declared.Request.{Request}
 use Rattle.store.specs.Orders.{noOrder, noPending, noGateway}
 use Rattle.machine.specs.Constants.{filledShort}
-use Rattle.format.specs.Codes.{pendingNew, new, partiallyFilled, filled, canceled, expired, rejected, market, limit}
+use Rattle.format.specs.Codes.{pendingNew, new, partiallyFilled, filled, canceled, expired, rejected, doneForDay, market, limit}
 
 -- one more, or the same at the top of the field's range, which the book's rules keep away
 unfoldable pub oneMore : (top n : ℕ) → ℕ
@@ -65,9 +65,17 @@ limitPrice ordtype price = if eqb ordtype market then none else price
 unfoldable pub isDone : ℕ → Bool
 isDone s = eqb s filled || eqb s canceled || eqb s expired || eqb s rejected
 
--- `leaves_qty`
+-- `leaves_qty`, by status, ordered and cumulative: 0 of a done order and, while it lasts, of one that is done for the day
+unfoldable pub leavesOf : (status qty cumqty : ℕ) → ℕ
+leavesOf status qty cumqty = if isDone status || eqb status doneForDay then 0 else qty - cumqty
+
 unfoldable pub leavesQty : Order → ℕ
-leavesQty o = if isDone (o .state .status) then 0 else o .terms .qty - o .state .cumqty
+leavesQty o = leavesOf (o .state .status) (o .terms .qty) (o .state .cumqty)
+
+-- a status as the Rust's questions take it: done for the day is New where the cumulative is 0, and PartiallyFilled above. They ask whether a status is one of
+-- these two in `behind` alone, and of a reported one alone; equal to another it is as it is.
+unfoldable pub asAsked : (cumqty s : ℕ) → ℕ
+asAsked cumqty s = if eqb s doneForDay then (if eqb cumqty 0 then new else partiallyFilled) else s
 
 -- the status that `set_status` leaves: above a cumulative of 0, New and PendingNew are PartiallyFilled
 unfoldable pub statusAt : ℕ → ℕ → ℕ

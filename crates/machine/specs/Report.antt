@@ -11,7 +11,7 @@ use Rattle.store.specs.declared.Request.{Request}
 use Rattle.text.specs.Words.{noText}
 use Rattle.machine.specs.Constants.{unknownOrderReason, overfill, unknownAtVenueAlarm, fillOnDoneOrder, venues}
 use Rattle.format.specs.Codes.{pendingNew, new, partiallyFilled, pendingCancel, pendingReplace, canceled, rejected, execTrade, execReplaced, execRejected, execRestated, execDoneForDay, execStatus}
-use Rattle.machine.specs.Orders.{isDone, shortAlarm, setStatus, recordVenueOrderId, applyReplace, nextExec, withState}
+use Rattle.machine.specs.Orders.{isDone, asAsked, shortAlarm, setStatus, recordVenueOrderId, applyReplace, nextExec, withState}
 use Rattle.machine.specs.Messages.{report}
 use Rattle.machine.specs.Changes.{Event, Message, unchanged, withOrder, answering, superseding, telling, alarming, isFirst, isReplace, isGateway, isCancel, isAnswered}
 use Rattle.machine.specs.GatewayCancel.{resumeGatewayCancel}
@@ -44,7 +44,7 @@ pendingHere k o = eqb (o .pending .request) k
 -- `behind`: the report's status would roll the order's back
 unfoldable pub behind : ℕ → Request → Order → Event → Bool
 behind k q o e =
-    let s : ℕ = e .exec .status in
+    let s : ℕ = asAsked (e .exec .cumqty) (e .exec .status) in
     let settled : Bool = isAnswered q && not (isDone s) && (not (eqb (o .links .current) k) || eqb s pendingReplace) in
     let behindNew : Bool = eqb s pendingNew && not (eqb (o .state .status) pendingNew) in
     let behindPending : Bool =

@@ -68,7 +68,7 @@ pub fn open_quantity(book: &[u8], client: u16) -> Opened
 }
 
 // What the order of a link has left, 0 where there is none.
-fn leaves_of(book: &[u8], place: u16) -> u64
+fn leaves_at_link(book: &[u8], place: u16) -> u64
     ensures { λ r. ⌜ r ≡ leavesQty (orderAtLink (bookOf (now (book .entry))) place) ⌝ }
 {
     if place == 0 {
@@ -89,7 +89,7 @@ pub fn opening(book: &[u8], place: u16, client: u16, leaves: u64) -> Word
     match store::find_client(book, client) {
         Found::At(i) => {
             let stored = store::load_open(book, i);
-            let before = leaves_of(book, place);
+            let before = leaves_at_link(book, place);
             let rest = order::less(stored, before);
             let quantity = std::num::wrapping_add_u64(rest, leaves);
             Word { at: i, quantity }

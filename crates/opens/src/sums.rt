@@ -39,11 +39,7 @@ pub(crate) fn leaves_at(book: &[u8], i: usize) -> u64
     let at = layout::ORDERS + i * layout::ORDER;
     let qty = get64(book, at + layout::QTY);
     let cumqty = get64(book, at + layout::CUMQTY);
-    let rest = order::less(qty, cumqty);
-    if order::is_done(book[at + layout::STATUS]) {
-        return 0;
-    }
-    rest
+    order::leaves_of(book[at + layout::STATUS], qty, cumqty)
 }
 
 // The first of orders 0 to i that is of order i's client.

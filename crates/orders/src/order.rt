@@ -3,7 +3,7 @@
 ghost use mathlib.Core.Path.{_≡_};
 ghost use Prim.Native.Nat.{_-_};
 ghost use Rattle.prelude.specs.Cases.{if_then_else_};
-ghost use Rattle.machine.specs.Orders.{oneMore, isEmpty, hasPending, hasGateway, isDone, leavesQty, statusAt, isShort, unlessShort, shortAlarm, setStatus, textNone, keptOrderId, recordVenueOrderId, pendingTerms, applyReplace, nextSequence, nextExec};
+ghost use Rattle.machine.specs.Orders.{oneMore, isEmpty, hasPending, hasGateway, isDone, leavesOf, leavesQty, asAsked, statusAt, isShort, unlessShort, shortAlarm, setStatus, textNone, keptOrderId, recordVenueOrderId, pendingTerms, applyReplace, nextSequence, nextExec};
 use format::codes;
 use prelude::Terms;
 use prelude::Text;
@@ -156,13 +156,35 @@ pub fn is_done(s: u8) -> bool
     (s == codes::FILLED) | (s == codes::CANCELED) | (s == codes::EXPIRED) | (s == codes::REJECTED)
 }
 
+// By status, ordered and cumulative: 0 of a done order and, while it lasts, of one that is done for the
+// day.
+pub fn leaves_of(status: u8, qty: u64, cumqty: u64) -> u64
+    ensures { λ r. ⌜ r ≡ leavesOf status qty cumqty ⌝ }
+{
+    if is_done(status) | (status == codes::DONE_FOR_DAY) {
+        return 0;
+    }
+    less(qty, cumqty)
+}
+
 pub fn leaves_qty(o: Order) -> u64
     ensures { λ r. ⌜ r ≡ leavesQty o ⌝ }
 {
-    if is_done(o.state.status) {
-        return 0;
+    leaves_of(o.state.status, o.terms.qty, o.state.cumqty)
+}
+
+// A status as the Rust's questions take it: done for the day is New where the cumulative is 0, and
+// PartiallyFilled above.
+pub fn as_asked(cumqty: u64, s: u8) -> u8
+    ensures { λ r. ⌜ r ≡ asAsked cumqty s ⌝ }
+{
+    if s != codes::DONE_FOR_DAY {
+        return s;
     }
-    less(o.terms.qty, o.state.cumqty)
+    if cumqty == 0 {
+        return codes::NEW;
+    }
+    codes::PARTIALLY_FILLED
 }
 
 // The status that `set_status` leaves: above a cumulative of 0, New and PendingNew are

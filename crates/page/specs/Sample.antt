@@ -1,5 +1,6 @@
--- A page of three orders, byte for byte: one that was cancelled at 40 of 100, whose leaves are 0; one with the largest quantity and the
--- longest name and symbol; and one whose symbol has a line feed in it, which prints as a blank. Rests on Page.
+-- A page of four orders, byte for byte: one that was cancelled at 40 of 100, whose leaves are 0; one with the largest quantity and the
+-- longest name and symbol; one whose symbol has a line feed in it, which prints as a blank; and one that is done for the day at 40 of 100, whose
+-- leaves are 0 too. Rests on Page.
 use Prim.Native.Nat.{ℕ, _^_}
 use mathlib.Core.Path.{_≡_, refl, _∙_}
 use mathlib.Core.List.{List, [], _∷_, _++_, map}
@@ -11,7 +12,7 @@ use Rattle.decimal.specs.Decimal.{digitsBy, lowDigits, down, right}
 use Rattle.store.specs.declared.Order.{Order}
 use Rattle.store.specs.Orders.{noOrder}
 use Rattle.store.specs.Book.{Book}
-use Rattle.machine.specs.Orders.{isDone, leavesQty}
+use Rattle.machine.specs.Orders.{isDone, leavesOf, leavesQty}
 use Rattle.page.specs.Page.{Line, printable, left, lineOf, lineBytes, pageOf, pageBytes}
 use Rattle.page.specs.Laws.Line.{shortly, lineShortly, line-short}
 
@@ -43,8 +44,12 @@ largest =
 abbrev broken : Order
 broken = order (66 ∷ 55 ∷ []) (83 ∷ 79 ∷ 89 ∷ 10 ∷ 66 ∷ 69 ∷ 65 ∷ 78 ∷ []) 49 12345678 1
 
+-- D4, OATS, done for the day
+abbrev ended : Order
+ended = order (68 ∷ 52 ∷ []) (79 ∷ 65 ∷ 84 ∷ 83 ∷ []) 51 1000000 400000
+
 abbrev day : Book
-day = record { setting = 10; orders = canceled ∷ largest ∷ broken ∷ []; requests = [] }
+day = record { setting = 10; orders = canceled ∷ largest ∷ broken ∷ ended ∷ []; requests = [] }
 
 -- ---- its lines, field by field; in the comments | stands for the line feed, so that the blank before it is seen
 
@@ -81,20 +86,35 @@ lineBroken =
     32 ∷ 32 ∷ 32 ∷ 32 ∷ 32 ∷ 49 ∷ 50 ∷ 51 ∷ 52 ∷ 46 ∷ 53 ∷ 54 ∷ 55 ∷ 55 ∷
     32 ∷ 10 ∷ []
 
+-- D4                  OATS            3      100.0000       40.0000        0.0000 |
+abbrev lineEnded : List ℕ
+lineEnded =
+    68 ∷ 52 ∷ 32 ∷ 32 ∷ 32 ∷ 32 ∷ 32 ∷ 32 ∷ 32 ∷ 32 ∷ 32 ∷ 32 ∷ 32 ∷ 32 ∷ 32 ∷ 32 ∷ 32 ∷ 32 ∷ 32 ∷ 32 ∷
+    79 ∷ 65 ∷ 84 ∷ 83 ∷ 32 ∷ 32 ∷ 32 ∷ 32 ∷ 32 ∷ 32 ∷ 32 ∷ 32 ∷ 32 ∷ 32 ∷ 32 ∷ 32 ∷
+    51 ∷
+    32 ∷ 32 ∷ 32 ∷ 32 ∷ 32 ∷ 32 ∷ 49 ∷ 48 ∷ 48 ∷ 46 ∷ 48 ∷ 48 ∷ 48 ∷ 48 ∷
+    32 ∷ 32 ∷ 32 ∷ 32 ∷ 32 ∷ 32 ∷ 32 ∷ 52 ∷ 48 ∷ 46 ∷ 48 ∷ 48 ∷ 48 ∷ 48 ∷
+    32 ∷ 32 ∷ 32 ∷ 32 ∷ 32 ∷ 32 ∷ 32 ∷ 32 ∷ 48 ∷ 46 ∷ 48 ∷ 48 ∷ 48 ∷ 48 ∷
+    32 ∷ 10 ∷ []
+
 -- ---- the facts
 
 canceled-is : lineBytes (lineOf canceled) ≡ lineCanceled
-unfolding lineOf contents textOf leavesQty isDone if_then_else_ left printable shortly right digitsBy lowDigits down
+unfolding lineOf contents textOf leavesQty leavesOf isDone if_then_else_ left printable shortly right digitsBy lowDigits down
 canceled-is = line-short (lineOf canceled) (lit≤ tt) (lit≤ tt) (lit≤ tt) ∙ refl
 
 largest-is : lineBytes (lineOf largest) ≡ lineLargest
-unfolding lineOf contents textOf leavesQty isDone if_then_else_ left printable shortly right digitsBy lowDigits down
+unfolding lineOf contents textOf leavesQty leavesOf isDone if_then_else_ left printable shortly right digitsBy lowDigits down
 largest-is = line-short (lineOf largest) (lit≤ tt) (lit≤ tt) (lit≤ tt) ∙ refl
 
 broken-is : lineBytes (lineOf broken) ≡ lineBroken
-unfolding lineOf contents textOf leavesQty isDone if_then_else_ left printable shortly right digitsBy lowDigits down
+unfolding lineOf contents textOf leavesQty leavesOf isDone if_then_else_ left printable shortly right digitsBy lowDigits down
 broken-is = line-short (lineOf broken) (lit≤ tt) (lit≤ tt) (lit≤ tt) ∙ refl
 
-pub sample-page : pageBytes (pageOf day) ≡ lineCanceled ++ (lineLargest ++ (lineBroken ++ []))
+ended-is : lineBytes (lineOf ended) ≡ lineEnded
+unfolding lineOf contents textOf leavesQty leavesOf isDone if_then_else_ left printable shortly right digitsBy lowDigits down
+ended-is = line-short (lineOf ended) (lit≤ tt) (lit≤ tt) (lit≤ tt) ∙ refl
+
+pub sample-page : pageBytes (pageOf day) ≡ lineCanceled ++ (lineLargest ++ (lineBroken ++ (lineEnded ++ [])))
 unfolding pageBytes pageOf
-sample-page = λ i. canceled-is i ++ (largest-is i ++ (broken-is i ++ []))
+sample-page = λ i. canceled-is i ++ (largest-is i ++ (broken-is i ++ (ended-is i ++ [])))

@@ -79,7 +79,7 @@ fn pending_here(k: u16, o: Order) -> bool
 fn behind(k: u16, q: Request, o: Order, e: Record) -> bool
     ensures { λ r. ⌜ r ≡ behind k q o e ⌝ }
 {
-    let s = e.exec.status;
+    let s = order::as_asked(e.exec.cumqty, e.exec.status);
     let at = o.state.status;
     let settled = change::is_answered(q)
         & !order::is_done(s)

@@ -33,7 +33,7 @@ const PRICE: Value = Decimal(8, 100_000_000_000_000);
 const SIDE: Value = Code("125");
 const TYPE: Value = Code("12");
 const TIF: Value = Code("0134");
-const STATUS: Value = Code("A0126E4C8");
+const STATUS: Value = Code("A0126E4C83");
 
 /// A tag, whether it must stand, and its value.
 type Row = (u32, bool, Value);

@@ -37,7 +37,7 @@ pub fn form(bit: usize) -> Option<Form> {
         10 | 17 => Number(8, 100_000_000_000_000),
         11 => Code(b"0134"),
         12 => Code(b"A0F64E58CD3I"),
-        13 => Code(b"A0126E4C8"),
+        13 => Code(b"A0126E4C83"),
         18 => Text(0, 32),
         19 => Number(4, u128::MAX),
         20 => Text(1, 64),

@@ -9,7 +9,7 @@ use Rattle.format.proofs.is_status.Tie as tie
 
 returns : tie.Need-returns
 unfolding isStatus statuses allBelow
-returns c = c .in-map .ensures ∙ agree 2752855 statuses refl (c .before .args .code) (search needs)
+returns c = c .in-map .ensures ∙ agree 2752863 statuses refl (c .before .args .code) (search needs)
 
 pub is-status-spec : {M : Type 1} → statement M
 is-status-spec = tie.close (tie.spec (λ c κs. search needs) returns)

@@ -15,7 +15,7 @@ use Rattle.store.specs.declared.Request.{Request}
 use Rattle.store.specs.declared.State.{State}
 use Rattle.store.specs.Book.{Book, orderIn, requestIn}
 use Rattle.store.specs.Orders.{noOrder}
-use Rattle.machine.specs.Orders.{oneMore, isDone, leavesQty, pendingTerms}
+use Rattle.machine.specs.Orders.{oneMore, leavesOf, leavesQty, pendingTerms}
 use Rattle.machine.specs.Machine.{changeOf, stepOf, after, bookAfter}
 use Rattle.machine.specs.Exchange.{linkText, SameRecord, SameOrder, openOf, TwoClients, SameBook}
 use Rattle.machine.specs.declared.Change.{Change}
@@ -220,9 +220,9 @@ same-leaves : (client : ℕ) (o p : Order) → o .client ≡ p .client → o .te
     → (if eqb (o .client) client then leavesQty o else 0) ≡ (if eqb (p .client) client then leavesQty p else 0)
 unfolding leavesQty
 same-leaves client o p x y z =
-    ap (λ (k : ℕ). if eqb k client then (if isDone (o .state .status) then 0 else o .terms .qty - o .state .cumqty) else 0) x
-    ∙ ap (λ (t : Terms). if eqb (p .client) client then (if isDone (o .state .status) then 0 else t .qty - o .state .cumqty) else 0) y
-    ∙ ap (λ (s : State). if eqb (p .client) client then (if isDone (s .status) then 0 else p .terms .qty - s .cumqty) else 0) z
+    ap (λ (k : ℕ). if eqb k client then leavesOf (o .state .status) (o .terms .qty) (o .state .cumqty) else 0) x
+    ∙ ap (λ (t : Terms). if eqb (p .client) client then leavesOf (o .state .status) (t .qty) (o .state .cumqty) else 0) y
+    ∙ ap (λ (s : State). if eqb (p .client) client then leavesOf (s .status) (p .terms .qty) (s .cumqty) else 0) z
 
 same-open : (x y : Book) → length (x .orders) ≡ length (y .orders) → ((k : ℕ) → SameOrder x y k) → (client : ℕ) → openOf x client ≡ openOf y client
 same-open x y l s client =

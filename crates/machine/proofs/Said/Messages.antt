@@ -20,7 +20,7 @@ use Rattle.store.specs.declared.Names.{Names}
 use Rattle.store.specs.declared.State.{State}
 use Rattle.store.specs.declared.Order.{Order}
 use Rattle.text.specs.Words.{noText}
-use Rattle.machine.specs.Orders.{isEmpty, leavesQty, pendingTerms}
+use Rattle.machine.specs.Orders.{isEmpty, leavesOf, leavesQty, pendingTerms}
 use Rattle.machine.specs.Messages.{bitIf, noLongText, termsBits, noteBits, report, cancelReject, toVenue, newOrder, cancelRequest, replaceRequest}
 use Rattle.machine.specs.Ranges.{textWithin, nameRange}
 use Rattle.machine.specs.Rules.{forceRange, pricedRange, termsRange}
@@ -181,7 +181,7 @@ name-there t e =
 -- ---- the messages
 
 leaves-range : (o : Order) → isQty (o .terms .qty) ≡ true → isQty (leavesQty o) ≡ true
-unfolding leavesQty
+unfolding leavesQty leavesOf
 leaves-range o e =
     let h : o .terms .qty ≤ 1000000000000 = leb-true (o .terms .qty) (10 ^ 12) e in
     split-if (λ (n : ℕ). leb n (10 ^ 12) ≡ true) _ (λ d. refl) (λ d. le-leb (o .terms .qty - o .state .cumqty) (10 ^ 12) (omega arith))

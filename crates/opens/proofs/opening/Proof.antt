@@ -12,7 +12,7 @@ returns c =
     let v = l .before in
     let w = v .before in
     let k = w .before .before in
-    by-found _ _ _ _ _ _ _ _ _ (found-at _ _ (sym (k .before .before .find-client .ensures) ∙ k .i .given .1)) (w .load-open .ensures) (v .leaves-of .ensures) (l .less .ensures) (c .wrapping-add-u64 .ensures)
+    by-found _ _ _ _ _ _ _ _ _ (found-at _ _ (sym (k .before .before .find-client .ensures) ∙ k .i .given .1)) (w .load-open .ensures) (v .leaves-at-link .ensures) (l .less .ensures) (c .wrapping-add-u64 .ensures)
 
 returns-2 : tie.Need-returns-2
 returns-2 c = let n = c .before in by-none _ _ _ _ _ (found-none _ (sym (n .before .before .find-client .ensures) ∙ n .enum-told .given .1)) (c .order-count .ensures)

@@ -25,7 +25,7 @@ use Rattle.store.specs.Laws.Stored.{length-orders, order-in}
 use Rattle.store.specs.Laws.Opens.{load-open-in}
 use Rattle.machine.specs.declared.Change.{Change}
 use Rattle.machine.specs.Changes.{Event}
-use Rattle.machine.specs.Orders.{isDone, leavesQty}
+use Rattle.machine.specs.Orders.{isDone, leavesOf, leavesQty}
 use Rattle.machine.specs.Machine.{orderAtLink, ordersAfter, after, stepOf}
 use Rattle.machine.specs.Rules.{rules}
 use Rattle.machine.specs.History.{readAs, comesTo, lineOf}
@@ -65,7 +65,7 @@ part-other : (client : ℕ) (o : Order) → (o .client ≡ client → ⊥) → p
 part-other client o n = if-false _ _ _ (ne-eqb (o .client) client n)
 
 none-left : leavesQty noOrder ≡ 0
-unfolding leavesQty isDone if_then_else_
+unfolding leavesQty leavesOf isDone if_then_else_
 none-left = refl
 
 part-none : (client : ℕ) → part client noOrder ≡ 0

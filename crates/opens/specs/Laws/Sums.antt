@@ -25,7 +25,7 @@ use Rattle.store.specs.Book.{Book, bookOf, orderIn, orderAt, orderCount, openAt
 use Rattle.store.specs.Finds.{findClient}
 use Rattle.store.specs.Laws.Finds.{clientsAt, find-client-bytes}
 use Rattle.store.specs.Laws.Stored.{length-orders, order-in}
-use Rattle.machine.specs.Orders.{isDone, leavesQty}
+use Rattle.machine.specs.Orders.{leavesOf, leavesQty}
 use Rattle.machine.specs.Exchange.{openOf}
 use Rattle.machine.specs.Rules.{forceRange, pricedRange, termsRange, rules}
 use Rattle.machine.proofs.Kept.Lift.{book-kept}
@@ -57,9 +57,9 @@ total-zero (x ∷ l) = let r = total-zero l in omega arith
 
 -- ---- how large they are on a book that keeps its rules
 
-leaves-less : (o : Order) → leavesQty o ≤ o .terms .qty
-unfolding leavesQty
-leaves-less o = split-if (λ n. n ≤ o .terms .qty) (isDone (o .state .status)) (λ e. omega arith) (λ e. omega arith)
+pub leaves-less : (o : Order) → leavesQty o ≤ o .terms .qty
+unfolding leavesQty leavesOf
+leaves-less o = split-if (λ n. n ≤ o .terms .qty) _ (λ e. omega arith) (λ e. omega arith)
 
 terms-qty : (o : Order) → termsRange (o .terms) ≡ true → o .terms .qty ≤ 10 ^ 12
 unfolding termsRange

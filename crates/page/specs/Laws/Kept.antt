@@ -9,7 +9,7 @@ use borrow.Author.Tests.{eqb-true, leb-true}
 use lib.Dec.{eqb, leb}
 use lib.ListN.{length, getD, length-map}
 use Rattle.prelude.specs.Below.{allBelow}
-use Rattle.prelude.specs.Cases.{split-if, both-true, either-true, clash}
+use Rattle.prelude.specs.Cases.{both-true, either-true, clash}
 use Rattle.prelude.specs.Texts.{isText}
 use Rattle.prelude.specs.declared.Text.{Text}
 use Rattle.format.specs.Codes.{listed, statuses, isSide, isStatus}
@@ -17,7 +17,6 @@ use Rattle.store.specs.declared.Order.{Order}
 use Rattle.store.specs.Orders.{noOrder}
 use Rattle.store.specs.Book.{Book, bookOf, orderIn, orderCount}
 use Rattle.store.specs.Laws.Stored.{length-orders}
-use Rattle.machine.specs.Orders.{isDone, leavesQty}
 use Rattle.format.specs.Codes.{isQty, within, alnumAt, isNone, isName}
 use Rattle.machine.specs.Ranges.{textWithin, nameRange}
 use Rattle.machine.specs.Rules.{forceRange, pricedRange, termsRange, filledRule, rules}
@@ -29,6 +28,7 @@ use Rattle.page.specs.Promise.{InRange}
 use Rattle.page.specs.Laws.Line.{Fine}
 use Rattle.page.specs.Laws.Pages.{AllFine}
 use Rattle.opens.specs.Laws.Keeps.{keeps-held}
+use Rattle.opens.specs.Laws.Sums.{leaves-less}
 
 -- ---- ranges
 
@@ -49,10 +49,6 @@ terms-qty o e = leb-true (o .terms .qty) (10 ^ 12) (both-true (isSide (o .terms 
 filled-qty : (o : Order) → filledRule o ≡ true → o .state .cumqty ≤ o .terms .qty
 unfolding filledRule
 filled-qty o e = leb-true (o .state .cumqty) (o .terms .qty) e
-
-leaves-less : (o : Order) → leavesQty o ≤ o .terms .qty
-unfolding leavesQty
-leaves-less o = split-if (λ n. n ≤ o .terms .qty) (isDone (o .state .status)) (λ e. omega arith) (λ e. omega arith)
 
 -- a status is a character from 0 on
 abbrev above : ℕ → List ℕ → Bool

@@ -2,7 +2,7 @@
 //! that keep the rules, whether any events lead there or not.
 
 use lists::random::Random;
-use lists::{Generator, PROFILES, draw, profile};
+use lists::{DAYS, Generator, PROFILES, draw, profile};
 use model::codes::{ORD_TYPES, SIDES, STATUSES, TIMES_IN_FORCE, is_done};
 use model::machine::{BOOK_BYTES, MOST_ORDERS, MOST_REQUESTS};
 use model::numbers::{MAX_PRICE, MAX_QTY};
@@ -76,7 +76,7 @@ fn varied(book: &Book) -> bool {
 /// Books of many sizes that events of every profile leave, the full one among them.
 pub fn many(seed: u64) -> Vec<(String, Vec<u8>)> {
     let sizes = [0, 1, 2, 5, 12, 30, 80, 200, 400];
-    let profiles = PROFILES.iter().enumerate().flat_map(|(number, profile)| {
+    let profiles = PROFILES.iter().chain(&DAYS).enumerate().flat_map(|(number, profile)| {
         sizes.map(|events| {
             let seed = seed + number as u64 * 10 + events as u64;
             (format!("{} events of {}, seed {seed}", events, profile.name), reached(profile, seed, events))

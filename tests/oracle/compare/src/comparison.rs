@@ -7,7 +7,7 @@
 use std::panic::{AssertUnwindSafe, catch_unwind};
 
 use lists::random::Random;
-use lists::{Generator, Item, List, PROFILES};
+use lists::{Generator, Item, List, profile};
 use model::Machine;
 use model::machine::{ANSWER_BYTES, BOOK_BYTES};
 use model::watch::Watched;
@@ -157,7 +157,7 @@ impl Built {
         let bytes = books::random(&mut Random::new(seed));
         let (machine, _) = mirror::machine(&Book::read(&bytes));
         // Not the realistic profile and the like: here most events should meet something odd.
-        let profile = &PROFILES[1 + seed as usize % (PROFILES.len() - 1)];
+        let profile = profile::odd(seed);
         let mut generator = Generator::on(machine, profile, seed);
         let items = (0..events).map(|_| generator.next_item()).collect();
         Self { bytes, list: List { setting: generator.setting(), items } }

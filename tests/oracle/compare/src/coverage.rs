@@ -9,7 +9,7 @@ use gateway::book::{CancelKind, Origin};
 use lists::List;
 use model::Machine;
 use model::answer::{latin1, messages};
-use model::codes::status_code;
+use model::done_for_day::status_of;
 use model::numbers::qty;
 use model::record::*;
 
@@ -54,7 +54,7 @@ fn met(machine: &Machine, record: &Record<'_>) -> Option<Met> {
     let order = book.order(sent.map(|sent| sent.order).or_else(by_client).or_else(by_name)?)?;
     let quantity = qty(record.number(if record.has(QTY) { QTY } else { CUM_QTY }));
     Some(Met {
-        status: status_code(order.status),
+        status: status_of(order),
         filled: order.cum_qty > qty(0),
         pending: order.pending.is_some(),
         venue_order_id: order.venue_order_id.is_some(),

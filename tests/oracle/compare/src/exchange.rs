@@ -5,7 +5,7 @@
 use std::collections::BTreeSet;
 
 use lists::random::Random;
-use lists::{Generator, PROFILES};
+use lists::{Generator, PROFILES, profile};
 use model::machine::{ANSWER_BYTES, MOST_REQUESTS};
 use model::record::*;
 
@@ -216,7 +216,7 @@ fn records(bytes: &[u8], seed: u64) -> Vec<Vec<u8>> {
     let mut random = Random::new(seed);
     let chains: Vec<probes::Chain> =
         (0..CHAINS).filter_map(|_| probes::draw(&machine, &mut random)).collect();
-    let profile = &PROFILES[seed as usize % PROFILES.len()];
+    let profile = profile::any(seed);
     let mut generator = Generator::on(machine, profile, seed);
     let drawn = (0..DRAWN).map(|_| generator.next_item().record);
     drawn.chain(chains.into_iter().flatten()).collect()
@@ -240,7 +240,7 @@ pub fn on_book(entries: &Entries, bytes: &[u8], seed: u64, pairs: &mut Pairs) ->
 /// A reached and a built book of a seed, full of any bytes where no field stands, and now and then one
 /// with room for a single request.
 pub fn drawn(seed: u64) -> Vec<Vec<u8>> {
-    let profile = &PROFILES[seed as usize % PROFILES.len()];
+    let profile = profile::any(seed);
     let events = [5, 20, 60, 150, 400][seed as usize / PROFILES.len() % 5];
     let mut drawn = vec![books::reached(profile, seed, events), books::random(&mut Random::new(seed))];
     if seed % 10 == 0 {

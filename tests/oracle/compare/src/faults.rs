@@ -2,10 +2,12 @@
 //! docs/SCOPE.md, Wrong answers, and some of their kin.
 
 use gateway::Decimal;
+use gateway::book::oracle::client;
 use gateway::book::{Order, Status};
 use model::Machine;
 use model::answer::{HEAD, alarms, bytes, client_number, latin1, messages, of_messages};
 use model::codes::{is_done, side_code, status_code};
+use model::done_for_day::{self, CODE, status_of};
 use model::machine::{ANSWER_BYTES, BOOK_BYTES, MOST_REQUESTS};
 use model::numbers::{Fill, Source, qty_count};
 use model::record::*;
@@ -109,6 +111,26 @@ pub enum Fault {
     ShortEndsPending,
     /// A refusal's Filled is judged by the CumQty of its report.
     ShortByItsReport,
+    /// A 3 is no status.
+    ThreeUnlisted,
+    /// An order that is 3 is done: a cancel or replace is refused for it.
+    ThreeIsDone,
+    /// An order that is 3 leaves ordered less cumulative.
+    ThreeLeaves,
+    /// The open quantity counts what is left of an order that is 3.
+    ThreeOpen,
+    /// A 3 is equal to New: either repeats the other.
+    ThreeIsNew,
+    /// A 3 is taken for none of the statuses that can be behind.
+    ThreeIsNeverBehind,
+    /// A fill without a status takes the 3 away.
+    FillEndsThree,
+    /// A 3 accepts no replace.
+    ThreeAcceptsNothing,
+    /// A refusal leaves a 3 out.
+    ThreeNotInRefusals,
+    /// A refusal without a status takes the 3 away.
+    RefusalEndsThree,
     /// The page's last digit of a quantity is one higher.
     PageDigitOff,
     /// The page's leaves of a done order are ordered less cumulative.
@@ -207,7 +229,7 @@ pub enum Fault {
 
 impl Fault {
     /// Faults that the comparison finds.
-    pub const COMPARED: [Self; 85] = [
+    pub const COMPARED: [Self; 95] = [
         Self::AddsLastQty,
         Self::AcknowledgesLater,
         Self::SevenEarly,
@@ -252,6 +274,16 @@ impl Fault {
         Self::ShortBeforeQuestions,
         Self::ShortEndsPending,
         Self::ShortByItsReport,
+        Self::ThreeUnlisted,
+        Self::ThreeIsDone,
+        Self::ThreeLeaves,
+        Self::ThreeOpen,
+        Self::ThreeIsNew,
+        Self::ThreeIsNeverBehind,
+        Self::FillEndsThree,
+        Self::ThreeAcceptsNothing,
+        Self::ThreeNotInRefusals,
+        Self::RefusalEndsThree,
         Self::PageDigitOff,
         Self::PageLeavesOfDone,
         Self::PageReversed,
@@ -357,6 +389,22 @@ pub fn event(fault: Fault, machine: &mut Machine, record: &[u8], buffer: usize) 
             let name = bytes(&order.expect("a Filled is under a request").name);
             filled_short(fault, machine, before, (&name, &read), outcome, buffer)
         }
+        Fault::ThreeUnlisted if read.code(ORD_STATUS) == CODE => {
+            *machine = before;
+            Err(4)
+        }
+        Fault::ThreeIsDone
+        | Fault::ThreeLeaves
+        | Fault::ThreeIsNew
+        | Fault::ThreeIsNeverBehind
+        | Fault::FillEndsThree
+        | Fault::ThreeAcceptsNothing
+        | Fault::ThreeNotInRefusals
+        | Fault::RefusalEndsThree
+            if outcome.is_ok() =>
+        {
+            three(fault, machine, before, &read, outcome, buffer)
+        }
         Fault::SourceByPrice
         | Fault::NoSourceWithoutRise
         | Fault::SourceWithoutReport
@@ -399,6 +447,93 @@ fn filled_short(
         _ => {}
     }
     Ok(answer)
+}
+
+/// What a fault makes of a 3 that an event brings, or that its order has.
+fn three(
+    fault: Fault,
+    machine: &mut Machine,
+    before: Machine,
+    event: &Record<'_>,
+    outcome: Result<Vec<u8>, u32>,
+    buffer: usize,
+) -> Result<Vec<u8>, u32> {
+    if fault == Fault::ThreeLeaves {
+        return outcome.map(|answer| leaving(&answer));
+    }
+    let Some(order) = amended_or_named(&before, event).cloned() else { return outcome };
+    let (was, name) = (status_of(&order), bytes(&order.name));
+    let ended = was == CODE && !event.has(ORD_STATUS);
+    if fault == Fault::ThreeIsDone && was == CODE && [CANCEL, REPLACE].contains(&event.kind) {
+        *machine = before;
+        machine.order_mut(&name).expect("a booked order").status = Status::Canceled;
+        let outcome = machine.event(&Draft::of(event).bytes(), buffer);
+        machine.order_mut(&name).expect("a booked order").status = order.status;
+        return outcome;
+    }
+    if [Fault::FillEndsThree, Fault::RefusalEndsThree].contains(&fault) && ended {
+        let after = machine.order_mut(&name).expect("a booked order");
+        let fill = event.kind == VENUE_REPORT && after.cum_qty > order.cum_qty;
+        if fill == (fault == Fault::FillEndsThree) && (fill || event.kind == CANCEL_REJECT) {
+            done_for_day::mark(after, false);
+        }
+        return outcome;
+    }
+    let Some(instead) = taken_for_three(fault, &order, event) else { return outcome };
+    *machine = before;
+    let outcome = machine.event(&instead, buffer);
+    if fault == Fault::ThreeIsNeverBehind {
+        let order = machine.order_mut(&name).expect("a booked order");
+        done_for_day::mark(order, true);
+        order.status = done_for_day::taken_as(order.cum_qty);
+    }
+    outcome
+}
+
+/// The event that a fault takes in place of one with a 3, or of one on an order that is 3.
+fn taken_for_three(fault: Fault, order: &Order, event: &Record<'_>) -> Option<Vec<u8>> {
+    let (was, named) = (status_of(order), latin1(event.text(DOWNSTREAM)));
+    let status = event.maybe(ORD_STATUS, |event| event.code(ORD_STATUS))?;
+    let here = order.pending.as_ref().is_some_and(|new| new.downstream == named);
+    let refuses = event.kind == CANCEL_REJECT || event.code(EXEC_TYPE) == b'8';
+    let repeats = event.kind == VENUE_REPORT
+        && named == order.downstream
+        && event.number(CUM_QTY) == qty_count(order.cum_qty)
+        && event.number(LAST_QTY) == 0
+        && !b"D53".contains(&event.code(EXEC_TYPE));
+    let other = |status: u8| Some(Draft::of(event).number(ORD_STATUS, status).bytes());
+    match (fault, status) {
+        (Fault::ThreeIsNew, CODE) if was == b'0' && repeats => other(b'0'),
+        (Fault::ThreeIsNew, b'0') if was == CODE && repeats => other(CODE),
+        (Fault::ThreeIsNeverBehind, CODE) if b"6E".contains(&was) && !here && !refuses => {
+            other(if was == b'6' { b'E' } else { b'6' })
+        }
+        (Fault::ThreeAcceptsNothing, CODE) if here && !refuses => other(b'E'),
+        (Fault::ThreeNotInRefusals, CODE) if refuses => Some(Draft::of(event).without(ORD_STATUS).bytes()),
+        _ => None,
+    }
+}
+
+/// The answer with ordered less cumulative for the leaves of a 3.
+fn leaving(answer: &[u8]) -> Vec<u8> {
+    let other = |message: &Record<'_>| match (message.kind, message.code(ORD_STATUS)) {
+        (REPORT_MESSAGE, CODE) => {
+            Draft::of(message).number(LEAVES_QTY, message.number(QTY) - message.number(CUM_QTY))
+        }
+        _ => Draft::of(message),
+    };
+    let messages: Vec<Draft> = messages(answer).iter().map(other).collect();
+    of_messages(&messages, alarms(answer))
+}
+
+/// The order that a client's event amends, or whose request a venue's event names.
+fn amended_or_named<'a>(machine: &'a Machine, event: &Record<'_>) -> Option<&'a Order> {
+    if ![CANCEL, REPLACE].contains(&event.kind) {
+        return named_order(machine, event);
+    }
+    let client = client(event.number(CLIENT) as u16);
+    let id = machine.book().order_by_cl_ord_id(&client, &latin1(event.text(ORIG_CL_ORD_ID)))?;
+    machine.book().order(id)
 }
 
 /// The answer with the sources of its prices as the fault has them.
@@ -575,7 +710,7 @@ fn add_opens(fault: Fault, after: &mut Book) {
             (_, 0) => order.qty - order.cum_qty,
             _ => order.pending_qty.saturating_sub(order.cum_qty),
         },
-        Fault::OpenOfOthers => {
+        Fault::OpenOfOthers | Fault::ThreeOpen => {
             |order| if is_done(order.status as u8) { 0 } else { order.qty - order.cum_qty }
         }
         _ => return,

@@ -7,7 +7,7 @@ use model::record::*;
 /// A class of objection, by what FIX 4.4 says.
 #[derive(Debug, Clone, Copy, PartialEq, Eq, PartialOrd, Ord, Hash)]
 pub enum Objection {
-    /// LeavesQty is OrderQty less CumQty, or 0 for canceled, expired and rejected.
+    /// LeavesQty is OrderQty less CumQty, or 0 for canceled, done for the day, expired and rejected.
     Leaves,
     /// Filled is for a CumQty that is the OrderQty.
     FilledShort,
@@ -77,7 +77,7 @@ fn when(rules: &[(bool, Objection)]) -> Vec<Objection> {
 fn quantities(report: &Record<'_>) -> Vec<Objection> {
     let (qty, cum, leaves) = (report.number(QTY), report.number(CUM_QTY), report.number(LEAVES_QTY));
     let status = report.code(ORD_STATUS);
-    let closed = b"4C8".contains(&status);
+    let closed = b"34C8".contains(&status);
     let avg_px = report.number(AVG_PX);
     when(&[
         (leaves != if closed { 0 } else { qty - cum }, Objection::Leaves),
@@ -102,12 +102,13 @@ fn fill(report: &Record<'_>) -> Vec<Objection> {
     ])
 }
 
-/// By FIX 4.4's precedence of OrdStatus a pending cancel or replace stands over New.
+/// By FIX 4.4's precedence of OrdStatus a pending cancel or replace stands over DoneForDay, and these over New.
 fn exec_type(report: &Record<'_>) -> Vec<Objection> {
     let (exec_type, status) = (report.code(EXEC_TYPE), report.code(ORD_STATUS));
     let agrees = match exec_type {
         b'4' | b'C' | b'8' | b'A' => status == exec_type,
-        b'0' => b"06E".contains(&status),
+        b'0' => b"036E".contains(&status),
+        b'3' => b"36E".contains(&status),
         b'6' => status == b'6',
         b'E' => b"E6".contains(&status),
         _ => true,

@@ -13,6 +13,7 @@ use crate::layout::{
     UNSENT,
 };
 
+const DONE_FOR_DAY: u64 = b'3' as u64;
 const MARKET: u64 = b'1' as u64;
 
 type Rule = (&'static str, fn(&Book) -> bool);
@@ -256,9 +257,9 @@ fn open_is_sent(book: &Book) -> bool {
     open(book).all(|(_, order)| order.tries > 0 && order.stage == SENT)
 }
 
-/// What an order leaves open: by its accepted terms, and nothing where it is done.
+/// What an order leaves open: by its accepted terms, and nothing where it is done or done for the day.
 fn leaves(order: &Order) -> u64 {
-    if done(order) { 0 } else { order.qty.saturating_sub(order.cum_qty) }
+    if done(order) || order.status == DONE_FOR_DAY { 0 } else { order.qty.saturating_sub(order.cum_qty) }
 }
 
 /// The open quantity that belongs at each order's place: at a client's first order the sum over all

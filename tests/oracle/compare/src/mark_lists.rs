@@ -2,7 +2,7 @@
 //! which near readings of change request 10 are false, and lists drawn by chance.
 
 use lists::random::Random;
-use lists::{Generator, Item, PROFILES, draw, profile};
+use lists::{Generator, Item, draw, profile};
 use model::Machine;
 use model::events::{self, Filled, Named};
 use model::machine::BOOK_BYTES;
@@ -285,7 +285,7 @@ struct Drawing {
 /// The list of that seed, of so many steps.
 pub fn drawn(seed: u64, steps: usize) -> Marked {
     let mut random = Random::new(seed ^ 0x6D61_726B);
-    let generator = Generator::new(&PROFILES[seed as usize % PROFILES.len()], seed);
+    let generator = Generator::new(profile::any(seed), seed);
     let buffers: Vec<Vec<u8>> = (0..2).map(|_| buffer(&mut random)).collect();
     let (first, setting) = (buffers.clone(), generator.setting());
     let (sending, fresh) = (Sending::default(), vec![0]);
@@ -314,7 +314,7 @@ fn any_place(random: &mut Random) -> Vec<u8> {
         1 => (0..BOOK_BYTES / 8).flat_map(|_| random.next().to_le_bytes()).collect(),
         2 => good()[random.below(3) as usize].clone(),
         3 => bad()[random.below(2) as usize].clone(),
-        _ => books::reached(random.pick(&PROFILES), random.next(), 60),
+        _ => books::reached(profile::any(random.next()), random.next(), 60),
     };
     place(&name[..name.len().min(NAME)], &image)
 }

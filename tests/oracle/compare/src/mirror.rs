@@ -5,12 +5,14 @@ use std::collections::HashMap;
 
 use gateway::book::oracle::client;
 use gateway::book::{
-    CancelKind, GatewayCancel, OrdType, Order, OrderId, OrderRequest, Origin, Pending, Sent, TimeInForce,
+    CancelKind, GatewayCancel, OrdType, Order, OrderId, OrderRequest, Origin, Pending, Sent, Status,
+    TimeInForce,
 };
 use gateway::{CompactString, Decimal};
 use model::Machine;
 use model::answer::{bytes, client_number, latin1};
 use model::codes;
+use model::done_for_day::{CODE, status_of, taken_as};
 use model::numbers::{price, price_count, qty, qty_count};
 use model::outcomes::Outcomes;
 
@@ -95,7 +97,7 @@ fn order_record(order: &Order, link: impl Fn(&CompactString) -> u64) -> layout::
         time_in_force: force_or_0(order.request.time_in_force),
         qty: qty_count(order.request.qty),
         price: price_or_0(order.request.price),
-        status: codes::status_code(order.status).into(),
+        status: status_of(order).into(),
         cum_qty: qty_count(order.cum_qty),
         avg_px: price_count(order.avg_px) as u64,
         exec_seq: order.exec_seq,
@@ -179,7 +181,7 @@ fn order_back(
         request: request_back(order),
         downstream: latin1(order.downstream.text()),
         amendments: order.amendments as u32,
-        status: codes::status(order.status as u8),
+        status: status_back(order),
         cum_qty: qty(order.cum_qty),
         avg_px: price(order.avg_px),
         risk_price: Decimal::ZERO,
@@ -204,10 +206,19 @@ fn pending_back(book: &Book, order: &layout::Order, downstream: CompactString) -
     }
 }
 
+/// The Rust's status; for a 3 what it is taken as.
+fn status_back(order: &layout::Order) -> Status {
+    match order.status as u8 {
+        CODE => taken_as(qty(order.cum_qty)),
+        code => codes::status(code),
+    }
+}
+
 fn request_back(order: &layout::Order) -> OrderRequest {
     OrderRequest {
         cl_ord_id: latin1(order.cl_ord_id.text()),
-        account: None,
+        // The mark of an order that is done for the day.
+        account: (order.status == CODE.into()).then(|| latin1(&[CODE])),
         symbol: latin1(order.symbol.text()),
         side: codes::side(order.side as u8),
         ord_type: codes::ord_type(order.ord_type as u8),

@@ -7,6 +7,7 @@ use std::collections::BTreeSet;
 use gateway::book::Order;
 use model::Machine;
 use model::answer::client_number;
+use model::done_for_day::leaves_of;
 use model::numbers::qty_count;
 
 use crate::entries::{Entries, Opened};
@@ -14,11 +15,11 @@ use crate::entries::{Entries, Opened};
 /// Clients that are asked for on any book.
 const ALWAYS: [u16; 4] = [0, 1, 0x0100, u16::MAX];
 
-/// Each order's client and LeavesQty, by the Rust's own `leaves_qty`, as they were booked.
+/// Each order's client and LeavesQty, by the Rust's own `leaves_qty` but for a 3, as they were booked.
 fn leaves(machine: &Machine) -> Vec<(u16, u64)> {
     let mut orders: Vec<&Order> = machine.book().order_table().values().collect();
     orders.sort_by_key(|order| order.id.0);
-    orders.iter().map(|order| (client_number(&order.client), qty_count(order.leaves()))).collect()
+    orders.iter().map(|order| (client_number(&order.client), qty_count(leaves_of(order)))).collect()
 }
 
 /// The client's open quantity: the sum over its orders.

@@ -6,7 +6,7 @@ use gateway::Decimal;
 use gateway::book::Order;
 use model::Machine;
 use model::answer::bytes;
-use model::codes::status_code;
+use model::done_for_day::{leaves_of, status_of};
 
 use crate::entries::{Counted, Entries};
 
@@ -25,8 +25,8 @@ pub fn page(machine: &Machine) -> Vec<u8> {
 
 fn line(order: &Order) -> Vec<u8> {
     let mut line = [columns(&order.name, 20), columns(&order.request.symbol, 16)].concat();
-    line.push(status_code(order.status));
-    for quantity in [order.request.qty, order.cum_qty, order.leaves()] {
+    line.push(status_of(order));
+    for quantity in [order.request.qty, order.cum_qty, leaves_of(order)] {
         line.extend(decimals(quantity).bytes());
     }
     line.extend(b" \n");

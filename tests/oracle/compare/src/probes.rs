@@ -5,7 +5,8 @@ use gateway::book::{OrdType, Order, OrderId};
 use lists::random::Random;
 use model::Machine;
 use model::answer::{bytes, client_number};
-use model::codes::{side_code, status_code};
+use model::codes::side_code;
+use model::done_for_day::status_of;
 use model::events::{self, Filled, Named};
 use model::numbers::{price_count, qty_count};
 use model::record::*;
@@ -84,7 +85,7 @@ fn of_request(order: &Order, number: u32) -> Vec<Chain> {
     let cum_qty = qty_count(order.cum_qty);
     let filled = Filled { cum_qty, ..Filled::default() };
     let rise = Filled { last_qty: 1, last_px: 1, cum_qty: cum_qty + 1, avg_px: 1 };
-    let status = status_code(order.status);
+    let status = status_of(order);
     let drafts = [
         events::send_again(venue, &downstream),
         events::send_failed(venue, &downstream, b"probe"),

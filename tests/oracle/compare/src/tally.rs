@@ -5,9 +5,10 @@ use std::collections::BTreeMap;
 use gateway::LOG_SITES;
 use model::Machine;
 use model::answer::{alarms, messages};
+use model::done_for_day::CODE;
 use model::filled::Met;
 use model::outcomes::Outcomes;
-use model::record::{PRICE_SOURCE, Record};
+use model::record::{ORD_STATUS, PRICE_SOURCE, Record};
 
 #[derive(Debug, Clone, Default)]
 pub struct Tally {
@@ -24,9 +25,13 @@ pub struct Tally {
     pub halves: u64,
     /// What events with status Filled met.
     pub met: Met,
+    /// What a status 3 met.
+    pub met_days: Met,
     /// Taken events that added a request, by kind; the fewest and the most fields of messages, by kind.
     pub added: BTreeMap<u8, u64>,
     pub fields: BTreeMap<u8, (u32, u32)>,
+    /// Events that bring a 3, and messages that tell one.
+    pub days: (u64, u64),
     /// Requests by the kind of the event that settled them and what they came to.
     pub settled: BTreeMap<(u8, u8), u64>,
     /// The requests that stood before the event that is about to come, and what they had come to.
@@ -57,6 +62,7 @@ impl Tally {
                     let count = message.map.count_ones();
                     let (fewest, most) = self.fields.entry(message.kind).or_insert((count, count));
                     (*fewest, *most) = (count.min(*fewest), count.max(*most));
+                    self.days.1 += u64::from(message.code(ORD_STATUS) == CODE);
                     if message.has(PRICE_SOURCE) {
                         *self.sources.entry(message.code(PRICE_SOURCE)).or_default() += 1;
                     }
@@ -70,6 +76,7 @@ impl Tally {
         self.requests = machine.book().request_table().len();
         self.outcomes = machine.outcomes().clone();
         let read = Record::read_event(record).filter(Record::in_range);
+        self.days.0 += u64::from(read.as_ref().is_some_and(|read| read.code(ORD_STATUS) == CODE));
         let fill = read.and_then(|read| machine.fill(&read));
         self.halves += u64::from(fill.is_some_and(|fill| fill.at_half()));
     }
@@ -82,6 +89,7 @@ impl Tally {
             "  the reports' prices by source {:?}; events that ask one at an exact half {}",
             self.sources, self.halves
         );
+        println!("  the events that bring a 3, and the messages that tell one {:?}", self.days);
         println!("  the events that add a request by kind {:?}", self.added);
         println!("  the requests settled by the event's kind and what they came to {:?}", self.settled);
         println!("  the fewest and most fields of messages by kind {:?}", self.fields);

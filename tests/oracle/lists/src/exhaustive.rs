@@ -209,14 +209,14 @@ pub fn refused_filled() -> List {
     list(vec![events::cancel(&named, b"c", b"a").bytes(), refused.bytes()])
 }
 
-/// Every ExecType with every OrdStatus, with and without a rise, under each kind of request: the
+/// Every ExecType with every OrdStatus of the Rust, with and without a rise, under each kind of request: the
 /// order first, a cancel, a replace, and one that the venue already settled.
 pub fn every_pair() -> Vec<List> {
     let named = Named { client: 1, symbol: b"S".to_vec(), side: b'1' };
     let mut lists = Vec::new();
     for (settled, downstream) in [(false, "A"), (false, "A-1"), (false, "A-2"), (true, "A-1"), (true, "A")] {
         for &exec_type in codes::EXEC_TYPES {
-            let statuses = codes::STATUSES.iter().map(|&status| Some(status)).chain([None]);
+            let statuses = codes::RUST_STATUSES.iter().map(|&status| Some(status)).chain([None]);
             for status in statuses {
                 let mut records = vec![
                     events::cancel(&named, b"c", b"a").bytes(),

@@ -4,7 +4,7 @@
 use gateway::book::{CancelKind, Order, OrderId, Origin};
 use model::Machine;
 use model::answer::bytes;
-use model::codes::{STATUSES, is_done, status_code};
+use model::codes::{RUST_STATUSES, STATUSES, is_done, status_code};
 use model::record::*;
 
 use crate::Item;
@@ -157,7 +157,8 @@ impl Generator {
 
     /// Any status, mostly one of a live order.
     fn any_status(&mut self) -> u8 {
-        let codes = if self.random.chance(75) { b"A016E" } else { STATUSES };
+        let all = if self.profile.days > 0 { STATUSES } else { RUST_STATUSES };
+        let codes = if self.random.chance(75) { b"A016E" } else { all };
         draw::code(&mut self.random, codes)
     }
 

@@ -3,6 +3,7 @@
 
 pub mod chains;
 pub mod damage;
+pub mod days;
 pub mod draw;
 pub mod exhaustive;
 pub mod generator;
@@ -11,7 +12,7 @@ pub mod profile;
 pub mod random;
 
 pub use generator::Generator;
-pub use profile::{PROFILES, Profile};
+pub use profile::{DAYS, PROFILES, Profile};
 
 /// A start and the events after it.
 #[derive(Debug, Clone, PartialEq, Eq)]

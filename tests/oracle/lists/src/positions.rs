@@ -2,6 +2,7 @@
 //! and few, the largest sums; nets of each sign, of pairs that share client or symbol, of symbols that
 //! are nearly the same.
 
+use model::codes::STATUSES;
 use model::events::{self, Filled, Named};
 use model::numbers::MAX_QTY;
 use model::record::Draft;
@@ -10,7 +11,6 @@ use crate::{Item, List};
 
 const SETTING: u32 = 10_000;
 const VENUE: u16 = 1;
-const STATUSES: &[u8] = b"A0126E4C8";
 
 /// All lists of this module.
 pub fn all() -> Vec<List> {

@@ -32,6 +32,8 @@ pub struct Profile {
     pub values: Values,
     /// Whether texts are of every length and byte.
     pub any_texts: bool,
+    /// Percent of reports and refusals that end an order's day or, where it is ended, go on.
+    pub days: u64,
 }
 
 const MIXED: Profile = Profile {
@@ -47,6 +49,7 @@ const MIXED: Profile = Profile {
     buffers: 1,
     values: Values::Usual,
     any_texts: false,
+    days: 0,
 };
 
 pub const PROFILES: [Profile; 10] = [
@@ -96,6 +99,34 @@ pub const PROFILES: [Profile; 10] = [
     // Records damaged in each bit, each cut, each code; answer buffers of every kind.
     Profile { name: "damaged", damaged: 60, buffers: 15, any_texts: true, ..MIXED },
 ];
+
+/// Days on which venues send OrdStatus 3, which the Rust does not have; of the others it comes only in
+/// records that are damaged.
+pub const DAYS: [Profile; 7] = [
+    Profile { name: "days", days: 25, ..MIXED },
+    Profile { name: "days, realistic", days: 12, ..PROFILES[0] },
+    Profile { name: "days, replaces", days: 30, ..PROFILES[2] },
+    Profile { name: "days, gateway-cancels", days: 35, ..PROFILES[3] },
+    Profile { name: "days, sends", days: 45, ..PROFILES[4] },
+    Profile { name: "days, reports", days: 30, ..PROFILES[5] },
+    Profile { name: "days, limits", days: 25, ..PROFILES[8] },
+];
+
+/// Of the profiles without 3 and those with it, the one for a seed.
+pub fn any(seed: u64) -> &'static Profile {
+    at(seed as usize % ALL)
+}
+
+/// The same, but not the realistic one without 3: most events meet something odd.
+pub fn odd(seed: u64) -> &'static Profile {
+    at(1 + seed as usize % (ALL - 1))
+}
+
+const ALL: usize = PROFILES.len() + DAYS.len();
+
+fn at(at: usize) -> &'static Profile {
+    if at < PROFILES.len() { &PROFILES[at] } else { &DAYS[at - PROFILES.len()] }
+}
 
 /// The profile of that name.
 pub fn named(name: &str) -> Option<&'static Profile> {

@@ -2,9 +2,10 @@
 //! messages as records. The Rust's outputs become messages here.
 
 use gateway::CompactString;
-use gateway::book::{AlarmKind, CancelKind, ClientId, ClientReport, OrderRequest, Output};
+use gateway::book::{AlarmKind, CancelKind, ClientId, ClientReport, OrderRequest, Output, Status};
 
 use crate::codes;
+use crate::done_for_day;
 use crate::numbers::{Fill, price_count, qty_count};
 use crate::record::*;
 
@@ -33,9 +34,19 @@ pub struct Brought<'a> {
     /// What decides the price of its fill, if it is a venue's report: the price's source, and the
     /// price itself at an exact half.
     pub fill: Option<Fill>,
+    /// Whether the order is done for the day as it is left.
+    pub done_for_day: bool,
 }
 
-/// The whole answer: all of it the Rust's, but for the price source and the price at an exact half.
+impl Brought<'_> {
+    /// The order's status as it is told: the Rust's, or 3.
+    fn status(&self, status: Status) -> u8 {
+        if self.done_for_day { done_for_day::CODE } else { codes::status_code(status) }
+    }
+}
+
+/// The whole answer: all of it the Rust's, but for the price source, the price at an exact half, and
+/// status and leaves of an order that is done for the day.
 pub fn write(outputs: &[Output], alarms: Alarms, brought: Brought<'_>) -> Vec<u8> {
     let messages: Vec<Draft> = outputs.iter().map(|output| message(output, brought)).collect();
     of_messages(&messages, alarms)
@@ -71,7 +82,7 @@ pub fn messages(answer: &[u8]) -> Vec<Record<'_>> {
 fn message(output: &Output, brought: Brought<'_>) -> Draft {
     match output {
         Output::Report { client, report } => report_message(client, report, brought),
-        Output::CancelReject { .. } => reject_message(output, brought.text),
+        Output::CancelReject { .. } => reject_message(output, brought),
         Output::NewOrder { venue, downstream, request } => {
             request_message(NEW_ORDER_MESSAGE, venue, downstream, request)
         }
@@ -89,7 +100,7 @@ fn message(output: &Output, brought: Brought<'_>) -> Draft {
     }
 }
 
-fn reject_message(output: &Output, told: Option<&[u8]>) -> Draft {
+fn reject_message(output: &Output, brought: Brought<'_>) -> Draft {
     let Output::CancelReject {
         client,
         order_id,
@@ -108,12 +119,12 @@ fn reject_message(output: &Output, told: Option<&[u8]>) -> Draft {
         .number(CLIENT, client_number(client))
         .text(CL_ORD_ID, bytes(cl_ord_id))
         .text(ORIG_CL_ORD_ID, bytes(orig_cl_ord_id))
-        .number(ORD_STATUS, codes::status_code(*status))
+        .number(ORD_STATUS, brought.status(*status))
         .number(REASON, reason)
         .number(ORIGIN, origin)
         .number(RESPONSE_TO, if *response_to == CancelKind::Cancel { 1_u8 } else { 2 })
         .maybe(order_id.as_ref(), |draft, name| draft.text(NAME, bytes(name)));
-    with_text(draft, Some(text), told)
+    with_text(draft, Some(text), brought.text)
 }
 
 fn report_message(client: &ClientId, report: &ClientReport, brought: Brought<'_>) -> Draft {
@@ -125,11 +136,11 @@ fn report_message(client: &ClientId, report: &ClientReport, brought: Brought<'_>
         .text(CL_ORD_ID, bytes(&report.cl_ord_id))
         .maybe(report.orig_cl_ord_id.as_ref(), |draft, id| draft.text(ORIG_CL_ORD_ID, bytes(id)))
         .number(EXEC_TYPE, codes::exec_type_code(report.exec_type))
-        .number(ORD_STATUS, codes::status_code(report.status))
+        .number(ORD_STATUS, brought.status(report.status))
         .number(LAST_QTY, qty_count(report.last_qty))
         .number(CUM_QTY, qty_count(report.cum_qty))
         .number(AVG_PX, price_count(report.avg_px))
-        .number(LEAVES_QTY, qty_count(report.leaves_qty))
+        .number(LEAVES_QTY, if brought.done_for_day { 0 } else { qty_count(report.leaves_qty) })
         .number(REPORT_SEQUENCE, sequence.parse::<u64>().expect("a number"))
         .number(FILL_PRICE, fill_price(report, brought.fill))
         .number(PRICE_SOURCE, brought.fill.map_or(0, |fill| fill.source() as u8))

@@ -6,7 +6,10 @@ use gateway::risk::RiskReject;
 pub const SIDES: &[u8] = b"125";
 pub const ORD_TYPES: &[u8] = b"12";
 pub const TIMES_IN_FORCE: &[u8] = b"0134";
-pub const STATUSES: &[u8] = b"A0126E4C8";
+/// Those of the Rust, then 3, done for the day, which it does not have.
+pub const STATUSES: &[u8] = b"A0126E4C83";
+/// Those of the Rust.
+pub const RUST_STATUSES: &[u8] = b"A0126E4C8";
 pub const EXEC_TYPES: &[u8] = b"A0F64E58CD3I";
 
 const SIDE: [Side; 3] = [Side::Buy, Side::Sell, Side::SellShort];
@@ -74,11 +77,11 @@ pub fn time_in_force_code(time_in_force: TimeInForce) -> u8 {
 }
 
 pub fn status(byte: u8) -> Status {
-    value(byte, STATUSES, &STATUS)
+    value(byte, RUST_STATUSES, &STATUS)
 }
 
 pub fn status_code(status: Status) -> u8 {
-    code(status, STATUSES, &STATUS)
+    code(status, RUST_STATUSES, &STATUS)
 }
 
 pub fn exec_type(byte: u8) -> ExecType {

@@ -7,6 +7,7 @@ use gateway::book::{Book, CancelKind, Order, OrderId, Origin, Sent};
 
 use crate::answer::{alarms, latin1, messages};
 use crate::codes::{is_done, status_code};
+use crate::done_for_day::{self, status_of};
 use crate::machine::venue;
 use crate::numbers::{qty, qty_count};
 use crate::record::*;
@@ -79,7 +80,7 @@ impl Filled {
         let (cum_qty, ordered) = (qty_count(after.cum_qty), qty_count(after.request.qty));
         let short = self.unset.is_none() && cum_qty < ordered;
         let left = match self.unset {
-            Some(_) => status_code(self.order.status),
+            Some(_) => status_of(&self.order),
             None if !short => b'2',
             None if cum_qty == 0 => b'0',
             None => b'1',
@@ -88,13 +89,14 @@ impl Filled {
         let alarms = alarms(answer);
         let stuck = alarms[1] > 0;
         let right = (alarms[0] == ALARM) == short && (short || !stuck) && alarms[1] <= 1;
-        let leaves = if is_done(left) { 0 } else { ordered.saturating_sub(cum_qty) };
+        let leaves =
+            if is_done(left) || left == done_for_day::CODE { 0 } else { ordered.saturating_sub(cum_qty) };
         let told = messages(answer).iter().all(|message| match message.kind {
             REPORT_MESSAGE => message.code(ORD_STATUS) == left && message.number(LEAVES_QTY) == leaves,
             REJECT_MESSAGE => message.code(ORD_STATUS) == left,
             _ => true,
         });
-        if status_code(after.status) == left && kept && right && told {
+        if status_of(after) == left && kept && right && told {
             return Ok(self.unset.unwrap_or_else(|| self.met(short, stuck)));
         }
         Err(format!("Filled on {:?}: left {after:?}, alarms {alarms:?}", self.order))

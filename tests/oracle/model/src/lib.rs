@@ -4,7 +4,9 @@
 pub mod answer;
 pub mod codes;
 pub mod day;
+pub mod day_judge;
 pub mod demand;
+pub mod done_for_day;
 pub mod events;
 pub mod filled;
 pub mod machine;

@@ -13,6 +13,7 @@ use gateway::{CompactString, book};
 
 use crate::answer::{self, Alarms, Brought, latin1};
 use crate::codes;
+use crate::done_for_day::{self, Told};
 use crate::numbers::{Fill, price, price_count, qty, qty_count};
 use crate::outcomes::Outcomes;
 use crate::record::*;
@@ -122,6 +123,21 @@ impl Machine {
 
     /// Events 2 to 9: the book handles them, and gets its tables back where question 6 or 7 says no.
     fn handle(&mut self, record: &Record<'_>) -> Result<Vec<u8>, u32> {
+        let told = Told::of(&self.book, record);
+        self.handle_told(record, told)
+    }
+
+    /// The same event with a 3 put to the Rust as New or PartiallyFilled itself, on a copy: its outcome
+    /// and the machine after it, right but for the order's status. None where no 3 comes or stands.
+    pub fn plainly(&self, record: &Record<'_>) -> Option<(Result<Vec<u8>, u32>, Self)> {
+        Told::of(&self.book, record)?;
+        let mut copy = self.clone();
+        let told = Told::plainly(&mut copy.book, record);
+        let outcome = copy.handle_told(record, told);
+        Some((outcome, copy))
+    }
+
+    fn handle_told(&mut self, record: &Record<'_>, told: Option<Told>) -> Result<Vec<u8>, u32> {
         let mut input = self.input(record);
         let short = Short::of(&self.book, record);
         let fill = self.fill(record);
@@ -133,12 +149,19 @@ impl Machine {
             short.put(&mut self.book);
             set_status(&mut input, short.status);
         }
+        if let Some(told) = &told {
+            set_status(&mut input, told.status);
+        }
         let mut outputs = Vec::new();
         self.book.handle(input, &mut outputs);
         self.book.discard_changes();
         if let Some(short) = &short {
             short.left(&mut self.book, &mut outputs);
         }
+        if let Some(told) = &told {
+            told.left(&mut self.book, &mut outputs);
+        }
+        done_for_day::settle(&mut self.book, &latin1(record.text(DOWNSTREAM)));
         let alarms = self.alarms(short.is_some());
         let goes_out = outputs.iter().any(|output| matches!(output, Output::Replace { .. }));
         let refusal = match () {
@@ -152,8 +175,19 @@ impl Machine {
         }
         self.outcomes.follow(&self.book, record);
         self.wrap_sequence(&mut outputs);
-        let brought = Brought { text: record.maybe(TEXT, |r| r.text(TEXT)), fill };
+        let done_for_day = self.done_for_day(&outputs);
+        let brought = Brought { text: record.maybe(TEXT, |r| r.text(TEXT)), fill, done_for_day };
         Ok(answer::write(&outputs, alarms, brought))
+    }
+
+    /// Whether the order that the client is told of is done for the day: an answer tells of one.
+    fn done_for_day(&self, outputs: &[Output]) -> bool {
+        let name = outputs.iter().find_map(|output| match output {
+            Output::Report { report, .. } => report.order_id.clone(),
+            Output::CancelReject { order_id, .. } => order_id.clone(),
+            _ => None,
+        });
+        name.and_then(|name| self.order(&answer::bytes(&name))).is_some_and(done_for_day::holds)
     }
 
     /// What decides the price of a venue report's fill: the report's numbers and the order's as
@@ -307,7 +341,10 @@ pub fn venue(record: &Record<'_>) -> CompactString {
 }
 
 fn status(record: &Record<'_>) -> Option<book::Status> {
-    record.maybe(ORD_STATUS, |r| codes::status(r.code(ORD_STATUS)))
+    record.maybe(ORD_STATUS, |r| match r.code(ORD_STATUS) {
+        done_for_day::CODE => done_for_day::taken_as(qty(r.number(CUM_QTY))),
+        code => codes::status(code),
+    })
 }
 
 /// The status of a venue's report or refusal.

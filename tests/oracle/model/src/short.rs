@@ -15,6 +15,7 @@ use gateway::book::{Book, Order, OrderId, Output, Sent, Status};
 
 use crate::answer::latin1;
 use crate::codes::{is_done, status_code};
+use crate::done_for_day;
 use crate::machine::venue;
 use crate::numbers::qty;
 use crate::record::*;
@@ -77,6 +78,7 @@ impl Short {
         let set = if self.status == Status::New { left } else { self.status };
         assert!(order.status == set, "the Rust takes a short Filled: {order:?}");
         order.status = left;
+        done_for_day::mark(order, false);
         for output in outputs {
             match output {
                 Output::Report { report, .. } => report.status = left,

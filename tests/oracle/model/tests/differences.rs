@@ -39,6 +39,14 @@ fn a_rejection_beside_a_live_status_is_passed_on() {
 }
 
 #[test]
+fn the_end_of_a_day_beside_another_status_is_passed_on() {
+    let mut day = Day::new();
+    let ended = report(b'3', b'0', Filled::default());
+    let told = day.told(&ended, [EXEC_TYPE, ORD_STATUS, LEAVES_QTY]);
+    assert_eq!(told, [code(b'3'), code(b'0'), 1_000_000]);
+}
+
+#[test]
 fn a_request_rejected_by_a_report_loses_its_fill() {
     let mut day = Day::booked();
     day.send(&cancel("c2"));

@@ -3,7 +3,7 @@
 
 use compare::entries::{Entries, library};
 use compare::stand_in::STAND_IN;
-use lists::{List, PROFILES, exhaustive, list};
+use lists::{List, days, exhaustive, list, profile};
 use model::machine::BOOK_BYTES;
 
 const EVENTS: usize = 400;
@@ -13,9 +13,9 @@ fn main() {
     let [file, lists] = &args[..] else { panic!("answers FILE LISTS") };
     let lists: u64 = lists.parse().expect("a number");
     let entries = library().unwrap_or(STAND_IN);
-    let drawn = (1..=lists).map(|seed| list(&PROFILES[seed as usize % PROFILES.len()], seed, EVENTS));
+    let drawn = (1..=lists).map(|seed| list(profile::any(seed), seed, EVENTS));
     let mut bytes = Vec::new();
-    for list in exhaustive::all().into_iter().chain(drawn) {
+    for list in exhaustive::all().into_iter().chain(days::every_coming()).chain(drawn) {
         run(&entries, &list, &mut bytes);
     }
     std::fs::write(file, &bytes).unwrap_or_else(|error| panic!("{file}: {error}"));

@@ -12,7 +12,7 @@ use compare::entries::{Entries, library};
 use compare::faults::Fault;
 use compare::stand_in::{STAND_IN, plant};
 use compare::tally::Tally;
-use lists::{List, PROFILES, chains, exhaustive, list, positions};
+use lists::{DAYS, List, PROFILES, chains, days, exhaustive, list, positions};
 
 const PROBING: Probing = Probing { every: 25, at_end: false };
 /// Events on a book that was built.
@@ -56,17 +56,40 @@ fn compare_lists(lists: u64, events: usize, first: u64) -> ExitCode {
             return differs(&format!("profile {profile}, seed {seed}"), &list, &mismatch);
         }
     }
+    let Some(on_days) = compare_days(&entries, events, first..first + lists.div_ceil(2)) else {
+        return ExitCode::FAILURE;
+    };
     let Some(on_built) = compare_built_books(&entries, first..first + lists) else {
         return ExitCode::FAILURE;
     };
     tally.print();
+    on_days.print();
     on_built.print();
     let compared = if linked.is_some() { "the library" } else { "the stand-in" };
     println!(
-        "compare: {compared}, {} lists, {} events, and {} built books, {} events, no difference",
-        tally.lists, tally.events, on_built.lists, on_built.events
+        "compare: {compared}, {} lists, {} events, {} with 3, {} events, and {} built books, {} events, no difference",
+        tally.lists, tally.events, on_days.lists, on_days.events, on_built.lists, on_built.events
     );
     ExitCode::SUCCESS
+}
+
+/// Lists about 3 and days on which venues send it; nothing where one differs.
+fn compare_days(entries: &Entries, events: usize, seeds: Range<u64>) -> Option<Tally> {
+    let mut tally = Tally::default();
+    let drawn = seeds.map(|seed| {
+        let profile = &DAYS[seed as usize % DAYS.len()];
+        (format!("profile {}, seed {seed}", profile.name), list(profile, seed, events))
+    });
+    let about = days::all().into_iter().map(|list| ("a list about 3".to_string(), list));
+    for (origin, list) in about.chain(drawn) {
+        tally.lists += 1;
+        if let Err(mismatch) = compare(entries, &list, PROBING, Some(&mut tally)) {
+            println!("{origin}, event {}, differs:", mismatch.at + 1);
+            println!("{}", explain(entries, &list, &mismatch));
+            return None;
+        }
+    }
+    Some(tally)
 }
 
 /// Short lists from books that were built; nothing where one differs.
@@ -112,7 +135,10 @@ fn find_faults(lists: u64) -> ExitCode {
         let filled = [("a refusal with Filled".into(), exhaustive::refused_filled())];
         let chains = chains::all().into_iter().map(|list| ("a list about chains".into(), list));
         let fixed = about.chain(chains).chain(halves).chain(filled);
-        let mut tried = drawn(1..=10).chain(fixed).chain(drawn(11..=lists));
+        let days = (1..=DAYS.len() as u64).map(|seed| {
+            (format!("a day with 3, seed {seed}"), list(&DAYS[seed as usize % DAYS.len()], seed, 400))
+        });
+        let mut tried = drawn(1..=10).chain(fixed).chain(days).chain(drawn(11..=lists));
         let found = tried.find_map(|(origin, list)| {
             compare(&STAND_IN, &list, PROBING, None).err().map(|mismatch| (origin, mismatch))
         });

@@ -6,7 +6,7 @@
 use std::path::Path;
 use std::process::ExitCode;
 
-use lists::{Generator, PROFILES, Profile};
+use lists::{DAYS, Generator, PROFILES, Profile};
 use model::Machine;
 use model::answer::alarms;
 use model::day::{SHARE, UNIT, VENUE_1, fill, filled, named, report};
@@ -20,6 +20,9 @@ static MIXED: Profile = Profile { setting: (SETTING, SETTING), damaged: 8, buffe
 
 /// Longer: more orders, texts of every length and byte, numbers at their limits.
 static LONG: Profile = Profile { orders: 30, any_texts: true, values: PROFILES[8].values, ..MIXED };
+
+/// A day on which venues send OrdStatus 3.
+static ENDED: Profile = Profile { setting: (SETTING, SETTING), buffers: 0, ..DAYS[0] };
 
 /// A day: its whole records, and what stands behind them, which no record is.
 struct Day {
@@ -38,7 +41,7 @@ fn main() -> ExitCode {
 }
 
 fn write(folder: &Path) {
-    for (name, day) in [("example", example()), ("mixed", mixed()), ("long", long())] {
+    for (name, day) in [("example", example()), ("mixed", mixed()), ("long", long()), ("ended", ended())] {
         let save = |kind: &str, bytes: &[u8]| {
             let file = folder.join(format!("{name}.{kind}"));
             std::fs::write(&file, bytes).unwrap_or_else(|error| panic!("{}: {error}", file.display()));
@@ -85,6 +88,11 @@ fn long() -> Day {
     records.insert(1, vec![7; 65_535]);
     records.insert(1_500, Vec::new());
     Day { records, cut: vec![9] }
+}
+
+/// About 600 events, 3 among their statuses.
+fn ended() -> Day {
+    Day { records: drawn(&ENDED, SEED + 2, 600), cut: Vec::new() }
 }
 
 fn drawn(profile: &'static Profile, seed: u64, events: usize) -> Vec<Vec<u8>> {

@@ -15,7 +15,7 @@ use compare::stand_in::{STAND_IN, plant};
 use compare::{books, chains, needs, show, views};
 use lists::damage::damage;
 use lists::random::Random;
-use lists::{Generator, PROFILES, Profile};
+use lists::{Generator, Profile, profile};
 use model::Machine;
 use model::events;
 use model::machine::{ANSWER_BYTES, BOOK_BYTES};
@@ -95,7 +95,7 @@ impl<'a> User<'a> {
         self.nothing()?;
         self.lengths()?;
         while self.calls < calls {
-            let profile = self.random.pick(&PROFILES);
+            let profile = profile::any(self.random.next());
             let lent = Lent::new(self.book(profile));
             let records = self.records(&lent, profile);
             self.on_book(lent, &records)?;

@@ -7,7 +7,7 @@ use std::process::ExitCode;
 
 use compare::fix::{Objection, objections};
 use compare::{minimize::minimize, show};
-use lists::{List, PROFILES, list};
+use lists::{List, list, profile};
 use model::Machine;
 use model::answer::messages;
 
@@ -41,7 +41,7 @@ fn main() -> ExitCode {
     let mut found: BTreeMap<Objection, (u64, u64, List)> = BTreeMap::new();
     let (mut judged, mut events) = (0, 0);
     for seed in FIRST_SEED..FIRST_SEED + lists {
-        let list = list(&PROFILES[seed as usize % PROFILES.len()], seed, EVENTS);
+        let list = list(profile::any(seed), seed, EVENTS);
         let (counts, messages) = judge(&list);
         events += list.items.len();
         judged += messages;

@@ -6,7 +6,8 @@ use std::process::ExitCode;
 
 use compare::tally::{SETTLES, Tally, log_sites};
 use compare::{minimize::minimize, show};
-use lists::{List, PROFILES, chains, exhaustive, list};
+use lists::{DAYS, List, PROFILES, chains, days, exhaustive, list};
+use model::day_judge;
 use model::filled::MEETINGS;
 use model::watch::Watched;
 
@@ -15,12 +16,16 @@ fn main() -> ExitCode {
     let number = |at: usize, usual: u64| numbers.get(at).copied().unwrap_or(usual);
     let (lists, events, first) = (number(0, 200), number(1, 400), number(2, 1));
     let mut tally = Tally::default();
-    for seed in first..first + lists {
-        let profile = &PROFILES[seed as usize % PROFILES.len()];
-        let list = list(profile, seed, events as usize);
+    let without = (first..first + lists).map(|seed| (seed, &PROFILES[seed as usize % PROFILES.len()]));
+    let with = (first..first + lists / 2).map(|seed| (seed, &DAYS[seed as usize % DAYS.len()]));
+    let drawn = without.chain(with).map(|(seed, profile)| {
+        (format!("profile {}, seed {seed}", profile.name), list(profile, seed, events as usize))
+    });
+    let about = days::all().into_iter().map(|list| ("a list about 3".to_string(), list));
+    for (origin, list) in drawn.chain(about) {
         tally.lists += 1;
         if let Err((at, error)) = watch(&list, Some(&mut tally)) {
-            println!("profile {}, seed {seed}, event {}: {error}", profile.name, at + 1);
+            println!("{origin}, event {}: {error}", at + 1);
             print!("{}", show::list(&minimize(&list, |list| watch(list, None).is_err())));
             return ExitCode::FAILURE;
         }
@@ -30,18 +35,22 @@ fn main() -> ExitCode {
     chains::all().iter().for_each(|list| watch(list, None).expect("its rules are kept"));
     tally.print();
     println!("  a status Filled {:?}", tally.met);
+    println!("  a status 3 {:?}", tally.met_days);
     let unmet: Vec<_> = MEETINGS.iter().filter(|&&met| !tally.met.contains_key(met)).collect();
     if !tally.settled.keys().eq(SETTLES.iter()) {
         println!("requests should be settled by {SETTLES:?}");
         return ExitCode::FAILURE;
     }
+    let days: Vec<_> = day_judge::MEETINGS.iter().filter(|&&met| !tally.met_days.contains_key(met)).collect();
     let (reached, all, missed) = log_sites();
     let (lists, events) = (tally.lists, tally.events);
     println!("lists: {lists} lists, {events} events, all rules kept; {reached} of {all} log sites reached");
-    if missed.is_empty() && unmet.is_empty() {
+    if missed.is_empty() && unmet.is_empty() && days.is_empty() {
         return ExitCode::SUCCESS;
     }
-    println!("log sites that the lists should have reached: {missed:?}; of a Filled: {unmet:?}");
+    println!(
+        "log sites that the lists should have reached: {missed:?}; of a Filled: {unmet:?}; of a 3: {days:?}"
+    );
     ExitCode::FAILURE
 }
 
@@ -60,6 +69,9 @@ fn watch(list: &List, mut tally: Option<&mut Tally>) -> Result<(), (usize, Strin
     if let Some(tally) = tally {
         for (met, count) in watched.met {
             *tally.met.entry(met).or_default() += count;
+        }
+        for (met, count) in watched.met_days {
+            *tally.met_days.entry(met).or_default() += count;
         }
     }
     Ok(())

@@ -3,7 +3,8 @@
 
 use gateway::book::{CancelKind, Order};
 use model::answer::bytes;
-use model::codes::{EXEC_TYPES, status_code};
+use model::codes::EXEC_TYPES;
+use model::done_for_day::{self, status_of};
 use model::events::{self, Filled};
 use model::numbers::{MAX_QTY, price_count, qty_count};
 use model::record::*;
@@ -17,7 +18,8 @@ impl Generator {
         let order = self.order();
         let venue = self.venue(&order);
         let request = self.reported(&order);
-        let (exec_type, status) = self.said(&order, &request);
+        let said = self.said(&order, &request);
+        let (exec_type, status) = self.ends_day(&order, said);
         let filled = self.filled(&order, exec_type, status);
         let downstream =
             if self.wrong() { self.unknown_downstream(&order) } else { request.downstream.clone() };
@@ -44,7 +46,7 @@ impl Generator {
         }
         let filled = qty_count(order.cum_qty) > 0;
         let working = if filled { b'1' } else { b'0' };
-        let status = status_code(order.status);
+        let status = status_of(order);
         let pairs: &[(u8, Option<u8>)] = match request.kind {
             None => &[(b'0', Some(b'0')), (b'F', Some(b'1')), (b'F', Some(b'1')), (b'F', Some(b'2'))],
             Some(CancelKind::Cancel) => &[
@@ -78,6 +80,31 @@ impl Generator {
         ];
         let usual = if self.random.chance(12) { rare } else { pairs };
         *self.random.pick(usual)
+    }
+
+    /// What is said instead where the venue ends the order's day, says so again, or goes on after it.
+    fn ends_day(&mut self, order: &Order, said: (u8, Option<u8>)) -> (u8, Option<u8>) {
+        if self.profile.days == 0 || !self.random.chance(self.profile.days) {
+            return said;
+        }
+        let three = Some(done_for_day::CODE);
+        if done_for_day::holds(order) {
+            return *self.random.pick(&[
+                (b'0', Some(b'0')),
+                (b'I', Some(b'0')),
+                (b'F', Some(b'1')),
+                (b'I', Some(b'1')),
+                (b'F', None),
+                (b'F', Some(b'2')),
+                (b'4', Some(b'4')),
+                (b'6', Some(b'6')),
+                (b'A', Some(b'A')),
+                (b'3', three),
+                (b'I', three),
+                (b'F', three),
+            ]);
+        }
+        *self.random.pick(&[(b'3', three), (b'3', three), (b'F', three), (b'I', three), (said.0, three)])
     }
 
     /// Quantities around the booked, ordered and pending ones, and an average that goes with them.
@@ -152,8 +179,10 @@ impl Generator {
             1 => self.request(&order, |request| request.kind.is_some() && !request.answered),
             _ => self.request(&order, |request| request.kind == Some(CancelKind::Cancel)),
         };
-        let live = [b'0', b'1', b'2', status_code(order.status), status_code(order.status)];
+        let live = [b'0', b'1', b'2', status_of(&order), status_of(&order)];
+        let ends_day = self.profile.days > 0 && self.random.chance(self.profile.days);
         let status = match self.random.below(5) {
+            _ if ends_day => Some(*self.random.pick(b"330")),
             0 if !self.fits() => Some(self.any_status()),
             0 | 1 => Some(*self.random.pick(&live)),
             _ => None,

@@ -1,4 +1,4 @@
--- `leaves_of` is what the order of a link has left. Assumes nothing.
+-- `leaves_at_link` is what the order of a link has left. Assumes nothing.
 use mathlib.Core.Path.{_∙_}
 use Prim.Native.Nat.{_-_}
 use native.Mathlib.Omega.{arith}
@@ -6,8 +6,8 @@ use Rattle.store.specs.Layout.{header·orders, mostOrders}
 use Rattle.store.specs.Laws.Stored.{count-book, count-most}
 use Rattle.opens.specs.Laws.Moved.{link-none, link-past, link-at}
 use borrow.Author.Needs.{needs}
-use Rattle.opens.proofs.leaves_of.Statement.{statement}
-use Rattle.opens.proofs.leaves_of.Tie as tie
+use Rattle.opens.proofs.leaves_at_link.Statement.{statement}
+use Rattle.opens.proofs.leaves_at_link.Tie as tie
 
 returns : tie.Need-returns
 returns c = link-none _ _ (c .if1 .taken)
@@ -25,7 +25,7 @@ leaves-at-requires c κs =
 returns-3 : tie.Need-returns-3
 returns-3 c = let n = c .before .before in c .leaves-at .ensures ∙ link-at _ _ _ (n .before .if1 .left) (n .order-count .ensures) (c .before .if2 .left)
 
-pub leaves-of-spec : {M : Type 1} → statement M
-leaves-of-spec =
+pub leaves-at-link-spec : {M : Type 1} → statement M
+leaves-at-link-spec =
     tie.close
     (tie.spec returns (λ c. search needs) (λ c. search needs) (λ c κs. search needs) returns-2 leaves-at-requires returns-3)
