@@ -9,7 +9,7 @@ use lib.Dec.{eqb}
 use lib.ListN.{length}
 use borrow.Author.Tests.{eq-eqb}
 use Rattle.prelude.specs.Below.{all-intro}
-use Rattle.prelude.specs.Cases.{if-true, if-false, maybe-some}
+use Rattle.prelude.specs.Cases.{if-true, if-false, maybe-some, both-hold}
 use Rattle.prelude.specs.Number.{Bytes}
 use Rattle.store.specs.Layout.{bookSize, header·orders, mostOrders}
 use Rattle.store.specs.Book.{Book, bookOf, orderIn, orderCount, openAt, storeOpen, blank}
@@ -83,7 +83,7 @@ unfolding opensRight openRight
 stored-all b s = all-intro (openRight b) (orderCount b) (λ i h. eq-eqb _ _ (s (orderIn (bookOf b) i .client)))
 
 exact : (b : List ℕ) → ruledOf b ≡ true → ((client : ℕ) → storedOpen b client ≡ openOf (bookOf b) client) → outcomesRight b ≡ true → checkOf b ≡ 0
-exact b r s o = check-kept b (keeps-then b r (stored-all b s) ∙ o)
+exact b r s o = check-kept b (keeps-then b (both-hold (ruledOf b) (outcomesRight b) r o) ∙ stored-all b s)
 
 -- what is stored once the word of a client's first order is written
 stored-here : (b : List ℕ) (i q client : ℕ) → i < orderCount b → findClient (bookOf b) client ≡ some i → q < 2 ^ 64 → storedOpen (storeOpen b i q) client ≡ q

@@ -303,7 +303,7 @@ origin-right b k (inr r) =
 
 exact : (b : List ℕ) → ruledOf b ≡ true → opensRight b ≡ true → ((k : ℕ) → k < requestCount b → RightBeside b k) → checkOf b ≡ 0
 unfolding besideRight outcomesRight
-exact b r o t = check-kept b (keeps-then b r o ∙ all)
+exact b r o t = check-kept b (keeps-then b (both-hold (ruledOf b) (outcomesRight b) r all) ∙ o)
   where
     one : (k : ℕ) → k < requestCount b → besideRight b k ≡ true
     one k l =

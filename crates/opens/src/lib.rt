@@ -1,7 +1,7 @@
 // Each client's open quantity, stored behind the book's tables in the word of the client's first order:
 // the rule that it is right, decided with all the others; the call that gives it; and what it becomes
-// by an event, by value. Every public function is total and writes nothing. Rests on rules, outcomes,
-// store, orders and words.
+// by an event, by value. Every public function is total and writes nothing. Rests on rules, store,
+// orders and words.
 ghost use mathlib.Core.Path.{_≡_};
 ghost use Rattle.store.specs.Book.{bookOf};
 ghost use Rattle.machine.specs.Machine.{orderAtLink};
@@ -29,17 +29,15 @@ pub struct Word {
 // Refusals.
 const BAD_BOOK: u32 = 1;
 
-// Whether the book keeps its rules: machine's, the open quantities, and what stands beside the requests.
+// Whether the book keeps its rules: machine's and what stands beside the requests, then the open
+// quantities.
 pub fn keeps(book: &[u8]) -> bool
     ensures { λ r. ⌜ r ≡ keepsOf (now (book .entry)) ⌝ }
 {
     if !rules::ruled(book) {
         return false;
     }
-    if !sums::opens_right(book) {
-        return false;
-    }
-    outcomes::outcomes_right(book)
+    sums::opens_right(book)
 }
 
 // The open quantity of a client, 0 for one without orders.

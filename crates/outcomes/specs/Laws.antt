@@ -1,3 +1,2 @@
--- Proof text: the rule on the bytes, and what a caller has of it.
+-- Proof text: what a lookup gives.
 pub mod Found
-pub mod Here

@@ -1,36 +1,20 @@
 // The outcome of a request and the link to the request that its OrigClOrdID names, which stand beside
-// the request's fields in the book: the rule that they are right, decided in place; and what an event
-// sets, by value. Every public function is total and writes nothing. Rests on store, records and words.
+// the request's fields in the book: the rule that they are right, as a definition, which `rules` decides;
+// and what an event sets, by value. Every public function is total and writes nothing. Rests on store and
+// records.
 ghost use mathlib.Core.Path.{_≡_};
-ghost use Rattle.outcomes.specs.Outcomes.{outcomesRight, originOf, outcomeBy, outcomeIn};
+ghost use Rattle.outcomes.specs.Outcomes.{originOf, outcomeBy, outcomeIn};
 use format::codes;
 use prelude::Text;
 use records::Record;
 use store::Found;
-
-mod beside; // what stands beside one request
 
 // Outcomes; 0 is an open request's.
 const ACCEPTED: u8 = 1;
 
 const REFUSED: u8 = 2;
 
-pub(crate) const FAILED_TO_SEND: u8 = 3;
-
-// Whether what stands beside each request is right: one pass, in place.
-pub fn outcomes_right(book: &[u8]) -> bool
-    ensures { λ r. ⌜ r ≡ outcomesRight (now (book .entry)) ⌝ }
-{
-    let n = store::request_count(book);
-    let mut k: usize = 0;
-    while k < n {
-        if !beside::beside_ok(book, k) {
-            return false;
-        }
-        k += 1;
-    }
-    true
-}
+pub const FAILED_TO_SEND: u8 = 3;
 
 // The link of the request that an OrigClOrdID of a client names, 0 for none.
 pub fn origin_of(book: &[u8], client: u16, t: Text) -> u16

@@ -1,5 +1,5 @@
--- Whether the book that a buffer is keeps machine's rules: what `ruled` decides. Rests on machine's Rules. What `check` decides is opens' `keepsOf`: this,
--- and the open quantities behind the tables.
+-- Whether the book that a buffer is keeps machine's rules: what `ruled` decides, with outcomes' `outcomesRight`. Rests on machine's Rules. What `check` decides
+-- is opens' `keepsOf`: these, and the open quantities behind the tables.
 use mathlib.Core.Bool.{Bool, _&&_}
 use mathlib.Core.List.{List}
 use Prim.Native.Nat.{ℕ}

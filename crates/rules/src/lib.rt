@@ -1,16 +1,19 @@
-// The rules of the book that a buffer is, decided in place: one function, which is total and writes
-// nothing. With the open quantities behind the tables, `opens::keeps` has all the book's rules. Rests on
-// machine's definition of the rules, on store's layout, and on text and format. Its cost grows with the
-// records in use.
+// The rules of the book that a buffer is and what stands beside its requests, decided in place: one
+// function, which is total and writes nothing. With the open quantities behind the tables, `opens::keeps`
+// has all the book's rules. Rests on machine's and outcomes' definitions of the rules, on store's layout,
+// and on text and format. Its cost grows with the records in use.
 ghost use mathlib.Core.Path.{_≡_};
+ghost use mathlib.Core.Bool.{_&&_};
 ghost use Prim.Native.Nat.{_≤_};
 ghost use lib.ListN.{length};
 ghost use Rattle.store.specs.Layout.{bookSize, mostOrders, mostRequests};
+ghost use Rattle.outcomes.specs.Outcomes.{outcomesRight};
 ghost use Rattle.rules.specs.Ruled.{ruledOf};
 ghost use Rattle.rules.specs.Laws.Ruled.{decided};
 use places::get16;
 use store::layout;
 
+mod beside; // what stands beside a request
 mod distinct; // names and ClOrdIDs are distinct
 mod links; // an order's links and counts
 mod marks; // a status and a gateway cancel's marks
@@ -41,9 +44,10 @@ fn decide(book: &[u8], n: usize, m: usize) -> bool
     distinct::distinct(book, true, m)
 }
 
-// Whether the book that the bytes are keeps its rules, the length and the counts included.
+// Whether the book that the bytes are keeps its rules, the length and the counts included, and what
+// stands beside its requests is right.
 pub fn ruled(book: &[u8]) -> bool
-    ensures { λ r. ⌜ r ≡ ruledOf (now (book .entry)) ⌝ }
+    ensures { λ r. ⌜ r ≡ ruledOf (now (book .entry)) && outcomesRight (now (book .entry)) ⌝ }
 {
     if book.len() != layout::BOOK {
         return false;

@@ -85,8 +85,12 @@ pub(crate) fn numbered(s: &[u8], at: usize, from: usize, k: u16) -> bool
     if (s[at + 32] as usize) != n + tail.len {
         return false;
     }
-    let start = same_start(s, at, from, n);
+    if !same_start(s, at, from, n) {
+        return false;
+    }
     let end = get64(s, at + n);
-    let fine = filled(s, at);
-    start & (end == tail.word) & fine
+    if end != tail.word {
+        return false;
+    }
+    filled(s, at)
 }

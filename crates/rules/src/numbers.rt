@@ -1,17 +1,20 @@
-// One request: its fields' ranges, its order, its number among its order's, and a gateway cancel in
-// flight. Rests on numbered, marks and places.
+// One request: its fields' ranges, its order, its number among its order's, a gateway cancel in
+// flight, and what stands beside it. Rests on beside, numbered, marks and places.
 ghost use mathlib.Core.Path.{_≡_};
-ghost use mathlib.Core.Bool.{true};
-ghost use Prim.Native.Nat.{_+_, _≤_, _<_};
+ghost use mathlib.Core.Bool.{true, _&&_};
+ghost use Prim.Native.Nat.{ℕ, _+_, _≤_, _<_};
 ghost use lib.ListN.{length};
 ghost use Rattle.prelude.specs.Below.{allBelow};
 ghost use Rattle.prelude.specs.Cases.{if_then_else_};
-ghost use Rattle.prelude.specs.Texts.{textAt, sameText};
+ghost use Rattle.prelude.specs.Texts.{textAt, isText, sameText};
 ghost use Rattle.store.specs.Layout.{bookSize, mostOrders, mostRequests};
 ghost use Rattle.store.specs.Book.{orderAt, requestAt};
 ghost use Rattle.machine.specs.Ranges.{textWithin, nameRange};
-ghost use Rattle.machine.specs.Rules.{requestRange, nameNumber, numberRule, inFlightRule};
+ghost use Rattle.machine.specs.Rules.{nameNumber, numberRule, inFlightRule};
+ghost use Rattle.rules.specs.Laws.Beside.{besideAt};
 ghost use Rattle.rules.specs.Laws.Here.{rangeAt, sentRule, requestHere, IsPass};
+ghost use Rattle.rules.specs.Laws.Origin.{fieldsRange};
+use crate::beside::beside_ok;
 use crate::marks::is_done;
 use crate::marks::stuck_of;
 use crate::marks::unsent_of;
@@ -34,24 +37,21 @@ fn optional(book: &[u8], at: usize, absent: bool) -> bool
     requires { ⌜ at + 33 ≤ length (now book) ⌝ }
     ensures { λ r. ⌜ r ≡ (if absent then textWithin 0 0 (textAt (now (book .entry)) at) else textWithin 1 32 (textAt (now (book .entry)) at)) ⌝ }
 {
-    let fine = filled(book, at);
-    let empty = book[at + 32] == 0;
-    fine & (empty == absent)
+    if !filled(book, at) {
+        return false;
+    }
+    (book[at + 32] == 0) == absent
 }
 
+// Every field but the OrigClOrdID, which goes with its link, is in its range.
 fn fields_ok(book: &[u8], j: usize) -> bool
     requires { ⌜ (length (now book) ≡ bookSize) × (j < mostRequests) ⌝ }
-    ensures { λ r. ⌜ r ≡ requestRange (requestAt (now (book .entry)) j) ⌝ }
+    ensures { λ r. ⌜ r ≡ fieldsRange (requestAt (now (book .entry)) j) ⌝ }
 {
     let at = layout::REQUESTS + j * layout::REQUEST;
     let kind = book[at + layout::REQUEST_KIND];
     let clordid = optional(book, at + layout::REQUEST_CLORDID, kind == kinds::GATEWAY);
-    let origclordid = optional(
-        book,
-        at + layout::REQUEST_ORIGCLORDID,
-        (kind == kinds::FIRST) | (kind == kinds::GATEWAY),
-    );
-    (kind <= kinds::GATEWAY) & (book[at + layout::REQUEST_ANSWERED] <= 1) & clordid & origclordid
+    (kind <= kinds::GATEWAY) & (book[at + layout::REQUEST_ANSWERED] <= 1) & clordid
 }
 
 // Whether the downstream ClOrdID is the name with the number k.
@@ -72,11 +72,11 @@ fn number_ok(book: &[u8], j: usize, o: usize, k: u16) -> bool
     requires { ⌜ (length (now book) ≡ bookSize) × (j < mostRequests) × (o < mostOrders) × (k < 1000) × (nameRange (orderAt (now book) o .names .name) ≡ true) ⌝ }
     ensures { λ r. ⌜ r ≡ numberRule (orderAt (now (book .entry)) o .names .name) k (requestAt (now (book .entry)) j) ⌝ }
 {
-    let same = named(book, j, o, k);
-    if book[layout::REQUESTS + j * layout::REQUEST + layout::REQUEST_KIND] == kinds::FIRST {
-        return same & (k == 0);
+    let first = book[layout::REQUESTS + j * layout::REQUEST + layout::REQUEST_KIND] == kinds::FIRST;
+    if first != (k == 0) {
+        return false;
     }
-    same & (0 < k)
+    named(book, j, o, k)
 }
 
 // Whether order o is done, or request j is its latest cancel, with tries, sent and not stuck.
@@ -109,15 +109,21 @@ fn flight_ok(book: &[u8], j: usize, o: usize) -> bool
     sent_ok(book, j, o)
 }
 
-// Request j, the k-th of order o.
+// Request j, the k-th of order o, and what stands beside it. The ClOrdIDs before it are in range.
 fn request_ok(book: &[u8], j: usize, o: usize, k: u16) -> bool
-    requires { ⌜ (length (now book) ≡ bookSize) × (j < mostRequests) × (o < mostOrders) × (k < 1000) × (nameRange (orderAt (now book) o .names .name) ≡ true) ⌝ }
-    ensures { λ r. ⌜ r ≡ requestHere (now (book .entry)) j o k ⌝ }
+    requires { ⌜ (length (now book) ≡ bookSize) × (j < mostRequests) × (o < mostOrders) × (k < 1000) × (nameRange (orderAt (now book) o .names .name) ≡ true) × (requestAt (now book) j .order ≡ o) × ((i : ℕ) → i < j → isText (requestAt (now book) i .clordid) ≡ true) ⌝ }
+    ensures { λ r. ⌜ r ≡ requestHere (now (book .entry)) j o k && besideAt (now (book .entry)) j ⌝ }
 {
-    let fields = fields_ok(book, j);
-    let number = number_ok(book, j, o, k);
-    let flight = flight_ok(book, j, o);
-    fields & number & flight
+    if !fields_ok(book, j) {
+        return false;
+    }
+    if !number_ok(book, j, o, k) {
+        return false;
+    }
+    if !flight_ok(book, j, o) {
+        return false;
+    }
+    beside_ok(book, j, o)
 }
 
 // The first m requests, each of one of the first n orders.

@@ -49,18 +49,22 @@ module _ (b : List ℕ) where
   held-keeps l n m r o t = both-hold (ruledOf b && opensRight b) (outcomesRight b) (both-hold (ruledOf b) (opensRight b) (held-ruled b l n m r) o) t
 
   -- as it is decided
-  pub keeps-not : ruledOf b ≡ false → keepsOf b ≡ false
+  keeps-turned : keepsOf b ≡ ruledOf b && outcomesRight b && opensRight b
   unfolding keepsOf
-  keeps-not e = ap (λ (t : Bool). t && opensRight b && outcomesRight b) e
+  keeps-turned = go (ruledOf b) (opensRight b) (outcomesRight b)
+    where
+      go : (r o t : Bool) → r && o && t ≡ r && t && o
+      go true true true = refl
+      go true true false = refl
+      go true false true = refl
+      go true false false = refl
+      go false o t = refl
 
-  module _ (e : ruledOf b ≡ true) where
-    pub keeps-nor : opensRight b ≡ false → keepsOf b ≡ false
-    unfolding keepsOf
-    keeps-nor o = rw (e, o)
+  pub keeps-not : ruledOf b && outcomesRight b ≡ false → keepsOf b ≡ false
+  keeps-not e = keeps-turned ∙ ap (λ (t : Bool). t && opensRight b) e
 
-    pub keeps-then : opensRight b ≡ true → keepsOf b ≡ outcomesRight b
-    unfolding keepsOf
-    keeps-then o = rw (e, o)
+  pub keeps-then : ruledOf b && outcomesRight b ≡ true → keepsOf b ≡ opensRight b
+  keeps-then e = keeps-turned ∙ ap (λ (t : Bool). t && opensRight b) e
 
   -- ---- the call
 

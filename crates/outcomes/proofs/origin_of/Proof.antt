@@ -1,4 +1,4 @@
--- `origin_of` meets its contract: what is found is a request in use. Rests on Here.
+-- `origin_of` meets its contract: what is found is a request in use. Rests on Found.
 use mathlib.Core.Path.{_≡_, sym, _∙_}
 use mathlib.Core.Option.{some}
 use Prim.Native.Nat.{ℕ, _<_, _+_}
@@ -8,8 +8,7 @@ use Rattle.store.specs.Layout.{mostRequests}
 use Rattle.store.specs.Book.{bookOf}
 use Rattle.store.specs.Finds.{findClordid}
 use Rattle.outcomes.specs.Outcomes.{originOf}
-use Rattle.outcomes.specs.Laws.Found.{found-at, found-none}
-use Rattle.outcomes.specs.Laws.Here.{found-few}
+use Rattle.outcomes.specs.Laws.Found.{found-at, found-none, found-few}
 use borrow.Author.Needs.{needs}
 use Rattle.outcomes.proofs.origin_of.Statement.{statement}
 use Rattle.outcomes.proofs.origin_of.Tie as tie

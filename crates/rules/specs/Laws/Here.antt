@@ -21,6 +21,7 @@ use Rattle.machine.specs.Changes.{isCancel}
 use Rattle.machine.specs.Orders.{isEmpty, isDone}
 use Rattle.machine.specs.Ranges.{textWithin, nameRange}
 use Rattle.machine.specs.Rules.{namesRange, orderRange, requestRange, linked, currentTest, pendingTest, currentRule, cancelRule, pendingRule, filledRule, statusRule, doneRule, triesRule, amendmentsRule, orderRule, ofOrder, numberIn, numberRule, inFlightRule, requestRule, nameRule, clientOf, sameKey, keyRule, keysApart}
+use Rattle.rules.specs.Laws.Beside.{besideAt}
 
 -- ---- orders
 
@@ -79,19 +80,23 @@ requestHere b j o k =
 unfoldable pub requestRuleAt : List ℕ → ℕ → ℕ → Bool
 requestRuleAt b n j = ltb (requestAt b j .order) n && requestHere b j (requestAt b j .order) (countBelow (ofOrderAt b (requestAt b j .order)) j)
 
+-- what the pass asks of a request: its rules, and that what stands beside it is right
+abbrev pub passAt : List ℕ → ℕ → ℕ → Bool
+passAt b n j = requestRuleAt b n j && besideAt b j
+
 -- by the order that it names
 module _ (b : List ℕ) (n j o : ℕ) (e : requestAt b j .order ≡ o) where
-  pub rule-unbooked : n ≤ o → requestRuleAt b n j ≡ false
+  pub rule-unbooked : n ≤ o → passAt b n j ≡ false
   unfolding requestRuleAt
   rule-unbooked h = rw (e, le-ltb _ _ h)
 
-  pub rule-booked : (k : ℕ) → o < n → k ≡ countBelow (ofOrderAt b o) j → requestRuleAt b n j ≡ requestHere b j o k
+  pub rule-booked : (k : ℕ) → o < n → k ≡ countBelow (ofOrderAt b o) j → passAt b n j ≡ requestHere b j o k && besideAt b j
   unfolding requestRuleAt
   rule-booked k h c = rw (e, lt-ltb _ _ h, ← c)
 
 -- what the pass over the requests tells
 pub record IsPass (b : List ℕ) (n m : ℕ) (ok : Bool) (next : List ℕ) : Type 0 where
-  pub right : ok ≡ allBelow (requestRuleAt b n) m
+  pub right : ok ≡ allBelow (passAt b n) m
   pub counted : ok ≡ true → (o : ℕ) → o < mostOrders → getD next o 0 ≡ countBelow (ofOrderAt b o) m
 
 -- ---- names and keys
@@ -141,6 +146,20 @@ optional-text t absent = go (leb (t .len) 32) (allBelow (filledAt t) 32) (eqb (t
     go true true false false d e f =
         let z : 1 ≤ t .len = let n : t .len ≡ 0 → ⊥ = eqb-false _ _ f in omega arith in
         rw (d, e, f, le-leb 1 (t .len) z)
+
+-- just number 0 is a first request, as it is decided
+pub number-kind : (first : Bool) (n : ℕ) → (if first then eqb n 0 else ltb 0 n) ≡ Bool·beq first (eqb n 0)
+unfolding if_then_else_
+number-kind first n = go first (eqb n 0) refl
+  where
+    go : (f v : Bool) → eqb n 0 ≡ v → (if f then v else ltb 0 n) ≡ Bool·beq f v
+    go true true e = refl
+    go true false e = refl
+    go false true e = let z : n ≤ 0 = omega (arith, eqb-true n 0 e) in le-ltb 0 n z
+    go false false e =
+        let m : n ≡ 0 → ⊥ = eqb-false n 0 e in
+        let z : 0 < n = omega arith in
+        lt-ltb 0 n z
 
 -- ---- they are the rules of the book
 

@@ -1,6 +1,6 @@
--- What a caller has of bytes whose book keeps its rules, and the rules as they are decided, one after the other. Rests on Here and Things.
+-- What a caller has of bytes whose book keeps its rules, and the rules as they are decided, one after the other. Rests on Beside, Here and Things.
 use mathlib.Core.Path.{_≡_, refl, sym, ap, ap₂, _∙_}
-use mathlib.Core.Bool.{Bool, true, false, not, _&&_}
+use mathlib.Core.Bool.{Bool, true, false, not, _&&_, and-true, and-false}
 use mathlib.Core.List.{List}
 use Prim.Native.Nat.{ℕ, _≤_, min}
 use native.Mathlib.Omega.{arith}
@@ -14,7 +14,9 @@ use Rattle.store.specs.Layout.{bookSize, header·orders, header·requests, most
 use Rattle.store.specs.Book.{isBook, bookOf, countAt, orderCount, requestCount}
 use Rattle.store.specs.Laws.Stored.{length-orders, length-requests, count-most}
 use Rattle.machine.specs.Rules.{orderRule, requestRule, nameRule, keyRule, rules}
-use Rattle.rules.specs.Laws.Here.{rangeAt, linksOf, requestRuleAt, order-here, request-here, name-here, key-here}
+use Rattle.outcomes.specs.Outcomes.{outcomesRight}
+use Rattle.rules.specs.Laws.Beside.{besideAt, outcomes-here}
+use Rattle.rules.specs.Laws.Here.{rangeAt, linksOf, requestRuleAt, passAt, order-here, request-here, name-here, key-here}
 use Rattle.rules.specs.Laws.Things.{clearAt, same-keyed, same-named}
 use Rattle.rules.specs.Ruled.{ruledOf}
 
@@ -58,16 +60,18 @@ held-ruled b l n m r = rw (eq-eqb _ _ l, le-leb _ _ n, le-leb _ _ m) r
 
 unfoldable pub decided : List ℕ → ℕ → ℕ → Bool
 decided b n m =
-    allBelow (rangeAt b m) n && (allBelow (requestRuleAt b n) m && (allBelow (linksOf b m) n && (allBelow (clearAt b false) n && allBelow (clearAt b true) m)))
+    allBelow (rangeAt b m) n && (allBelow (passAt b n) m && (allBelow (linksOf b m) n && (allBelow (clearAt b false) n && allBelow (clearAt b true) m)))
 
-turn : (a l r n k k' : Bool) → (r ≡ true → k ≡ k') → a && l && r && n && k ≡ a && (r && (l && (n && k')))
-turn true true true n k k' f = ap (λ (v : Bool). n && v) (f refl)
-turn true true false n k k' f = refl
-turn true false true n k k' f = refl
-turn true false false n k k' f = refl
-turn false l r n k k' f = refl
+turn : (a l r n k k' t : Bool) → (r ≡ true → k ≡ k') → a && l && r && n && k && t ≡ a && (r && t && (l && (n && k')))
+turn true true true n k k' true f = and-true (n && k) ∙ ap (λ (v : Bool). n && v) (f refl)
+turn true true true n k k' false f = and-false (n && k)
+turn true true false n k k' t f = refl
+turn true false true n k k' true f = refl
+turn true false true n k k' false f = refl
+turn true false false n k k' t f = refl
+turn false l r n k k' t f = refl
 
-pub rules-decided : (b : List ℕ) → rules (bookOf b) ≡ decided b (orderCount b) (requestCount b)
+pub rules-decided : (b : List ℕ) → rules (bookOf b) && outcomesRight b ≡ decided b (orderCount b) (requestCount b)
 unfolding rules decided clearAt
 rules-decided b =
     let n = orderCount b in
@@ -81,13 +85,16 @@ rules-decided b =
       le-leb m mostRequests (count-most header·requests mostRequests b),
       o,
       all-ext (requestRule (bookOf b)) (requestRuleAt b n) m (request-here b),
+      outcomes-here b,
+      all-both (requestRuleAt b n) (besideAt b) m,
       all-ext (nameRule (bookOf b)) (clearAt b false) n (λ i h. name-here b i h ∙ all-ext _ _ i (λ j k. ap not (same-named b i j))),
     )
-    (turn (allBelow (rangeAt b m) n) (allBelow (linksOf b m) n) (allBelow (requestRuleAt b n) m) _ _ _
+    (turn (allBelow (rangeAt b m) n) (allBelow (linksOf b m) n) (allBelow (requestRuleAt b n) m) _ _ _ (allBelow (besideAt b) m)
     (λ e. all-ext (keyRule (bookOf b)) (clearAt b true) m (λ i h. key-here b e i h ∙ all-ext _ _ i (λ j k. ap not (same-keyed b i j)))))
 
--- with counts in range, it keeps its rules where they are decided so
-pub kept : (b : List ℕ) (n m : ℕ) → length b ≡ bookSize → n ≡ word16 b header·orders → n ≤ mostOrders → m ≡ word16 b header·requests → m ≤ mostRequests → ruledOf b ≡ decided b n m
+-- with counts in range, it keeps its rules, and what stands beside its requests is right, where it is decided so
+pub kept : (b : List ℕ) (n m : ℕ) → length b ≡ bookSize → n ≡ word16 b header·orders → n ≤ mostOrders → m ≡ word16 b header·requests → m ≤ mostRequests
+    → ruledOf b && outcomesRight b ≡ decided b n m
 unfolding ruledOf
 kept b n m l e h f k =
     let x : word16 b header·orders ≤ mostOrders = omega arith in

@@ -1,5 +1,5 @@
 -- What is to be distinct: the ClOrdIDs of the requests, each with its client, where `keyed`; else the names of the orders. Rests on Here, Places and Spread.
-use mathlib.Core.Path.{_≡_, refl, ap, ap₂, _∙_}
+use mathlib.Core.Path.{_≡_, refl, sym, ap, ap₂, _∙_}
 use mathlib.Core.Bool.{Bool, true, false, not, _&&_}
 use mathlib.Core.List.{List}
 use Prim.Native.Nat.{ℕ, _+_, _≤_, _<_}
@@ -7,7 +7,7 @@ use native.Mathlib.Omega.{arith}
 use borrow.Author.Tests.{eqb-true, ltb-true, lt-ltb}
 use lib.Dec.{eqb, ltb}
 use lib.ListN.{length}
-use Rattle.prelude.specs.Below.{allBelow, all-intro, all-elim}
+use Rattle.prelude.specs.Below.{allBelow, all-intro, all-elim, all-both}
 use Rattle.prelude.specs.Cases.{if_then_else_, both-true, both-hold}
 use Rattle.prelude.specs.Span.{length-span}
 use Rattle.prelude.specs.Texts.{textAt, sameText, same-text}
@@ -17,7 +17,8 @@ use Rattle.store.specs.Book.{orderAt, requestAt}
 use Rattle.store.specs.Laws.Fields.{names-name, request-clordid}
 use Rattle.machine.specs.Orders.{isEmpty}
 use Rattle.rules.specs.Laws.Places.{cell}
-use Rattle.rules.specs.Laws.Here.{requestRuleAt, clientAt, sameNameAt, sameKeyAt, booked}
+use Rattle.rules.specs.Laws.Beside.{besideAt}
+use Rattle.rules.specs.Laws.Here.{requestRuleAt, passAt, clientAt, sameNameAt, sameKeyAt, booked}
 use Rattle.rules.specs.Laws.Spread.{other, fresh}
 
 -- the record is in its table, and a request's order too
@@ -90,11 +91,11 @@ module _ (b : List ℕ) (n : ℕ) (few : n ≤ mostOrders) where
   unfolding placed if_then_else_
   names-placed = all-intro (placed b false) n (λ i h. lt-ltb i mostOrders (omega arith))
 
-  pub keys-placed : (m : ℕ) → m ≤ mostRequests → allBelow (requestRuleAt b n) m ≡ true → allBelow (placed b true) m ≡ true
+  pub keys-placed : (m : ℕ) → m ≤ mostRequests → allBelow (passAt b n) m ≡ true → allBelow (placed b true) m ≡ true
   unfolding placed if_then_else_
   keys-placed m h e =
       all-intro (placed b true) m
-      (λ j k. let u : requestAt b j .order < n = booked b n m e j k in both-hold _ _ (lt-ltb j mostRequests (omega arith)) (lt-ltb (requestAt b j .order) mostOrders (omega arith)))
+      (λ j k. let u : requestAt b j .order < n = booked b n m (both-true _ _ (sym (all-both (requestRuleAt b n) (besideAt b) m) ∙ e) .0) j k in both-hold _ _ (lt-ltb j mostRequests (omega arith)) (lt-ltb (requestAt b j .order) mostOrders (omega arith)))
 
 -- a key is one of the rules' keys, and a name a name
 pub same-keyed : (b : List ℕ) (i j : ℕ) → sameKeyAt b i j ≡ sameAt b true i j

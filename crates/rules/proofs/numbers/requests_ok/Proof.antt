@@ -12,18 +12,19 @@ use Rattle.prelude.specs.Cases.{clash}
 use Rattle.store.specs.Layout.{mostOrders}
 use Rattle.store.specs.Book.{requestAt}
 use Rattle.store.specs.Laws.Fields.{request-order}
-use Rattle.rules.specs.Laws.Here.{rangeAt, ofOrderAt, requestRuleAt, IsPass, range-name, rule-unbooked, rule-booked}
+use Rattle.rules.specs.Laws.Here.{rangeAt, ofOrderAt, passAt, IsPass, range-name, rule-unbooked, rule-booked}
+use Rattle.rules.specs.Laws.Origin.{pass-text}
 use borrow.Author.Needs.{needs}
 use Rattle.rules.proofs.numbers.requests_ok.Statement.{statement}
 use Rattle.rules.proofs.numbers.requests_ok.Tie as tie
 
 -- a pass that stops at a request
-failed : (b : List ℕ) (n m j : ℕ) (next : List ℕ) → j < m → requestRuleAt b n j ≡ false → IsPass b n m false next
-failed b n m j next h e = record { right = sym (all-miss (requestRuleAt b n) m j h e); counted = λ z. clash false z refl }
+failed : (b : List ℕ) (n m j : ℕ) (next : List ℕ) → j < m → passAt b n j ≡ false → IsPass b n m false next
+failed b n m j next h e = record { right = sym (all-miss (passAt b n) m j h e); counted = λ z. clash false z refl }
 
 abbrev Inv-loop : tie.InvT-loop
 Inv-loop book n m next₀ j₀ next j =
-    (j ≤ m) × (length next ≡ 64) × (allBelow (requestRuleAt book n) j ≡ true) × ((o : ℕ) → o < mostOrders → getD next o 0 ≡ countBelow (ofOrderAt book o) j)
+    (j ≤ m) × (length next ≡ 64) × (allBelow (passAt book n) j ≡ true) × ((o : ℕ) → o < mostOrders → getD next o 0 ≡ countBelow (ofOrderAt book o) j)
 
 abbrev μ-loop : tie.MeasureT-loop
 μ-loop book n m next₀ j₀ next j = m - j
@@ -50,6 +51,8 @@ request-ok-requires c κs = let g = c .before in
       omega (arith, s .pre .1),
       omega (arith, s .pre .1, s .pre .2, l .inv .3 o (omega (arith, s .pre .1)), count-le (ofOrderAt b o) (l .j)),
       range-name b (a .m) o (all-elim (rangeAt b (a .m)) (a .n) (s .pre .3) o h),
+      request-order b (l .j) ∙ sym (g .get16 .ensures),
+      λ i u. pass-text b (a .n) i (all-elim (passAt b (a .n)) (l .j) (l .inv .2) i u),
     )
 
 returns-2 : tie.Need-returns-2 Inv-loop μ-loop

@@ -1,23 +1,19 @@
--- The rule on the bytes, and that it is the rule of the book that the bytes are. Rests on store's Laws.
-use mathlib.Core.Path.{_≡_, refl, sym, ap, ap₂, _∙_}
-use mathlib.Core.Bool.{Bool, true, false, _&&_, _||_}
+-- What stands beside a request, on the book's bytes, and that it is outcomes' rule of them. Rests on outcomes and store's Laws.
+use mathlib.Core.Path.{_≡_, refl, ap, ap₂}
+use mathlib.Core.Bool.{Bool, true, false, not, _&&_, _||_, Bool·beq}
 use mathlib.Core.List.{List}
-use Prim.Native.Nat.{ℕ, _+_, _-_, _≤_, _<_}
+use Prim.Native.Nat.{ℕ, _-_, _≤_, _<_}
 use native.Mathlib.Omega.{arith}
-use borrow.Author.Tests.{ltb-true, leb-true}
+use borrow.Author.Tests.{eqb-true, eqb-false, ltb-true, leb-true, le-leb, lt-ltb, le-ltb}
 use lib.Dec.{eqb, leb, ltb}
-use mathlib.Core.Option.{some}
-use Rattle.prelude.specs.Below.{allBelow, First, first-some, all-ext}
-use Rattle.prelude.specs.declared.Text.{Text}
+use Rattle.prelude.specs.Below.{allBelow, all-ext}
+use Rattle.prelude.specs.Cases.{if_then_else_}
 use Rattle.prelude.specs.Texts.{sameText}
 use Rattle.store.specs.declared.Request.{Request}
-use Rattle.store.specs.Book.{bookOf, requestAt, requestIn, orderCount, requestCount, outcomeAt, originAt}
-use Rattle.store.specs.Layout.{header·requests, mostRequests}
-use Rattle.store.specs.Finds.{findClordid}
-use Rattle.store.specs.Laws.Finds.{usedAsAt, find-clordid-bytes}
-use Rattle.store.specs.Laws.Stored.{count-most, request-in}
+use Rattle.store.specs.Book.{bookOf, requestAt, requestIn, requestCount, outcomeAt, originAt}
+use Rattle.store.specs.Laws.Stored.{request-in}
 use Rattle.machine.specs.Orders.{isEmpty}
 use Rattle.outcomes.specs.Outcomes.{outcomeRule, originRule, besideRight, outcomesRight}
 
 -- the link of request k names a request before it, of its order, that bears its OrigClOrdID
 unfoldable pub linkAt : List ℕ → (k link : ℕ) → Bool
@@ -27,6 +23,21 @@ linkAt b k link =
 
 unfoldable pub besideAt : List ℕ → ℕ → Bool
 besideAt b k = outcomeRule (requestAt b k) (outcomeAt b k) && (isEmpty (requestAt b k .origclordid) || linkAt b k (originAt b k))
+
+-- an outcome by its mark, as it is decided
+pub outcome-mark : (answered outcome : ℕ)
+    → Bool·beq (eqb outcome 0) (eqb answered 0) && leb outcome 3 ≡ (if not (eqb answered 0) then ltb 0 outcome && leb outcome 3 else eqb outcome 0)
+unfolding if_then_else_
+outcome-mark a n = go (eqb a 0) (eqb n 0) refl
+  where
+    go : (u v : Bool) → eqb n 0 ≡ v → Bool·beq v u && leb n 3 ≡ (if not u then ltb 0 n && leb n 3 else v)
+    go true true e = le-leb n 3 (omega (arith, eqb-true n 0 e))
+    go true false e = refl
+    go false true e = let z : n ≤ 0 = omega (arith, eqb-true n 0 e) in rw (le-ltb 0 n z)
+    go false false e =
+        let m : n ≡ 0 → ⊥ = eqb-false n 0 e in
+        let z : 0 < n = omega arith in
+        rw (lt-ltb 0 n z)
 
 module _ (b : List ℕ) where
   link-here : (k link : ℕ) → k < requestCount b
@@ -54,12 +65,3 @@ module _ (b : List ℕ) where
   pub outcomes-here : outcomesRight b ≡ allBelow (besideAt b) (requestCount b)
   unfolding outcomesRight
   outcomes-here = all-ext (besideRight b) (besideAt b) (requestCount b) beside-here
-
-  -- what a ClOrdID names is a request in use
-  pub found-used : (client : ℕ) (t : Text) (k : ℕ) → findClordid (bookOf b) client t ≡ some k → k < requestCount b
-  found-used client t k e =
-      let f : First (usedAsAt b (orderCount b) client t) (requestCount b) k = first-some _ _ k (sym (find-clordid-bytes b client t) ∙ e) in
-      f .below
-
-  pub found-few : (client : ℕ) (t : Text) (k : ℕ) → findClordid (bookOf b) client t ≡ some k → k < mostRequests
-  found-few client t k e = omega (arith, found-used client t k e, count-most header·requests mostRequests b)
