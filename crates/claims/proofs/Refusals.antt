@@ -12,15 +12,16 @@ use Rattle.prelude.specs.Cases.{if_then_else_, split-if, split-maybe, if-true, 
 use Rattle.prelude.specs.declared.Text.{Text}
 use Rattle.store.specs.declared.Order.{Order}
 use Rattle.store.specs.declared.Request.{Request}
-use Rattle.store.specs.Book.{Book}
+use Rattle.store.specs.Book.{Book, orderIn}
 use Rattle.store.specs.Finds.{findClordid}
 use Rattle.machine.specs.declared.Change.{Change}
 use Rattle.machine.specs.Changes.{Event, unchanged, refusing, adding, alarming}
 use Rattle.machine.specs.Amend.{amendRefusal, alreadyTaken, orOwn, replaceRefusal, pricedRight, cancel, replace}
-use Rattle.machine.specs.Machine.{orderLink, orderOf, unused, bookOrder, amending, onRequest, nothing, unknownReport, onReport, onName, changeOf, hasRoom, stepOf, answerLink, ordersAfter, requestsAfter, after, findingsOf}
-use Rattle.machine.proofs.Claim.Moves.{Moves, more-moves, cancelOrder-moves, failed-moves, unsent-moves, told-refusal, status-moves, cancel-goes-moves, replace-goes-moves, unknown-moves, reject-moves, report-moves}
+use Rattle.machine.specs.Machine.{orderLink, orderOf, unused, bookOrder, amending, onRequest, nothing, unknownReport, onName, changeOf, hasRoom, stepOf, answerLink, ordersAfter, requestsAfter, after, findingsOf}
+use Rattle.machine.proofs.Made.{not-kind, on-report-made, unknown-made, reject-made, failed-made, unsent-made, asked-made}
+use Rattle.machine.proofs.Claim.Moves.{Moves, made-moves, asked-moves, told-refusal, status-moves, cancel-goes-moves, replace-goes-moves}
 use Rattle.machine.proofs.Claim.Ruled.{Ruled, request-ruled}
-use Rattle.machine.proofs.Claim.Walk.{found-request, found-order, not-kind}
+use Rattle.machine.proofs.Claim.Walk.{found-request, found-order}
 use Rattle.claims.specs.Questions.{isBooking, used, replaced, passedAll, mispriced, adds, full, isReplacing}
 use Rattle.claims.specs.Claims.{Grown}
 use Rattle.machine.specs.declared.Findings.{Findings}
@@ -66,11 +67,11 @@ module _ (b : Book) (r : Ruled b) (e : Event) where
 
 -- ---- cancels and replaces
 
-cancel-moves : (f : Findings) (order : ℕ) (full′ : Bool) (o : Order) (e : Event) → Moves 1 (f .place) o (cancel f order full′ o e)
+cancel-moves : (f : Findings) (order : ℕ) (full′ : Bool) (o : Order) (e : Event) → Moves 2 (f .place) o (cancel f order full′ o e)
 unfolding cancel
 cancel-moves f order full′ o e =
-    split-if (Moves 1 (f .place) o) _ (λ t. status-moves f o e)
-    (λ t. split-if (Moves 1 (f .place) o) _ (λ u. told-refusal f _ o e _) (λ u. cancel-goes-moves f o e))
+    split-if (Moves 2 (f .place) o) _ (λ t. status-moves f o e)
+    (λ t. split-if (Moves 2 (f .place) o) _ (λ u. told-refusal f o e _ _) (λ u. cancel-goes-moves f o e))
 
 refusing-unbooked : (b : Book) (n : ℕ) → Unbooked b n (refusing n)
 unfolding refusing
@@ -87,15 +88,15 @@ module _ (b : Book) (e : Event) (p : ℕ) (small : p ≤ length (b .orders)) (or
   abbrev wrong : Bool
   wrong = not (alreadyTaken f order e) && unrefused && not (pricedRight (orOwn (e .terms .ordtype) (o .terms .ordtype)) e)
 
-  told-if : (c : Change) → wrong ≡ false → Moves 1 (f .place) o c → Unbooked b (if wrong then 6 else 0) c
-  told-if c w m = subst (λ (n : ℕ). Unbooked b n c) (sym (if-false wrong 6 0 w)) (findings-unbooked b 1 p o c small m)
+  told-if : (c : Change) → wrong ≡ false → Moves 2 (f .place) o c → Unbooked b (if wrong then 6 else 0) c
+  told-if c w m = subst (λ (n : ℕ). Unbooked b n c) (sym (if-false wrong 6 0 w)) (findings-unbooked b 2 p o c small m)
 
   replace-unbooked : Unbooked b (if wrong then 6 else 0) (replace f order full′ o e)
   unfolding replace
   replace-unbooked =
       let T : Change → Type 0 = Unbooked b (if wrong then 6 else 0) in
       split-if T (alreadyTaken f order e) (λ t. told-if _ (rw t refl) (status-moves f o e))
-      (λ t. split-if T _ (λ u. told-if _ (rw (t, not-true unrefused u) refl) (told-refusal f _ o e _))
+      (λ t. split-if T _ (λ u. told-if _ (rw (t, not-true unrefused u) refl) (told-refusal f o e _ _))
       (λ u. split-if T _ (λ v. subst (λ (n : ℕ). Unbooked b n (refusing 6)) (sym (if-true wrong 6 0 (rw (t, not-false unrefused u, v) refl))) (refusing-unbooked b 6))
       (λ v. told-if _ (rw (t, not-false unrefused u, v) refl) (replace-goes-moves f o e))))
 
@@ -119,7 +120,7 @@ module _ (b : Book) (r : Ruled b) (e : Event) (other : isBooking e ≡ false) wh
 
   cancels : Unbooked b 0 (amending cancel b e)
   unfolding amending
-  cancels = findings-unbooked b 1 (orderOf b (e .client) (e .ids .origclordid)) _ _ (order-small b r e (e .client) (e .ids .origclordid)) (cancel-moves _ _ _ _ e)
+  cancels = findings-unbooked b 2 (orderOf b (e .client) (e .ids .origclordid)) _ _ (order-small b r e (e .client) (e .ids .origclordid)) (cancel-moves _ _ _ _ e)
 
   replaces : isReplacing e ≡ true → T (amending replace b e)
   unfolding amending passedAll
@@ -128,25 +129,19 @@ module _ (b : Book) (r : Ruled b) (e : Event) (other : isBooking e ≡ false) wh
       (replace-unbooked b e (orderOf b (e .client) (e .ids .origclordid)) (order-small b r e (e .client) (e .ids .origclordid)) _ _ _)
 
   others-unbooked : T (changeOf b e)
-  unfolding changeOf onName onReport
+  unfolding changeOf onName
   others-unbooked =
       split-if T (eqb (e .kind) 1) (λ t. clash _ t other)
       (λ t. split-if T (eqb (e .kind) 2) (λ t. plain _ (not-kind e 2 3 t refl) cancels)
       (λ t. split-if T (eqb (e .kind) 3) (λ t. replaces t)
       (λ n. split-if T (eqb (e .kind) 4)
-      (λ t. plain _ n (request-unbooked b r e _ _ (unknown-unbooked b) (λ f k q o. split-if (Moves 2 (f .place) o) _ (λ z. none _ _ _ (unknown-moves f k o e)) (λ z. report-moves f k q o e))))
-      (λ t. split-if T (eqb (e .kind) 5) (λ t. plain _ n (request-unbooked b r e _ _ (unknown-unbooked b) (λ f k q o. none _ _ _ (unknown-moves f k o e))))
-      (λ t. split-if T (eqb (e .kind) 6) (λ t. plain _ n (request-unbooked b r e _ _ (unknown-unbooked b) (λ f k q o. reject-moves f k q o e)))
-      (λ t. split-if T (eqb (e .kind) 7) (λ t. plain _ n (request-unbooked b r e _ _ (nothing-unbooked b) (λ f k q o. one _ _ _ (failed-moves f k q _ _ o))))
-      (λ t. split-if T (eqb (e .kind) 8) (λ t. plain _ n (request-unbooked b r e _ _ (nothing-unbooked b) (λ f k q o. one _ _ _ (unsent-moves f k q _ o))))
+      (λ t. plain _ n (request-unbooked b r e _ _ (unknown-unbooked b) (λ f k q o. made-moves (on-report-made k q o e _ _ _ _ t))))
+      (λ t. split-if T (eqb (e .kind) 5) (λ t. plain _ n (request-unbooked b r e _ _ (unknown-unbooked b) (λ f k q o. made-moves (unknown-made k q o e _ _ _ _))))
+      (λ t. split-if T (eqb (e .kind) 6) (λ t. plain _ n (request-unbooked b r e _ _ (unknown-unbooked b) (λ f k q o. made-moves (reject-made k q o e _ _ _ _ (not-kind e 6 7 t refl)))))
+      (λ t. split-if T (eqb (e .kind) 7) (λ t. plain _ n (request-unbooked b r e _ _ (nothing-unbooked b) (λ f k q o. made-moves (failed-made k q o e _ _ _ _ t))))
+      (λ t. split-if T (eqb (e .kind) 8) (λ t. plain _ n (request-unbooked b r e _ _ (nothing-unbooked b) (λ f k q o. made-moves (unsent-made k q o e _ _ _ _ (not-kind e 8 7 t refl)))))
       (λ t. plain _ n (split-maybe (Unbooked b 0) _ (λ z. nothing-unbooked b)
-      (λ i z. findings-unbooked b 1 (i + 1) _ _ (let l : i < length (b .orders) = found-order b (e .ids .name) i z in omega arith) (cancelOrder-moves _ _)))))))))))
-    where
-      none : (p : ℕ) (o : Order) (c : Change) → Moves 0 p o c → Moves 2 p o c
-      none p o c m = more-moves 0 2 p o c (omega arith) m
-
-      one : (p : ℕ) (o : Order) (c : Change) → Moves 1 p o c → Moves 2 p o c
-      one p o c m = more-moves 1 2 p o c (omega arith) m
+      (λ i z. findings-unbooked b 2 (i + 1) _ _ (let l : i < length (b .orders) = found-order b (e .ids .name) i z in omega arith) (asked-moves (asked-made (orderIn b i) _ _ _ _))))))))))))
 
 -- ---- every event
 

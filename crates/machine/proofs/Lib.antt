@@ -1,4 +1,6 @@
 pub mod Numbered
+pub mod Made
+pub mod Stepped
 pub mod Kept
 pub mod Claim
 pub mod Said

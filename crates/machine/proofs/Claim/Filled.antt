@@ -17,13 +17,12 @@ use Rattle.prelude.specs.Texts.{sameText}
 use Rattle.prelude.specs.Totals.{totalOf, Every, every[], every∷, total-append, total-set, every-map}
 use Rattle.prelude.specs.declared.Text.{Text}
 use Rattle.store.specs.declared.Order.{Order}
-use Rattle.store.specs.Book.{Book, orderIn, requestIn}
+use Rattle.store.specs.Book.{Book, orderIn}
 use Rattle.store.specs.Orders.{noOrder}
 use Rattle.machine.specs.Orders.{isDone}
 use Rattle.machine.specs.Changes.{Event, Message, unchanged, refusing, adding}
-use Rattle.machine.specs.Amend.{cancel, replace}
 use Rattle.store.specs.Finds.{findName}
-use Rattle.machine.specs.Machine.{findingsOf, bookedOrder, ordersAfter, after, onReport, stepOf}
+use Rattle.machine.specs.Machine.{findingsOf, bookedOrder, ordersAfter, after, stepOf}
 use Rattle.machine.specs.Rules.{rules, filledRule}
 use Rattle.machine.specs.History.{Decoded, unread, readAs, comesTo, messagesOf, leftBy, lineOf, State, next, run, startFrom}
 use Rattle.records.specs.Answer.{chosen}
@@ -31,7 +30,7 @@ use Rattle.machine.specs.Claim.{statusOf, Each}
 use Rattle.machine.specs.declared.Change.{Change}
 use Rattle.machine.proofs.Kept.Lift.{BookKept}
 use Rattle.machine.proofs.Claim.Laws.{tells, Whose, whose, lastQtyBy, filledBy}
-use Rattle.machine.proofs.Claim.Moves.{Moves, more-moves, cancelOrder-moves, failed-moves, unsent-moves, told-refusal, status-moves, cancel-goes-moves, replace-goes-moves, unknown-moves, reject-moves, report-moves}
+use Rattle.machine.proofs.Claim.Moves.{Moves, made-moves, asked-moves, amended-moves}
 use Rattle.machine.proofs.Claim.Ruled.{ruled}
 use Rattle.machine.proofs.Claim.Walk.{booking, Did, Roomy, turned-away, no-order, on-order, new-order, found-order, Either, Handles, step-walk, refusing-bystands, refusing-away}
 
@@ -45,26 +44,16 @@ module _ (b : Book) (e : Event) where
   unfolding findingsOf
   findings-place p = refl
 
-  moved : (i n : ℕ) (c : Change) → n ≤ 2 → Moves n (findingsOf b (i + 1) .place) (orderIn b i) c → Either (Moved i c) c
+  moved : (i : ℕ) (c : Change) → (eqb (c .refusal) 0 ≡ false) ⊎ Moves 2 (findingsOf b (i + 1) .place) (orderIn b i) c → Either (Moved i c) c
   unfolding Either Moved findingsOf
-  moved i n c l m = inr (m .taken, more-moves n 2 _ _ _ l m)
+  moved i c (inl z) = inl z
+  moved i c (inr m) = inr (m .taken, m)
 
   pub handles-moved : Handles Moved b e
   handles-moved = record {
-    cancels = λ k i h order full. unfold cancel in
-        split-if (λ c. Either (Moved i c) c) _ (λ t. moved i 1 _ (omega arith) (status-moves _ _ e))
-        (λ t. split-if (λ c. Either (Moved i c) c) _ (λ u. moved i 1 _ (omega arith) (told-refusal _ _ _ e _)) (λ u. moved i 1 _ (omega arith) (cancel-goes-moves _ _ e)));
-    replaces = λ k i h order full. unfold replace in
-        split-if (λ c. Either (Moved i c) c) _ (λ t. moved i 1 _ (omega arith) (status-moves _ _ e))
-        (λ t. split-if (λ c. Either (Moved i c) c) _ (λ u. moved i 1 _ (omega arith) (told-refusal _ _ _ e _))
-        (λ u. split-if (λ c. Either (Moved i c) c) _ (λ v. unfold Either in inl (refusing-away 6 refl)) (λ v. moved i 1 _ (omega arith) (replace-goes-moves _ _ e))));
-    reports = λ n k w. unfold onReport in
-        split-if (λ c. Either (Moved (requestIn b k .order) c) c) _ (λ t. moved _ 0 _ (omega arith) (unknown-moves _ (k + 1) _ e)) (λ t. moved _ 2 _ (omega arith) (report-moves _ (k + 1) _ _ e));
-    unknowns = λ n k w. moved _ 0 _ (omega arith) (unknown-moves _ (k + 1) _ e);
-    rejects = λ n k w. moved _ 2 _ (omega arith) (reject-moves _ (k + 1) _ _ e);
-    fails = λ n k w. moved _ 1 _ (omega arith) (failed-moves _ (k + 1) _ _ _ _);
-    resends = λ n k w. moved _ 1 _ (omega arith) (unsent-moves _ (k + 1) _ _ _);
-    asks = λ n i w. moved i 1 _ (omega arith) (cancelOrder-moves _ _);
+    amends = λ l₃ n₇ n₉ i h order full m. moved i _ (amended-moves m);
+    answers = λ n₂ n₉ k w m. moved _ _ (inr (made-moves m));
+    asks = λ past i w m. moved i _ (inr (asked-moves m));
   }
 
 -- ---- the orders that a change leaves

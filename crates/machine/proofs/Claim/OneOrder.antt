@@ -34,7 +34,7 @@ use Rattle.machine.proofs.Claim.Ruled.{Ruled, ruled, one-name, order-ru
 use Rattle.machine.proofs.Claim.Walk.{Did, Roomy, turned-away, no-order, on-order, new-order, found-request, found-text, Either, Handles, step-walk, refusing-away}
 use Rattle.machine.proofs.Claim.Filled.{Moved, handles-moved, orders-set, after-orders, at, beside, long, line-of, refused-of}
 use Rattle.machine.proofs.Claim.Records.{there-other, added-long, added-at, none-kept}
-use Rattle.machine.proofs.Claim.Touches.{Touches, on-report-touches, unknown-touches, reject-touches, failed-touches, unsent-touches}
+use Rattle.machine.proofs.Claim.Touches.{Touches, made-touches}
 use Rattle.machine.proofs.Claim.Steps.{findings-index}
 use Rattle.machine.proofs.Claim.Whole.{after-same}
 use Rattle.machine.proofs.Claim.Fresh.{named-zero, named-more, number-small, above-zero}
@@ -106,21 +106,13 @@ module _ (b : Book) (r : Ruled b) (e : Event) (low : 4 ≤ e .kind) (high : e .k
   alike j c v (inr z) t =
       inr (z .0, (z .1, ap (λ (n : ℕ). requestIn b n .order) (same-some v w), subst (λ (n : ℕ). Touches (findingsOf b (orderLink b j)) (n + 1) (orderIn b (requestIn b j .order)) c) (same-some v w) t))
 
-  not-here : {X : Type 0} (n : ℕ) → n < 4 → eqb (e .kind) n ≡ true → X
-  not-here n l z = let q : e .kind ≡ n = eqb-true (e .kind) n z in absurd (omega arith)
-
   handles-alike : Handles Alike b e
   handles-alike =
       let m = handles-moved b e in
       record {
-        cancels = λ z i h order full. not-here 2 (omega arith) z;
-        replaces = λ z i h order full. not-here 3 (omega arith) z;
-        reports = λ z j v. alike j _ v (m .reports z j v) (on-report-touches _ _ _ _ e);
-        unknowns = λ z j v. alike j _ v (m .unknowns z j v) (unknown-touches _ _ _ e);
-        rejects = λ z j v. alike j _ v (m .rejects z j v) (reject-touches _ _ _ _ e);
-        fails = λ z j v. alike j _ v (m .fails z j v) (failed-touches _ _ _ _ _ _);
-        resends = λ z j v. alike j _ v (m .resends z j v) (unsent-touches _ _ _ _ _);
-        asks = λ past i v. let l : 8 < e .kind = past (omega arith) in absurd (omega arith);
+        amends = λ l₃ n₇ n₉ i h order full t. absurd (omega arith);
+        answers = λ n₂ n₉ j v t. alike j _ v (m .answers n₂ n₉ j v t) (made-touches t);
+        asks = λ past i v t. let l : 8 < e .kind = past (omega arith) in absurd (omega arith);
       }
 
   -- the requests that the change touches are the order's
@@ -171,7 +163,7 @@ module _ (b : Book) (r : Ruled b) (e : Event) (low : 4 ≤ e .kind) (high : e .k
         same-name = ap (λ (y : Order). y .names .name) (at b c i h m (after b c) o) ∙ ap (λ (w : Whose). w .name) (m .same);
         silent = told-others m;
       }))
-  did-alone c (new-order z u) = not-here 1 (omega arith) z
+  did-alone c (new-order z u) = let q : e .kind ≡ 1 = eqb-true (e .kind) 1 z in absurd (omega arith)
 
 -- a text that a request bears is found
 found : (b : Book) (d : Text) (k : ℕ) → k < length (b .requests) → sameText (requestIn b k .downstream) d ≡ true → (j : ℕ) × (findDownstream b d ≡ some j)

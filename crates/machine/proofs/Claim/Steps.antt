@@ -37,7 +37,7 @@ use Rattle.machine.proofs.Claim.Filled.{orders-set, after-orders, at, b
 use Rattle.machine.proofs.Claim.Fresh.{fresh-text}
 use Rattle.machine.proofs.Claim.Records.{there-like, there-other, there-answered, find-stays, find-new, find-added, added-at}
 use Rattle.machine.proofs.Claim.Turn.{asksAt, beginsAt, answered-at, Own, Same, Goes, silent, repeated, fresh, newOf, Tried, begun, goes-on, fell, Turn}
-use Rattle.machine.proofs.Claim.Shapes.{Out, goes}
+use Rattle.machine.proofs.Claim.Shapes.{Out}
 use Rattle.machine.proofs.Numbered.{NumberedLaws}
 use Rattle.machine.proofs.Kept.Tables.{at-link}
 use Rattle.machine.proofs.Kept.Keep.{tries-at}

@@ -34,7 +34,8 @@ use Rattle.machine.proofs.Kept.Consequences.{names-apart}
 use Rattle.machine.proofs.Claim.Laws.{tells, Whose, whose, filledBy, bears}
 use Rattle.machine.proofs.Claim.Moves.{Moves}
 use Rattle.machine.proofs.Claim.Ruled.{Ruled, ruled, request-ruled}
-use Rattle.machine.proofs.Claim.Walk.{Bystands, booking, Did, Roomy, turned-away, no-order, on-order, new-order, found-request, found-order, found-name, not-kind, step-walk, refusing-bystands, refusing-away}
+use Rattle.machine.proofs.Made.{not-kind}
+use Rattle.machine.proofs.Claim.Walk.{Bystands, booking, Did, Roomy, turned-away, no-order, on-order, new-order, found-request, found-order, found-name, step-walk, refusing-bystands, refusing-away}
 use Rattle.machine.proofs.Claim.Filled.{Moved, Persists, persists-same, same-name, persists-trans, status-stays, call-advances, Steady, steady, orders-set, orders-same, orders-more, at, beside, long, more-at, more-beside, more-long, changed-persists, after-orders, refused-line, taken-line, booking-place, booking-silent}
 use Rattle.machine.proofs.Claim.Records.{there-like, longer, added-at, added-long, none-kept}
 use Rattle.machine.proofs.Claim.Net.{run-netted}

@@ -5,13 +5,13 @@ use native.Mathlib.Decide.{ℕ-discrete}
 use native.Mathlib.Omega.{arith}
 use mathlib.Core.Path.{_≡_, refl, sym, ap, subst, _∙_}
 use mathlib.Core.Logic.{_⊎_, inl, inr}
-use mathlib.Core.Bool.{Bool, _&&_}
+use mathlib.Core.Bool.{Bool, false, _&&_}
 use mathlib.Core.Option.{Option, none, some}
 use lib.Dec.{eqb, leb, ltb}
 use lib.ListN.{length}
 use borrow.Author.Tests.{eqb-true, eq-eqb, ne-eqb}
 use Rattle.prelude.specs.Below.{first-some}
-use Rattle.prelude.specs.Cases.{if_then_else_, maybe, split-if, if-true, if-false, maybe-some, both-true, clash}
+use Rattle.prelude.specs.Cases.{if_then_else_, maybe, if-true, if-false, maybe-some, both-true, clash}
 use Rattle.prelude.specs.Texts.{sameText}
 use Rattle.prelude.specs.declared.Text.{Text}
 use Rattle.store.specs.declared.Order.{Order}
@@ -19,161 +19,49 @@ use Rattle.store.specs.declared.Request.{Request}
 use Rattle.store.specs.Book.{Book, orderIn, requestIn}
 use Rattle.store.specs.Finds.{findName, findDownstream, findClordid, countClordids, hasClordid, ofClient}
 use Rattle.machine.specs.Orders.{oneMore}
-use Rattle.machine.specs.Changes.{Event, unchanged, refusing, adding, telling, nextRequest}
-use Rattle.machine.specs.GatewayCancel.{sendGatewayCancel, cancelOrder}
-use Rattle.machine.specs.Amend.{refuse, statusReport, cancelGoes, cancel, replaceGoes, replace, venueCancelReject, sendFailed, unsent}
+use Rattle.machine.specs.Changes.{Event}
+use Rattle.machine.specs.GatewayCancel.{cancelOrder}
+use Rattle.machine.specs.Amend.{cancel, replace, venueCancelReject, sendFailed, unsent}
 use Rattle.machine.specs.Report.{unknownAtVenue}
 use Rattle.machine.specs.Machine.{orderLink, orderOf, latestCancel, orderAtLink, findingsOf, Amending, amending, onRequest, nothing, unknownReport, textNote, onReport, onName, changeOf}
 use Rattle.machine.specs.Exchange.{concerns}
 use Rattle.machine.specs.declared.Findings.{Findings}
 use Rattle.machine.specs.declared.Change.{Change}
+use Rattle.machine.proofs.Made.{findings, Made, Amended, on-report-made, unknown-made, reject-made, failed-made, unsent-made, asked-made, cancel-made, replace-made}
+use Rattle.machine.proofs.Stepped.{AmendedBy}
 use Rattle.machine.proofs.Kept.Tables.{at-link}
 use Rattle.machine.proofs.Kept.Lift.{BookKept}
 use Rattle.machine.proofs.Claim.Laws.{Whose}
 use Rattle.machine.proofs.Claim.Ruled.{Ruled, order-ruled, request-ruled}
-use Rattle.machine.proofs.Claim.Walk.{found-request, found-order, refusing-away}
-use Rattle.machine.proofs.Claim.Moves.{Moves, more-moves, cancelOrder-moves, failed-moves, unsent-moves, told-refusal, status-moves, cancel-goes-moves, replace-goes-moves, unknown-moves, reject-moves, report-moves}
-use Rattle.machine.proofs.Claim.Touches.{Touches, on-report-touches, unknown-touches, reject-touches, failed-touches, unsent-touches}
-use Rattle.machine.proofs.Exchange.Links.{Within, Linked, findings, reject-pair, unknown-pair, on-report-pair, failed-pair, unsent-pair, ask-pair, cancel-pair, replace-pair}
+use Rattle.machine.proofs.Claim.Walk.{found-request, found-order}
+use Rattle.machine.proofs.Claim.Moves.{Moves, made-moves, asked-moves, amended-moves}
+use Rattle.machine.proofs.Claim.Touches.{Touches, made-touches, asked-touches, amended-touches}
+use Rattle.machine.proofs.Exchange.Links.{Within, Linked, made-pair, asked-pair, amended-pair}
 use Rattle.machine.proofs.Exchange.Frame.{Owned, Apart, name-same, downstream-stays, clordid-same, count-same, latest-same, links-within}
 
--- ---- the laws of a handler
+-- ---- how a handler makes its change
 
 -- of a client's cancel or replace
-pub record Client (handle : Amending) (e : Event) : Type 0 where
-  pub linked : (t p : ℕ) (x : Request) (m n order : ℕ) (full : Bool) (o : Order) → Within t o
-      → Linked t (oneMore 65535 m) (oneMore 65535 n) (handle (findings p x m) order full o e) (handle (findings p x n) order full o e)
-  pub touches : (f : Findings) (order : ℕ) (full : Bool) (o : Order) → Touches f 0 o (handle f order full o e)
-  pub moves : (f : Findings) (order : ℕ) (full : Bool) (o : Order) → handle f order full o e .refusal ≡ 0 → Moves 2 (f .place) o (handle f order full o e)
+abbrev Client : Amending → Event → Type 0
+Client handle e = (order : ℕ) (full : Bool) (o : Order) (p : ℕ) (x : Request) (m n : ℕ) → Amended order full o e p x m n (handle (findings p x m) order full o e) (handle (findings p x n) order full o e)
 
 -- of an event that names a request
-pub record Venue (handle : Findings → ℕ → Request → Order → Change) : Type 0 where
-  pub linked : (t p : ℕ) (x : Request) (m n k : ℕ) (q : Request) (o : Order) → Within t o
-      → Linked t (oneMore 65535 m) (oneMore 65535 n) (handle (findings p x m) k q o) (handle (findings p x n) k q o)
-  pub touches : (f : Findings) (k : ℕ) (q : Request) (o : Order) → Touches f k o (handle f k q o)
-  pub moves : (f : Findings) (k : ℕ) (q : Request) (o : Order) → Moves 2 (f .place) o (handle f k q o)
+abbrev Venue : (Findings → ℕ → Request → Order → Change) → Event → Type 0
+Venue handle e = (k : ℕ) (q : Request) (o : Order) (p : ℕ) (x : Request) (m n : ℕ) → Made k q o e p x m n (handle (findings p x m) k q o) (handle (findings p x n) k q o)
 
-module _ (f : Findings) (o : Order) where
-  status-touches : (e : Event) → Touches f 0 o (statusReport f o e)
-  unfolding statusReport telling unchanged
-  status-touches e = record { answers = inl refl; supersedes = inl refl; adds = inl refl }
-
-  cancel-goes-touches : (e : Event) → Touches f 0 o (cancelGoes f o e)
-  unfolding cancelGoes telling adding unchanged nextRequest
-  cancel-goes-touches e = record { answers = inl refl; supersedes = inl refl; adds = inr refl }
-
-  replace-goes-touches : (e : Event) → Touches f 0 o (replaceGoes f o e)
-  unfolding replaceGoes telling adding unchanged nextRequest
-  replace-goes-touches e = record { answers = inl refl; supersedes = inl refl; adds = inr refl }
-
-  cancel-touches : (order : ℕ) (full : Bool) (e : Event) → Touches f 0 o (cancel f order full o e)
-  unfolding cancel refuse telling unchanged
-  cancel-touches order full e =
-      split-if (Touches f 0 o) _ (λ h. status-touches e)
-      (λ h. split-if (Touches f 0 o) _ (λ h. record { answers = inl refl; supersedes = inl refl; adds = inl refl }) (λ h. cancel-goes-touches e))
-
-  replace-touches : (order : ℕ) (full : Bool) (e : Event) → Touches f 0 o (replace f order full o e)
-  unfolding replace refuse refusing telling unchanged
-  replace-touches order full e =
-      split-if (Touches f 0 o) _ (λ h. status-touches e)
-      (λ h. split-if (Touches f 0 o) _ (λ h. record { answers = inl refl; supersedes = inl refl; adds = inl refl })
-      (λ h. split-if (Touches f 0 o) _ (λ h. record { answers = inl refl; supersedes = inl refl; adds = inl refl }) (λ h. replace-goes-touches e)))
-
-  none-touched : (x : Order) → Touches f 0 o (unchanged (f .place) x)
-  unfolding unchanged
-  none-touched x = record { answers = inl refl; supersedes = inl refl; adds = inl refl }
-
-  sent-touched : (x : Order) → Touches f 0 o (sendGatewayCancel f (unchanged (f .place) x))
-  unfolding sendGatewayCancel telling adding unchanged nextRequest
-  sent-touched x = record { answers = inl refl; supersedes = inl refl; adds = inr refl }
-
-  ask-touches : Touches f 0 o (cancelOrder f o)
-  unfolding cancelOrder
-  ask-touches =
-      split-if (Touches f 0 o) _ (λ h. none-touched o)
-      (λ h. split-if (Touches f 0 o) _ (λ h. none-touched o) (λ h. split-if (Touches f 0 o) _ (λ h. none-touched _) (λ h. sent-touched _)))
-
-  abbrev Moved : Change → Type 0
-  Moved c = c .refusal ≡ 0 → Moves 2 (f .place) o c
-
-  two : (n : ℕ) (c : Change) → n ≤ 2 → Moves n (f .place) o c → Moved c
-  two n c l m z = more-moves n 2 _ _ _ l m
-
-  cancel-moves : (order : ℕ) (full : Bool) (e : Event) → Moved (cancel f order full o e)
-  unfolding cancel
-  cancel-moves order full e =
-      split-if Moved _ (λ t. two 1 _ (omega arith) (status-moves _ _ e))
-      (λ t. split-if Moved _ (λ u. two 1 _ (omega arith) (told-refusal _ _ _ e _)) (λ u. two 1 _ (omega arith) (cancel-goes-moves _ _ e)))
-
-  replace-moves : (order : ℕ) (full : Bool) (e : Event) → Moved (replace f order full o e)
-  unfolding replace
-  replace-moves order full e =
-      split-if Moved _ (λ t. two 1 _ (omega arith) (status-moves _ _ e))
-      (λ t. split-if Moved _ (λ u. two 1 _ (omega arith) (told-refusal _ _ _ e _))
-      (λ u. split-if Moved _ (λ v. away) (λ v. two 1 _ (omega arith) (replace-goes-moves _ _ e))))
-    where
-      away : Moved (refusing 6)
-      away z = clash _ (ap (λ (n : ℕ). eqb n 0) z) (refusing-away 6 refl)
-
-  on-report-moves : (k : ℕ) (q : Request) (e : Event) → Moves 2 (f .place) o (onReport e f k q o)
-  unfolding onReport
-  on-report-moves k q e = split-if (Moves 2 (f .place) o) _ (λ t. more-moves 0 2 _ _ _ (omega arith) (unknown-moves f k o e)) (λ t. report-moves f k q o e)
-
-cancels : (e : Event) → Client cancel e
-cancels e = record {
-  linked = λ t p x m n order full o w. cancel-pair t p x m n o w order full e;
-  touches = λ f order full o. cancel-touches f o order full e;
-  moves = λ f order full o. cancel-moves f o order full e;
-}
-
-replaces : (e : Event) → Client replace e
-replaces e = record {
-  linked = λ t p x m n order full o w. replace-pair t p x m n o w order full e;
-  touches = λ f order full o. replace-touches f o order full e;
-  moves = λ f order full o. replace-moves f o order full e;
-}
-
-reports : (e : Event) → Venue (onReport e)
-reports e = record {
-  linked = λ t p x m n k q o w. on-report-pair t p x m n k o w q e;
-  touches = λ f k q o. on-report-touches f k o q e;
-  moves = λ f k q o. on-report-moves f o k q e;
-}
-
-unknowns : (e : Event) → Venue (λ f k q o. unknownAtVenue f k o e)
-unknowns e = record {
-  linked = λ t p x m n k q o w. unknown-pair t p x m n k o w e;
-  touches = λ f k q o. unknown-touches f k o e;
-  moves = λ f k q o. more-moves 0 2 _ _ _ (omega arith) (unknown-moves f k o e);
-}
-
-rejects : (e : Event) → Venue (λ f k q o. venueCancelReject f k q o e)
-rejects e = record {
-  linked = λ t p x m n k q o w. reject-pair t p x m n k o w q e;
-  touches = λ f k q o. reject-touches f k o q e;
-  moves = λ f k q o. reject-moves f k q o e;
-}
-
-fails : (e : Event) → Venue (λ f k q o. sendFailed f k q (e .venue) (textNote e) o)
-fails e = record {
-  linked = λ t p x m n k q o w. failed-pair t p x m n k o w q (e .venue) (textNote e);
-  touches = λ f k q o. failed-touches f k o q (e .venue) (textNote e);
-  moves = λ f k q o. more-moves 1 2 _ _ _ (omega arith) (failed-moves f k q (e .venue) (textNote e) o);
-}
-
-resends : (e : Event) → Venue (λ f k q o. unsent f k q (e .venue) o)
-resends e = record {
-  linked = λ t p x m n k q o w. unsent-pair t p x m n k o w q (e .venue);
-  touches = λ f k q o. unsent-touches f k o q (e .venue);
-  moves = λ f k q o. more-moves 1 2 _ _ _ (omega arith) (unsent-moves f k q (e .venue) o);
-}
+taken-moves : {f : Findings} {order : ℕ} {full : Bool} {o : Order} {e : Event} {c c′ : Change} → AmendedBy f order full o e c c′ → c .refusal ≡ 0 → Moves 2 (f .place) o c
+taken-moves {f} {o = o} {c = c} m z = by (amended-moves m)
+  where
+    by : (eqb (c .refusal) 0 ≡ false) ⊎ Moves 2 (f .place) o c → Moves 2 (f .place) o c
+    by (inl y) = clash _ (eq-eqb (c .refusal) 0 z) y
+    by (inr y) = y
 
 -- ---- the order at index i is the one that the event concerns
 
 pub data Handled (b : Book) (e : Event) (i : ℕ) : Type 0 where
   by-clordid : (handle : Amending) → Client handle e → ((x : Book) → changeOf x e ≡ amending handle x e)
       → (k : ℕ) → findClordid b (e .client) (e .ids .origclordid) ≡ some k → requestIn b k .order ≡ i → Handled b e i
-  by-request : (unknown : Change) (handle : Findings → ℕ → Request → Order → Change) → Venue handle → ((x : Book) → changeOf x e ≡ onRequest unknown handle x e)
+  by-request : (unknown : Change) (handle : Findings → ℕ → Request → Order → Change) → Venue handle e → ((x : Book) → changeOf x e ≡ onRequest unknown handle x e)
       → (k : ℕ) → findDownstream b (e .ids .downstream) ≡ some k → requestIn b k .order ≡ i → Handled b e i
   by-name : ((x : Book) → changeOf x e ≡ onName x e) → findName b (e .ids .name) ≡ some i → Handled b e i
 
@@ -241,7 +129,7 @@ module _ (b : Book) (e : Event) (i : ℕ) where
     clordid handle h s z =
         let (k, w, o) = found (findClordid b (e .client) (e .ids .origclordid)) (λ k. requestIn b k .order) i (concerns-clordid z c) in by-clordid handle h s k w o
 
-    request : (unknown : Change) (handle : Findings → ℕ → Request → Order → Change) → Venue handle → ((x : Book) → changeOf x e ≡ onRequest unknown handle x e)
+    request : (unknown : Change) (handle : Findings → ℕ → Request → Order → Change) → Venue handle e → ((x : Book) → changeOf x e ≡ onRequest unknown handle x e)
         → 4 ≤ e .kind → e .kind ≤ 8 → Handled b e i
     request unknown handle h s l u =
         let (k, w, o) = found (findDownstream b (e .ids .downstream)) (λ k. requestIn b k .order) i (concerns-request l u c) in by-request unknown handle h s k w o
@@ -253,15 +141,18 @@ module _ (b : Book) (e : Event) (i : ℕ) where
 
     pub handled : Handled b e i
     handled =
-        dec-cases (ℕ-discrete (e .kind) 2) (λ z. clordid _ (cancels e) (change-2 e z) (inl z))
-        (λ n₂. dec-cases (ℕ-discrete (e .kind) 3) (λ z. clordid _ (replaces e) (change-3 e z) (inr z))
-        (λ n₃. dec-cases (ℕ-discrete (e .kind) 4) (λ z. request _ _ (reports e) (change-4 e z) (omega arith) (omega arith))
-        (λ n₄. dec-cases (ℕ-discrete (e .kind) 5) (λ z. request _ _ (unknowns e) (change-5 e z) (omega arith) (omega arith))
-        (λ n₅. dec-cases (ℕ-discrete (e .kind) 6) (λ z. request _ _ (rejects e) (change-6 e z) (omega arith) (omega arith))
-        (λ n₆. dec-cases (ℕ-discrete (e .kind) 7) (λ z. request _ _ (fails e) (change-7 e z) (omega arith) (omega arith))
-        (λ n₇. dec-cases (ℕ-discrete (e .kind) 8) (λ z. request _ _ (resends e) (change-8 e z) (omega arith) (omega arith))
+        dec-cases (ℕ-discrete (e .kind) 2) (λ z. clordid _ (λ order full o p x m n. cancel-made order full o e p x m n (eq-eqb (e .kind) 2 z)) (change-2 e z) (inl z))
+        (λ n₂. dec-cases (ℕ-discrete (e .kind) 3) (λ z. clordid _ (λ order full o. replace-made order full o e) (change-3 e z) (inr z))
+        (λ n₃. dec-cases (ℕ-discrete (e .kind) 4) (λ z. request _ _ (λ k q o p x m n. on-report-made k q o e p x m n (eq-eqb (e .kind) 4 z)) (change-4 e z) (omega arith) (omega arith))
+        (λ n₄. dec-cases (ℕ-discrete (e .kind) 5) (λ z. request _ _ (λ k q o. unknown-made k q o e) (change-5 e z) (omega arith) (omega arith))
+        (λ n₅. dec-cases (ℕ-discrete (e .kind) 6) (λ z. request _ _ (λ k q o p x m n. reject-made k q o e p x m n (not-failed z refl)) (change-6 e z) (omega arith) (omega arith))
+        (λ n₆. dec-cases (ℕ-discrete (e .kind) 7) (λ z. request _ _ (λ k q o p x m n. failed-made k q o e p x m n (eq-eqb (e .kind) 7 z)) (change-7 e z) (omega arith) (omega arith))
+        (λ n₇. dec-cases (ℕ-discrete (e .kind) 8) (λ z. request _ _ (λ k q o p x m n. unsent-made k q o e p x m n (not-failed z refl)) (change-8 e z) (omega arith) (omega arith))
         (λ n₈. name (let z : 8 < e .kind = past 7 n₈ (past 6 n₇ (past 5 n₆ (past 4 n₅ (past 3 n₄ (past 2 n₃ (past 1 n₂ low)))))) in omega arith))))))))
       where
+        not-failed : {n : ℕ} → e .kind ≡ n → eqb n 7 ≡ false → eqb (e .kind) 7 ≡ false
+        not-failed {n} z y = ap (λ (k : ℕ). eqb k 7) z ∙ y
+
         past : (n : ℕ) → (e .kind ≡ n + 1 → ⊥) → n < e .kind → n + 1 < e .kind
         past n z l = omega arith
 
@@ -355,14 +246,14 @@ module _ (b : Book) (r : Ruled b) (good : BookKept b) where
       go (by-clordid handle h s k w o) z =
           let q = s b ∙ on-clordid b e handle i (order-of b e (e .client) (e .ids .origclordid) k w ∙ ap (λ (n : ℕ). n + 1) o) in
           subst (Owned b i) (sym q)
-          (owned-from _ i 0 (placed e i v) (omega arith) (h .moves _ _ _ _ (ap (λ (c : Change). c .refusal) (sym q) ∙ z)) (h .touches _ _ _ _) (λ j y. absurd (omega arith)))
+          (owned-from _ i 0 (placed e i v) (omega arith) (taken-moves (h _ _ _ _ _ _ _) (ap (λ (c : Change). c .refusal) (sym q) ∙ z)) (amended-touches (h _ _ _ _ _ _ _)) (λ j y. absurd (omega arith)))
       go (by-request unknown handle h s k w o) z =
           let q = s b ∙ on-request b e unknown handle k w ∙ ap (λ (j : ℕ). handle (findingsOf b (j + 1)) (k + 1) (requestIn b k) (orderIn b j)) o in
           subst (Owned b i) (sym q)
-          (owned-from _ i (k + 1) (placed e i v) (let l = found-request b (e .ids .downstream) k w in omega arith) (h .moves _ _ _ _) (h .touches _ _ _ _) (λ j y. let x : k ≡ j = omega arith in sym (ap (λ (n : ℕ). requestIn b n .order) x) ∙ o))
+          (owned-from _ i (k + 1) (placed e i v) (let l = found-request b (e .ids .downstream) k w in omega arith) (made-moves (h _ _ _ _ _ _ _)) (made-touches (h _ _ _ _ _ _ _)) (λ j y. let x : k ≡ j = omega arith in sym (ap (λ (n : ℕ). requestIn b n .order) x) ∙ o))
       go (by-name s w) z =
           subst (Owned b i) (sym (s b ∙ on-name b e i w))
-          (owned-from _ i 0 (placed e i v) (omega arith) (more-moves 1 2 _ _ _ (omega arith) (cancelOrder-moves _ _)) (ask-touches _ _) (λ j y. absurd (omega arith)))
+          (owned-from _ i 0 (placed e i v) (omega arith) (asked-moves (asked-made _ _ _ _ _)) (asked-touches (asked-made _ _ _ _ _)) (λ j y. absurd (omega arith)))
 
 -- the client of an order that a client's own event concerns
 client-of : (b : Book) (e : Event) (i k : ℕ) → findClordid b (e .client) (e .ids .origclordid) ≡ some k → requestIn b k .order ≡ i → orderIn b i .client ≡ e .client
@@ -418,7 +309,7 @@ module _ (b b′ : Book) (i : ℕ) (a : Apart b b′ i) (r : Ruled b) (good : Bo
           ∙ ap (λ (x : ℕ). handle (findings (j + 1) latest (length (b′ .requests))) order (leb x (countClordids b′ (e .client))) (orderIn b′ j) e) (a .setting)
           ∙ ap (λ (x : ℕ). handle (findings (j + 1) latest (length (b′ .requests))) order (leb (b .setting) x) (orderIn b′ j) e) (count-same b b′ i a (e .client) n)
           ∙ ap (λ (x : Order). handle (findings (j + 1) latest (length (b′ .requests))) order full x e) (a .others j other))
-          (h .linked _ _ _ _ _ _ _ _ inside)
+          (amended-pair _ _ _ _ inside (h _ _ _ _ _ _ _))
       go (by-request unknown handle h s k w o) =
           let same : requestIn b′ k ≡ requestIn b k = a .requests k (found-request b (e .ids .downstream) k w) (λ z. other (sym o ∙ z)) in
           seen-by _ _ _ _
@@ -430,11 +321,11 @@ module _ (b b′ : Book) (i : ℕ) (a : Apart b b′ i) (r : Ruled b) (good : Bo
           ∙ ap (λ (x : ℕ). handle (findingsOf b′ (x + 1)) (k + 1) (requestIn b k) (orderIn b′ x)) o
           ∙ ap (λ (f : Findings). handle f (k + 1) (requestIn b k) (orderIn b′ j)) findings-after
           ∙ ap (λ (x : Order). handle (findings (j + 1) latest (length (b′ .requests))) (k + 1) (requestIn b k) x) (a .others j other))
-          (h .linked _ _ _ _ _ _ _ _ inside)
+          (made-pair _ _ _ _ inside (h _ _ _ _ _ _ _))
       go (by-name s w) =
           seen-by _ _ _ _
           (s b ∙ on-name b e j w ∙ ap (λ (f : Findings). cancelOrder f (orderIn b j)) findings-before)
           (s b′ ∙ on-name b′ e j (name-same b b′ i a (e .ids .name) ∙ w)
           ∙ ap (λ (f : Findings). cancelOrder f (orderIn b′ j)) findings-after
           ∙ ap (λ (x : Order). cancelOrder (findings (j + 1) latest (length (b′ .requests))) x) (a .others j other))
-          (ask-pair _ _ _ _ _ _ inside)
+          (asked-pair _ _ _ _ inside (asked-made _ _ _ _ _))

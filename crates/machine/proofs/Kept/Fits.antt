@@ -1,5 +1,5 @@
--- What the rules leave open of a book's fields stays within their widths: client, venue, texts, and the three counters. Rests on Machine.
-use Prim.Native.Nat.{ℕ, _+_, zero, suc, _-_, _^_, _≤_, _<_}
+-- What the rules leave open of a book's fields stays within their widths: client, venue, texts, and the three counters. Rests on Stepped.
+use Prim.Native.Nat.{ℕ, zero, suc, _-_, _^_, _≤_, _<_}
 use native.Mathlib.Omega.{arith}
 use mathlib.Core.Path.{_≡_, refl}
 use mathlib.Core.Bool.{Bool, true, false}
@@ -7,7 +7,7 @@ use mathlib.Core.List.{List, [], _∷_, _++_}
 use lib.Dec.{eqb}
 use lib.ListN.{length, getD, set}
 use borrow.Author.Tests.{eqb-true, eqb-false, ltb-true}
-use Rattle.prelude.specs.Cases.{if_then_else_, split-if, split-maybe}
+use Rattle.prelude.specs.Cases.{if_then_else_, split-if}
 use Rattle.prelude.specs.Texts.{WholeText}
 use Rattle.prelude.specs.Bytes.{bytes-zeros}
 use Rattle.prelude.specs.declared.Text.{Text}
@@ -20,18 +20,20 @@ use Rattle.store.specs.Book.{Book, orderIn, requestIn}
 use Rattle.store.specs.Orders.{noOrder, noPending}
 use Rattle.store.specs.Requests.{noRequest}
 use Rattle.text.specs.Words.{noText}
+use Rattle.format.specs.Codes.{rejected}
 use Rattle.machine.specs.Orders.{oneMore, setStatus, keptOrderId, recordVenueOrderId, applyReplace, nextSequence, nextExec, withState, withPending, withGateway}
-use Rattle.machine.specs.Changes.{Event, Message, unchanged, refusing, answering, superseding, adding, telling, alarming, nextNumber, nextDownstream, nextRequest, numberedOrder}
-use Rattle.machine.specs.GatewayCancel.{begun, trySent, givenUp, sendGatewayCancel, cancelOrder, resumeGatewayCancel, stuck, retryGatewayCancel, gatewayCancelRefused}
-use Rattle.machine.specs.Amend.{refuse, statusReport, cancelGoes, cancel, replaceGoes, replace, notPending, refusedOrder, refusedAlarm, refuseRequest, venueCancelReject, sendRefused, firstFailed, sendFailed, unsent}
-use Rattle.machine.specs.Report.{unknownAtVenue, droppedStale, droppedRepeat, reportedOrder, settles, applyReport, venueReport}
-use Rattle.machine.specs.Machine.{orderAtLink, bookedOrder, firstRequest, bookOrder, amending, onRequest, nothing, onReport, onName, changeOf, stepOf, answerLink, ordersAfter, requestsAfter, after, bookAfter}
+use Rattle.machine.specs.Changes.{Event, unchanged, refusing, adding, telling, alarming, nextNumber, nextDownstream, nextRequest, numberedOrder}
+use Rattle.machine.specs.GatewayCancel.{begun, trySent, givenUp, sendGatewayCancel}
+use Rattle.machine.specs.Amend.{cancelGoes, replaceGoes, notPending, refusedOrder, sendRefused}
+use Rattle.machine.specs.Report.{accepts, reportedOrder}
+use Rattle.machine.specs.Machine.{bookedOrder, firstRequest, stepOf, answerLink, ordersAfter, requestsAfter, after, bookAfter}
 use Rattle.machine.specs.Whole.{WholeEvent}
 use Rattle.machine.specs.declared.Findings.{Findings}
-use Rattle.machine.specs.declared.Note.{Note}
-use Rattle.machine.specs.declared.Refusal.{Refusal}
 use Rattle.machine.specs.declared.Refused.{Refused}
+use Rattle.machine.specs.declared.Output.{Output}
 use Rattle.machine.specs.declared.Change.{Change}
+use Rattle.machine.proofs.Made.{left, From, by-report, by-reject, by-failure, Closed, closed-made, declined, waits, goes, repeated, turned, unpriced, cancel-sent, replace-sent}
+use Rattle.machine.proofs.Stepped.{MadeBy, AskedBy, AmendedBy, Ways, step-made}
 use Rattle.machine.proofs.Numbered.{NumberedLaws}
 
 pub record NamesFit (n : Names) : Type 0 where
@@ -77,37 +79,6 @@ no-order-fits = record {
 
 no-request-fits : RequestFits noRequest
 no-request-fits = record { clordid = no-text-whole; origclordid = no-text-whole; downstream = no-text-whole }
-
--- ---- changes
-
-unchanged-fits : (place : ℕ) (o : Order) → OrderFits o → ChangeFits (unchanged place o)
-unfolding unchanged
-unchanged-fits place o f = record { order = f; request = no-request-fits }
-
-refusing-fits : (n : ℕ) → ChangeFits (refusing n)
-unfolding refusing
-refusing-fits n = record { order = no-order-fits; request = no-request-fits }
-
-module _ (c : Change) (h : ChangeFits c) where
-  telling-fits : (m : Message) → ChangeFits (telling m c)
-  unfolding telling
-  telling-fits m = record { order = h .order; request = h .request }
-
-  alarming-fits : (a : ℕ) → ChangeFits (alarming a c)
-  unfolding alarming
-  alarming-fits a = record { order = h .order; request = h .request }
-
-  answering-fits : (k : ℕ) → ChangeFits (answering k c)
-  unfolding answering
-  answering-fits k = record { order = h .order; request = h .request }
-
-  superseding-fits : (k : ℕ) → ChangeFits (superseding k c)
-  unfolding superseding
-  superseding-fits k = record { order = h .order; request = h .request }
-
-  adding-fits : (q : Request) → RequestFits q → ChangeFits (adding q c)
-  unfolding adding
-  adding-fits q r = record { order = h .order; request = r }
 
 -- ---- the order's steps
 
@@ -214,122 +185,50 @@ module _ (laws : NumberedLaws) (f : Findings) where
     downstream = laws .whole (o .names .name) (nextNumber o) (h .names .name) (h .names .short) (one-more-fits 65535 (o .links .amendments) (h .amendments));
   }
 
-  send-fits : (c : Change) → ChangeFits c → ChangeFits (sendGatewayCancel f c)
+  send-fits : (p : ℕ) (y : Order) (j s : ℕ) (out : Output) → OrderFits y → ChangeFits (sendGatewayCancel f (left p y j s out))
   unfolding sendGatewayCancel telling adding trySent
-  send-fits c h = record {
-    order = gateway-fits (numberedOrder f true (c .order)) (numbered-fits (c .order) (h .order) f true) (trySent (c .order)) (h .order .refusedsends);
-    request = next-fits (c .order) _ noText noText (h .order) no-text-whole no-text-whole;
+  send-fits p y j s out h = record {
+    order = gateway-fits (numberedOrder f true y) (numbered-fits y h f true) (trySent y) (h .refusedsends);
+    request = next-fits y _ noText noText h no-text-whole no-text-whole;
   }
 
-  resume-fits : (c : Change) → ChangeFits c → ChangeFits (resumeGatewayCancel f c)
-  unfolding resumeGatewayCancel
-  resume-fits c h = split-if ChangeFits _ (λ t. send-fits c h) (λ t. h)
+  module _ {o : Order} (h : OrderFits o) {e : Event} (w : WholeEvent e) where
+    made-fits : {k : ℕ} {q : Request} → RequestFits q → (c c′ : Change) → MadeBy f k q o e c c′ → ChangeFits c
+    made-fits {k} {q} r c c′ = closed-made z
+      where
+        from-whole : {x : Refused} → From k q o e x → WholeText (x .venueorderid)
+        from-whole by-report = w .venueorderid
+        from-whole by-reject = w .venueorderid
+        from-whole (by-failure n) = no-text-whole
 
-  given-fits : (c : Change) → ChangeFits c → ChangeFits (stuck c)
-  unfolding stuck alarming givenUp
-  given-fits c h = record { order = gateway-fits (c .order) (h .order) (givenUp (c .order)) (h .order .refusedsends); request = h .request }
+        z : Closed k q o e (f .place) (f .cancel) (f .requests) (f .requests) OrderFits (λ c c′. ChangeFits c)
+        z = record {
+          own = h;
+          refused = λ {r = x} v. refused-fits k x o (from-whole v) h;
+          named = named-fits o h (e .ids .venueorderid) false (w .venueorderid);
+          fallen = gateway-fits o h (sendRefused (o .gateway)) (unfold sendRefused in one-more-fits 4294967295 (o .gateway .refusedsends) (h .refusedsends));
+          ended = status-fits o rejected h;
+          reports = unfold reportedOrder in
+              let n : OrderFits (recordVenueOrderId (e .ids .venueorderid) (accepts k q o e) o) = named-fits o h (e .ids .venueorderid) (accepts k q o e) (w .venueorderid) in
+              state-fits _ (split-if OrderFits (accepts k q o e) (λ t. replaced-fits _ n q r) (λ t. n)) _ _ _ _ _ (h .execseq);
+          gives-up = λ y v. gateway-fits y v (givenUp y) (unfold givenUp in v .refusedsends);
+          counts = exec-fits;
+          leaves = λ v t u. record { order = v; request = no-request-fits };
+          sends = λ out v t u. send-fits _ _ _ _ out v;
+        }
 
-  cancel-refused-fits : (n : Note) (c : Change) → ChangeFits c → ChangeFits (gatewayCancelRefused f n c)
-  unfolding gatewayCancelRefused retryGatewayCancel
-  cancel-refused-fits n c h =
-      split-if ChangeFits _ (λ t. h) (λ t. split-if ChangeFits _ (λ t. given-fits c h) (λ t. split-if ChangeFits _ (λ t. given-fits c h) (λ t. send-fits c h)))
+    amended-fits : {order : ℕ} {full : Bool} (c c′ : Change) → AmendedBy f order full o e c c′ → ChangeFits c
+    unfolding refusing cancelGoes replaceGoes telling adding unchanged
+    amended-fits c c′ (repeated t) = record { order = exec-fits o h; request = no-request-fits }
+    amended-fits c c′ (turned v t) = record { order = h; request = no-request-fits }
+    amended-fits c c′ (unpriced t) = record { order = no-order-fits; request = no-request-fits }
+    amended-fits c c′ (cancel-sent z t) = record { order = numbered-fits o h f true; request = next-fits o _ _ _ h (w .clordid) (w .origclordid) }
+    amended-fits c c′ (replace-sent t u) = record { order = pending-fits _ (numbered-fits o h f false) _; request = next-fits o _ _ _ h (w .clordid) (w .origclordid) }
 
-  module _ (o : Order) (h : OrderFits o) where
-    still-fits : ChangeFits (unchanged (f .place) o)
-    still-fits = unchanged-fits (f .place) o h
-
-    cancel-order-fits : ChangeFits (cancelOrder f o)
-    unfolding cancelOrder
-    cancel-order-fits =
-        let begins : ChangeFits (unchanged (f .place) (withGateway (begun o) o)) = unchanged-fits (f .place) _ (gateway-fits o h (begun o) (unfold begun in omega arith)) in
-        split-if ChangeFits _ (λ t. still-fits) (λ t. split-if ChangeFits _ (λ t. still-fits) (λ t. split-if ChangeFits _ (λ t. begins) (λ t. send-fits _ begins)))
-
-    module _ (e : Event) (w : WholeEvent e) where
-      status-report-fits : ChangeFits (statusReport f o e)
-      unfolding statusReport
-      status-report-fits = telling-fits _ (unchanged-fits (f .place) (nextExec o) (exec-fits o h)) _
-
-      refuse-told-fits : (n : ℕ) (r : Refusal) → ChangeFits (refuse f n o e r)
-      unfolding refuse
-      refuse-told-fits n r = telling-fits _ still-fits _
-
-      -- the client's request goes out
-      goes-fits : (kind : ℕ) (p : Order) (m : Message) → OrderFits p → ChangeFits (telling m (adding (nextRequest f o kind (e .ids .clordid) (e .ids .origclordid)) (unchanged (f .place) p)))
-      goes-fits kind p m g = telling-fits _ (adding-fits _ (unchanged-fits (f .place) p g) _ (next-fits o kind (e .ids .clordid) (e .ids .origclordid) h (w .clordid) (w .origclordid))) m
-
-      cancel-fits : (order : ℕ) (full : Bool) → ChangeFits (cancel f order full o e)
-      unfolding cancel cancelGoes
-      cancel-fits order full =
-          split-if ChangeFits _ (λ t. status-report-fits) (λ t. split-if ChangeFits _ (λ t. refuse-told-fits _ _) (λ t. goes-fits _ _ _ (numbered-fits o h f true)))
-
-      replace-fits : (order : ℕ) (full : Bool) → ChangeFits (replace f order full o e)
-      unfolding replace replaceGoes
-      replace-fits order full =
-          split-if ChangeFits _ (λ t. status-report-fits)
-          (λ t. split-if ChangeFits _ (λ t. refuse-told-fits _ _)
-          (λ t. split-if ChangeFits _ (λ t. refusing-fits 6) (λ t. goes-fits _ _ _ (pending-fits _ (numbered-fits o h f false) _))))
-
-      unknown-fits : (k : ℕ) → ChangeFits (unknownAtVenue f k o e)
-      unfolding unknownAtVenue
-      unknown-fits k = split-if ChangeFits _ (λ t. still-fits) (λ t. split-if ChangeFits _ (λ t. still-fits) (λ t. split-if ChangeFits _ (λ t. still-fits) (λ t. alarming-fits _ still-fits _)))
-
-    module _ (k : ℕ) (q : Request) where
-      refuse-fits : (venue : ℕ) (r : Refused) → WholeText (r .venueorderid) → ChangeFits (refuseRequest f k q venue r o)
-      unfolding refuseRequest
-      refuse-fits venue r w =
-          let c : ChangeFits (alarming (refusedAlarm r o) (answering k (unchanged (f .place) (refusedOrder k r o)))) = alarming-fits _ (answering-fits _ (unchanged-fits (f .place) (refusedOrder k r o) (refused-fits k r o w h)) k) _ in
-          split-if ChangeFits _ (λ t. still-fits)
-          (λ t. split-if ChangeFits _ (λ t. still-fits)
-          (λ t. split-if ChangeFits _ (λ t. still-fits)
-          (λ t. split-if ChangeFits _ (λ t. c)
-          (λ t. split-if ChangeFits _ (λ t. cancel-refused-fits (r .note) _ c) (λ t. telling-fits _ c _)))))
-
-      failed-fits : (venue : ℕ) (n : Note) → ChangeFits (sendFailed f k q venue n o)
-      unfolding sendFailed firstFailed
-      failed-fits venue n =
-          split-if ChangeFits _ (λ t. still-fits)
-          (λ t. split-if ChangeFits _ (λ t. still-fits)
-          (λ t. split-if ChangeFits _ (λ t. answering-fits _ still-fits k)
-          (λ t. split-if ChangeFits _ (λ t. answering-fits _ (unchanged-fits (f .place) _ refused-gateway) k)
-          (λ t. split-if ChangeFits _ (λ t. refuse-fits venue _ no-text-whole)
-          (λ t. split-if ChangeFits _ (λ t. still-fits)
-          (λ t. telling-fits _ (answering-fits _ (unchanged-fits (f .place) _ (exec-fits _ (status-fits o _ h))) k) _))))))
-        where
-          refused-gateway : OrderFits (withGateway (sendRefused (o .gateway)) o)
-          refused-gateway = gateway-fits o h (sendRefused (o .gateway)) (unfold sendRefused in one-more-fits 4294967295 (o .gateway .refusedsends) (h .refusedsends))
-
-      unsent-fits : (venue : ℕ) → ChangeFits (unsent f k q venue o)
-      unfolding unsent
-      unsent-fits venue =
-          split-if ChangeFits _ (λ t. telling-fits _ still-fits _)
-          (λ t. split-if ChangeFits _ (λ t. telling-fits _ still-fits _) (λ t. split-if ChangeFits _ (λ t. telling-fits _ still-fits _) (λ t. failed-fits venue _)))
-
-      module _ (r : RequestFits q) (e : Event) (w : WholeEvent e) where
-        reject-fits : ChangeFits (venueCancelReject f k q o e)
-        unfolding venueCancelReject
-        reject-fits = resume-fits _ (refuse-fits (e .venue) _ (w .venueorderid))
-
-        reported-fits : (accepted : Bool) (s : ℕ) → OrderFits (reportedOrder accepted s q o e)
-        unfolding reportedOrder
-        reported-fits accepted s =
-            let n : OrderFits (recordVenueOrderId (e .ids .venueorderid) accepted o) = named-fits o h (e .ids .venueorderid) accepted (w .venueorderid) in
-            state-fits _ (split-if OrderFits accepted (λ t. replaced-fits _ n q r) (λ t. n)) _ _ _ _ _ (h .execseq)
-
-        settles-fits : (accepted : Bool) (s : ℕ) (p : Order) → OrderFits p → ChangeFits (settles accepted s k q o (unchanged (f .place) p))
-        unfolding settles
-        settles-fits accepted s p g =
-            let c : ChangeFits (unchanged (f .place) p) = unchanged-fits (f .place) p g in
-            split-if ChangeFits _ (λ t. superseding-fits _ (answering-fits _ c k) _) (λ t. split-if ChangeFits _ (λ t. answering-fits _ c k) (λ t. c))
-
-        report-fits : ChangeFits (venueReport f k q o e)
-        unfolding venueReport droppedStale droppedRepeat applyReport
-        report-fits =
-            split-if ChangeFits _ (λ t. resume-fits _ (refuse-fits (e .venue) _ (w .venueorderid)))
-            (λ t. split-if ChangeFits _ (λ t. still-fits)
-            (λ t. split-if ChangeFits _ (λ t. split-if ChangeFits _ (λ t. alarming-fits _ still-fits _) (λ t. still-fits))
-            (λ t. split-if ChangeFits _ (λ t. unchanged-fits (f .place) _ (named-fits o h (e .ids .venueorderid) false (w .venueorderid)))
-            (λ t. split-if ChangeFits _ (λ t. alarming-fits _ still-fits _)
-            (λ t. alarming-fits _ (split-if ChangeFits _ (λ t. settles-fits _ _ _ (reported-fits _ _)) (λ t. telling-fits _ (settles-fits _ _ _ (exec-fits _ (reported-fits _ _))) _)) _)))))
+  asked-fits : {o : Order} → OrderFits o → (c c′ : Change) → AskedBy f o c c′ → ChangeFits c
+  asked-fits h c c′ (declined z) = record { order = h; request = no-request-fits }
+  asked-fits {o} h c c′ (waits d g) = record { order = gateway-fits o h (begun o) (unfold begun in omega arith); request = no-request-fits }
+  asked-fits {o} h c c′ (goes d g) = send-fits _ _ _ _ _ (gateway-fits o h (begun o) (unfold begun in omega arith))
 
 -- ---- the book
 
@@ -387,47 +286,29 @@ after-fits b c f h = record {
     settled = answer-fits (c .requests .superseded) _ (answer-fits (c .requests .answered) (b .requests) (f .request))
 
 module _ (laws : NumberedLaws) (b : Book) (e : Event) (f : BookFits b) (w : WholeEvent e) (short : e .kind ≡ 1 → e .ids .name .len ≤ 20) where
-  booking-fits : e .kind ≡ 1 → ChangeFits (bookOrder b e)
-  unfolding bookOrder bookedOrder firstRequest
-  booking-fits one = split-if ChangeFits _ (λ t. refusing-fits 5) (λ t. split-if ChangeFits _ (λ t. refusing-fits 6)
-      (λ t. adding-fits _ (unchanged-fits _ (bookedOrder (length (b .requests) + 1) e)
-      (record {
+  ways : Ways ChangeFits b e
+  unfolding refusing unchanged alarming adding bookedOrder firstRequest
+  ways = record {
+    refuses = λ n z. record { order = no-order-fits; request = no-request-fits };
+    no-order = λ z. record { order = no-order-fits; request = no-request-fits };
+    unknown = λ z. record { order = no-order-fits; request = no-request-fits };
+    books = λ t u v. record {
+      order = record {
         client = w .client;
         venue = w .venue;
-        names = record { name = w .name; short = short one; clordid = w .clordid; downstream = w .name; symbol = w .symbol; venueorderid = no-text-whole };
+        names = record { name = w .name; short = short (eqb-true (e .kind) 1 t); clordid = w .clordid; downstream = w .name; symbol = w .symbol; venueorderid = no-text-whole };
         execseq = omega arith;
         amendments = omega arith;
         refusedsends = omega arith;
-      }))
-      (firstRequest (length (b .orders)) e) (record { clordid = w .clordid; origclordid = no-text-whole; downstream = w .name })))
-
-  order-fits : (place : ℕ) → OrderFits (orderAtLink b place)
-  unfolding orderAtLink
-  order-fits place = split-if OrderFits _ (λ t. no-order-fits) (λ t. f .order (place - 1))
-
-  request-fits : (c : Change) (handle : Findings → ℕ → Request → Order → Change) → ChangeFits c
-      → ((x : Findings) (k : ℕ) (q : Request) (o : Order) → RequestFits q → OrderFits o → ChangeFits (handle x k q o)) → ChangeFits (onRequest c handle b e)
-  unfolding onRequest
-  request-fits c handle u h = split-maybe ChangeFits _ (λ t. u) (λ k t. h _ _ _ _ (f .request k) (f .order (requestIn b k .order)))
-
-  change-fits : ChangeFits (changeOf b e)
-  unfolding changeOf amending onReport onName
-  change-fits =
-      let still : ChangeFits nothing = unchanged-fits 0 noOrder no-order-fits in
-      split-if ChangeFits (eqb (e .kind) 1) (λ t. booking-fits (eqb-true (e .kind) 1 t))
-      (λ t. split-if ChangeFits _ (λ t. cancel-fits laws _ _ (order-fits _) e w _ _)
-      (λ t. split-if ChangeFits _ (λ t. replace-fits laws _ _ (order-fits _) e w _ _)
-      (λ t. split-if ChangeFits _ (λ t. request-fits _ _ (alarming-fits _ still _)
-      (λ x k q o r h. split-if ChangeFits _ (λ t. unknown-fits laws x o h e w k) (λ t. report-fits laws x o h k q r e w)))
-      (λ t. split-if ChangeFits _ (λ t. request-fits _ _ (alarming-fits _ still _) (λ x k q o r h. unknown-fits laws x o h e w k))
-      (λ t. split-if ChangeFits _ (λ t. request-fits _ _ (alarming-fits _ still _) (λ x k q o r h. reject-fits laws x o h k q r e w))
-      (λ t. split-if ChangeFits _ (λ t. request-fits _ _ still (λ x k q o r h. failed-fits laws x o h k q _ _))
-      (λ t. split-if ChangeFits _ (λ t. request-fits _ _ still (λ x k q o r h. unsent-fits laws x o h k q _))
-      (λ t. split-maybe ChangeFits _ (λ t. still) (λ i t. cancel-order-fits laws _ _ (f .order i))))))))))
+      };
+      request = record { clordid = w .clordid; origclordid = no-text-whole; downstream = w .name };
+    };
+    amends-none = λ z order full. amended-fits laws _ no-order-fits w;
+    amends = λ z k y full. amended-fits laws _ (f .order (requestIn b k .order)) w;
+    answers = λ y k z. made-fits laws _ (f .order (requestIn b k .order)) w (f .request k);
+    asks = λ y i z. asked-fits laws _ (f .order i);
+  }
 
   pub fits-kept : BookFits (bookAfter b e)
-  unfolding bookAfter stepOf
-  fits-kept =
-      split-if BookFits _ (λ t. after-fits b (stepOf b e) f
-      (split-if ChangeFits _ (λ t. change-fits) (λ t. split-if ChangeFits _ (λ t. change-fits) (λ t. refusing-fits 7))))
-      (λ t. f)
+  unfolding bookAfter
+  fits-kept = split-if BookFits _ (λ t. after-fits b (stepOf b e) f (step-made ChangeFits b e ways)) (λ t. f)

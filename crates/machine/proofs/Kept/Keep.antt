@@ -1,4 +1,4 @@
--- What each change does to its order keeps the rules: one law for a function of the handling. Rests on Local.
+-- What each change does to its order keeps the rules: one law for each way that one is made. Rests on Local and Stepped.
 use Prim.Native.Nat.{ℕ, _+_, _-_, _≤_, _<_, max}
 use native.Mathlib.Omega.{arith}
 use mathlib.Core.Path.{_≡_, refl, sym, ap, subst, _∙_}
@@ -7,9 +7,9 @@ use mathlib.Core.Bool.{Bool, true, false, not, _&&_, _||_}
 use mathlib.Core.List.{List, [], _∷_, _++_}
 use lib.Dec.{eqb, leb, ltb}
 use lib.ListN.{length}
-use borrow.Author.Tests.{eqb-true, eqb-false, eq-eqb, ne-eqb, leb-true, leb-false, le-leb, ltb-false, lt-ltb, not-true, not-false}
+use borrow.Author.Tests.{eqb-true, eqb-false, eq-eqb, ne-eqb, leb-true, le-leb, lt-ltb, not-true}
 use Rattle.prelude.specs.Below.{allBelow}
-use Rattle.prelude.specs.Cases.{if_then_else_, split-if, both-true, either-false, if-true, if-false, clash}
+use Rattle.prelude.specs.Cases.{if_then_else_, split-if, both-true, if-true, if-false, clash}
 use Rattle.prelude.specs.Texts.{isText, sameText, same-self}
 use Rattle.prelude.specs.declared.Text.{Text}
 use Rattle.store.specs.declared.Pending.{Pending}
@@ -23,19 +23,21 @@ use Rattle.text.specs.Numbered.{numberedText}
 use Rattle.machine.specs.Constants.{cancelKind, replaceKind, gatewayKind}
 use Rattle.machine.specs.Orders.{oneMore, isEmpty, isDone, hasGateway, setStatus, recordVenueOrderId, pendingTerms, applyReplace, nextExec, withPending, withGateway}
 use Rattle.store.specs.Orders.{noPending}
-use Rattle.machine.specs.Changes.{Event, Message, unchanged, answering, superseding, adding, telling, alarming, isFirst, isReplace, isGateway, isCancel, isAnswered, nextLink, nextNumber, nextDownstream, nextRequest, numberedOrder}
-use Rattle.machine.specs.GatewayCancel.{outstandingCancel, gatewayCancelInFlight, begun, trySent, givenUp, sendGatewayCancel, cancelOrder, gatewayCancelWaiting, resumeGatewayCancel, stuck, retryGatewayCancel, gatewayCancelRefused}
-use Rattle.machine.specs.Amend.{has, statusReport, cancelGoes, orOwn, newTerms, pricedRight, newPending, replaceGoes, notPending, refusedOrder, refusedAlarm, refuseRequest, sendRefused, venueCancelReject, firstFailed, sendFailed, unsent}
-use Rattle.machine.specs.Report.{unknownAtVenue, isRejection, pendingHere, stale, droppedStale, droppedRepeat, statusTaken, accepts, orderedQty, reportedOrder, settles, applyReport, venueReport}
+use Rattle.machine.specs.Changes.{Event, Message, unchanged, adding, telling, isFirst, isReplace, isGateway, isCancel, isAnswered, nextLink, nextNumber, nextDownstream, nextRequest, numberedOrder}
+use Rattle.machine.specs.GatewayCancel.{outstandingCancel, gatewayCancelInFlight, begun, trySent, givenUp, sendGatewayCancel}
+use Rattle.machine.specs.Amend.{has, cancelGoes, orOwn, newTerms, pricedRight, newPending, replaceGoes, notPending, refusedOrder, sendRefused}
+use Rattle.machine.specs.Report.{isRejection, pendingHere, statusTaken, accepts, orderedQty, reportedOrder}
 use Rattle.machine.specs.Machine.{answerLink, requestsAfter, latestCancel}
 use Rattle.machine.specs.Events.{Ranged}
-use Rattle.format.specs.Codes.{isOrdtype, isStatus, statuses, isPrice, pendingNew, new, partiallyFilled, canceled, rejected, limit}
+use Rattle.format.specs.Codes.{isOrdtype, isStatus, statuses, isPrice, pendingNew, new, partiallyFilled, rejected, limit}
 use Rattle.machine.specs.Ranges.{textWithin}
 use Rattle.machine.specs.Rules.{forceRange, pricedRange, pendingRange, gatewayRange, requestRange, linked, pendingTest, currentTest, currentRule, pendingRule, filledRule, triesRule, nameNumber, numberRule, inFlightRule, clientOf}
 use Rattle.machine.specs.declared.Findings.{Findings}
-use Rattle.machine.specs.declared.Note.{Note}
 use Rattle.machine.specs.declared.Refused.{Refused}
+use Rattle.machine.specs.declared.Output.{Output}
 use Rattle.machine.specs.declared.Change.{Change}
+use Rattle.machine.proofs.Made.{left, From, by-report, by-reject, by-failure, Open, Refuses, still, gone, given-up, told, Fails, unfailed, refused, freed, fell, ended, new-again, cancel-again, replace-again, failing, Applied, reported, Settles, replaced, cancelled, neither, fails, resends, alarms, names, applies, informs, quietly, retries, stays, refusing!, resumes, declined, waits, goes}
+use Rattle.machine.proofs.Stepped.{MadeBy, AskedBy}
 use Rattle.machine.proofs.Kept.Laws.{both, or-left, or-right, or-else, and-else, and-tail, not-is, is-not}
 use Rattle.machine.proofs.Kept.Tables.{at, Linked, linked-at, linked-new, length-answer, owned, owned-answer, amendments-at}
 use Rattle.machine.proofs.Kept.Local.{OrderKept, Flights, Quiet, settled, InFlight, in-flight, flight-rule, settled-flight, quiet-flights, quiet-unsent, quiet-latest, quiet-answer, answer-kept, one-more, next-link, next-owned, own-kept, gateway-live, terms-kept, sequence-kept, named-kept, gateway-kept, pending-kept, cleared-kept, state-kept, pending-parts, replaced-kept}
@@ -62,30 +64,6 @@ pub record Kept (b : Book) (i : ℕ) (c : Change) : Type 0 where
   pub added : eqb (c .requests .added) 0 ≡ false → Added b i (c .order) (c .requests .request)
   pub rule : OrderKept i (c .order) (requestsAfter (b .requests) c)
 
-pub telling-kept : (b : Book) (i : ℕ) (m : Message) (c : Change) → Kept b i c → Kept b i (telling m c)
-unfolding telling requestsAfter
-telling-kept b i m c k = record {
-  place = k .place;
-  name = k .name;
-  client = k .client;
-  answers = k .answers;
-  supersedes = k .supersedes;
-  added = k .added;
-  rule = k .rule;
-}
-
-pub alarming-kept : (b : Book) (i a : ℕ) (c : Change) → Kept b i c → Kept b i (alarming a c)
-unfolding alarming requestsAfter
-alarming-kept b i a c k = record {
-  place = k .place;
-  name = k .name;
-  client = k .client;
-  answers = k .answers;
-  supersedes = k .supersedes;
-  added = k .added;
-  rule = k .rule;
-}
-
 no-link : (b : Book) (i : ℕ) → Owns b i 0
 no-link b i j e = absurd (omega arith)
 
@@ -104,36 +82,39 @@ pub record Same (o p : Order) : Type 0 where
   pub client : p .client ≡ o .client
 
 module _ (b : Book) (i : ℕ) (f : Findings) (o : Order) (here : Here b i f o) where
-  pub unchanged-kept : (p : Order) → Same o p → OrderKept i p (b .requests) → Kept b i (unchanged (f .place) p)
-  unfolding unchanged requestsAfter answerLink if_then_else_
-  unchanged-kept p s l = record {
+  -- no request is added
+  left-kept : {y : Order} {k s : ℕ} {out : Output} → Same o y → Owns b i k → Owns b i s → OrderKept i y (answerLink s (answerLink k (b .requests))) → Kept b i (left (f .place) y k s out)
+  unfolding requestsAfter if_then_else_
+  left-kept y a w l = record {
     place = here .place;
-    name = λ h. s .name ∙ ap (λ (x : Order). x .names .name) (here .is);
-    client = λ h. s .client ∙ ap (λ (x : Order). x .client) (here .is);
-    answers = no-link b i;
-    supersedes = no-link b i;
+    name = λ h. y .name ∙ ap (λ (x : Order). x .names .name) (here .is);
+    client = λ h. y .client ∙ ap (λ (x : Order). x .client) (here .is);
+    answers = a;
+    supersedes = w;
     added = λ e. clash true refl e;
     rule = l;
   }
 
-  pub still-kept : Kept b i (unchanged (f .place) o)
-  still-kept = unchanged-kept o (record { name = refl; client = refl }) (here .kept)
+  -- and none is answered
+  pub still-kept : {y : Order} {out : Output} → Same o y → OrderKept i y (b .requests) → Kept b i (left (f .place) y 0 0 out)
+  unfolding answerLink if_then_else_
+  still-kept y l = left-kept y (no-link b i) (no-link b i) l
 
-  pub answering-kept : (k : ℕ) (p : Order) → Same o p → Owns b i k → OrderKept i p (answerLink k (b .requests)) → Kept b i (answering k (unchanged (f .place) p))
-  unfolding unchanged answering requestsAfter answerLink if_then_else_
-  answering-kept k p s w l = record {
-    place = here .place;
-    name = λ h. s .name ∙ ap (λ (x : Order). x .names .name) (here .is);
-    client = λ h. s .client ∙ ap (λ (x : Order). x .client) (here .is);
-    answers = w;
-    supersedes = no-link b i;
-    added = λ e. clash true refl e;
-    rule = l;
-  }
+  pub own-still : {out : Output} → Kept b i (left (f .place) o 0 0 out)
+  own-still = still-kept (record { name = refl; client = refl }) (here .kept)
 
-  pub adding-kept : (x : Request) (p : Order) → Same o p → Added b i p x → OrderKept i p (b .requests ++ (x ∷ [])) → Kept b i (adding x (unchanged (f .place) p))
-  unfolding unchanged adding requestsAfter answerLink if_then_else_
-  adding-kept x p s a l = record {
+  -- or one
+  once-kept : {y : Order} {k : ℕ} {out : Output} → Same o y → Owns b i k → OrderKept i y (answerLink k (b .requests)) → Kept b i (left (f .place) y k 0 out)
+  unfolding answerLink if_then_else_
+  once-kept m w l = left-kept m w (no-link b i) l
+
+  answered-kept : {y : Order} {k : ℕ} {out : Output} → Same o y → Owns b i k → (k ≡ y .pending .request → k ≡ 0) → OrderKept i y (b .requests) → Kept b i (left (f .place) y k 0 out)
+  answered-kept {y} {k} m w free l = once-kept m w (answer-kept i k y (b .requests) free l)
+
+  -- the client's request goes out
+  goes-kept : (x : Request) (p : Order) (m : Message) → Same o p → Added b i p x → OrderKept i p (b .requests ++ (x ∷ [])) → Kept b i (telling m (adding x (unchanged (f .place) p)))
+  unfolding telling unchanged adding requestsAfter answerLink if_then_else_
+  goes-kept x p m s a l = record {
     place = here .place;
     name = λ h. s .name ∙ ap (λ (x : Order). x .names .name) (here .is);
     client = λ h. s .client ∙ ap (λ (x : Order). x .client) (here .is);
@@ -276,86 +257,11 @@ module _ (b : Book) (i : ℕ) (f : Findings) (o : Order) (here : Here b i f o) (
 
 -- ---- it is given up, or tried again
 
--- a gateway cancel that was sent, and is settled now
-record Sent (b : Book) (i : ℕ) (c : Change) : Type 0 where
-  live : isDone (c .order .state .status) ≡ false
-  quiet : Quiet i (requestsAfter (b .requests) c)
-  sent : c .order .gateway .unsent ≡ false
-  free : c .order .gateway .stuck ≡ false
-
-alarming-sent : (b : Book) (i a : ℕ) (c : Change) → Sent b i c → Sent b i (alarming a c)
-unfolding alarming requestsAfter
-alarming-sent b i a c s = record { live = s .live; quiet = s .quiet; sent = s .sent; free = s .free }
-
 stuck-range : (n : ℕ) (o : Order) → hasGateway o ≡ true → o .gateway .unsent ≡ false → gatewayRange n (o .gateway) ≡ true → gatewayRange n (givenUp o) ≡ true
 unfolding gatewayRange givenUp hasGateway
 stuck-range n o g u e =
     let (e, r3) = both-true _ _ e in let (r1, r2) = both-true (not (o .gateway .unsent && o .gateway .stuck)) (leb (o .gateway .origdownstream) n) e in
     both (both (not-is (ap (λ (x : Bool). x && true) u)) r2) (or-left _ g)
-
--- what a refused request leaves: its change, to which a gateway cancel that waits may be added
-pub record Refuses (b : Book) (i : ℕ) (c : Change) : Type 0 where
-  pub kept : Kept b i c
-  pub idle : c .order .gateway .unsent ≡ true → eqb (c .requests .added) 0 ≡ true
-
-alarming-refuses : (b : Book) (i a : ℕ) (c : Change) → Refuses b i c → Refuses b i (alarming a c)
-alarming-refuses b i a c r = record { kept = alarming-kept b i a c (r .kept); idle = unfold alarming in r .idle }
-
-telling-refuses : (b : Book) (i : ℕ) (m : Message) (c : Change) → Refuses b i c → Refuses b i (telling m c)
-telling-refuses b i m c r = record { kept = telling-kept b i m c (r .kept); idle = unfold telling in r .idle }
-
-module _ (b : Book) (i : ℕ) (f : Findings) (o : Order) (here : Here b i f o) (c : Change) (k : Kept b i c) where
-  stuck-refuses : hasGateway (c .order) ≡ true → Sent b i c → Refuses b i (stuck c)
-  unfolding stuck alarming requestsAfter
-  stuck-refuses g s = record {
-    kept = record {
-      place = k .place;
-      name = k .name;
-      client = k .client;
-      answers = k .answers;
-      supersedes = k .supersedes;
-      added = λ e. let a = k .added e in record { order = a .order; range = a .range; number = a .number; fresh = a .fresh };
-      rule = gateway-kept i (c .order) _ (k .rule) (givenUp (c .order)) (s .live) (s .quiet)
-          (stuck-range _ (c .order) g (s .sent) (k .rule .gateway)) (unfold givenUp in three-tries (givenUp (c .order)) (s .sent) (tries-at (c .order .gateway) (k .rule .tries)));
-    };
-    idle = λ e. unfold givenUp in clash (c .order .gateway .unsent) e (s .sent);
-  }
-
-  sent-refuses : Sends b i c → Refuses b i (sendGatewayCancel f c)
-  sent-refuses s = record { kept = send-kept b i f o here c s; idle = λ e. unfold sendGatewayCancel telling adding trySent in clash false e refl }
-
-  retry-refuses : eqb (c .requests .added) 0 ≡ true → hasGateway (c .order) ≡ true → Sent b i c → Refuses b i (retryGatewayCancel f c)
-  unfolding retryGatewayCancel
-  retry-refuses idle g s =
-      split-if (Refuses b i) _ (λ e. stuck-refuses g s)
-      (λ e. let few : c .order .gateway .tries < 3 = leb-false 3 (c .order .gateway .tries) e in
-      sent-refuses (record { kept = k; idle = idle; live = s .live; quiet = s .quiet; few = omega arith; free = s .free }))
-
-  cancel-refused : (n : Note) → eqb (c .requests .added) 0 ≡ true → (hasGateway (c .order) ≡ true → Sent b i c) → Refuses b i (gatewayCancelRefused f n c)
-  unfolding gatewayCancelRefused
-  cancel-refused n idle s =
-      split-if (Refuses b i) _ (λ e. record { kept = k; idle = λ u. idle })
-      (λ e. let g : hasGateway (c .order) ≡ true = not-false (hasGateway (c .order)) e in
-      split-if (Refuses b i) _ (λ e. stuck-refuses g (s g)) (λ e. retry-refuses idle g (s g)))
-
-  -- the one that waits goes
-  pub resume-kept : (c .order .gateway .unsent ≡ true → eqb (c .requests .added) 0 ≡ true) → Kept b i (resumeGatewayCancel f c)
-  unfolding resumeGatewayCancel gatewayCancelWaiting
-  resume-kept idle =
-      split-if (Kept b i) _
-      (λ e. let (e, w) = both-true (hasGateway (c .order) && c .order .gateway .unsent) _ e in
-      let (g, u) = both-true (hasGateway (c .order)) (c .order .gateway .unsent) e in
-      let live : isDone (c .order .state .status) ≡ false = gateway-live (c .order) (k .rule .done) g in
-      send-kept b i f o here c
-      (record {
-        kept = k;
-        idle = idle u;
-        live = live;
-        quiet = quiet-unsent i (c .order) (requestsAfter (b .requests) c) live u (k .rule .flight);
-        few = tries-unsent (c .order .gateway) u (k .rule .tries);
-        free = not-stuck _ (c .order .gateway) u (k .rule .gateway);
-      }))
-      (λ e. k)
 
 -- ---- a request refused
 
@@ -463,86 +369,96 @@ module _ (b : Book) (i : ℕ) (f : Findings) (o : Order) (here : Here b i f o) (
       let same : at (b .requests) (o .pending .request - 1) ≡ q = ap (at (b .requests)) (omega arith) ∙ sym (asked .is) in
       clash (isReplace q) (both-true (isReplace q) (not (isAnswered q)) (subst (λ (x : Request). pendingTest x ≡ true) same t) .0) r
 
-  -- the same once the order has taken the refusal
-  sent-after : (p : Order) → After i (j + 1) o p (b .requests) → isGateway q ≡ true → isAnswered q ≡ false → hasGateway p ≡ true
-      → Sent b i (answering (j + 1) (unchanged (f .place) p))
-  unfolding answering unchanged requestsAfter answerLink if_then_else_
-  sent-after p a g un h =
-      let live : isDone (p .state .status) ≡ false = gateway-live p (a .kept .done) h in
-      let flight : InFlight (j + 1) o = asked-flight g un (a .live live) in
-      record {
+  -- what refuses the request is in range
+  module _ (e : Event) (ranged : Ranged e) where
+    from-coded : {r : Refused} → From (j + 1) q o e r → (eqb (r .status) 0 ≡ false → isStatus (r .status) ≡ true) × (textWithin 0 32 (r .venueorderid) ≡ true)
+    from-coded by-report = (split-if (λ (n : ℕ). eqb n 0 ≡ false → isStatus n ≡ true) _ (λ t h. clash true refl h) (λ t h. ranged .status h), ranged .venueorderid)
+    from-coded by-reject = (ranged .status, ranged .venueorderid)
+    from-coded (by-failure n) = (λ z. here .kept .coded, no-text)
+
+    after-refusal : {r : Refused} → From (j + 1) q o e r → After i (j + 1) o (refusedOrder (j + 1) r o) (b .requests)
+    after-refusal {r} w = let (s, t) = from-coded w in refused-after i o (b .requests) (here .kept) (j + 1) r s t
+
+    gone-kept : {r : Refused} {out : Output} → From (j + 1) q o e r → Kept b i (left (f .place) (refusedOrder (j + 1) r o) (j + 1) 0 out)
+    gone-kept w = let a = after-refusal w in answered-kept b i f o here (a .same) owns (a .free) (a .kept)
+
+    -- a gateway cancel that was sent, and is settled now
+    record Sent (p : Order) : Type 0 where
+      live : isDone (p .state .status) ≡ false
+      quiet : Quiet i (answerLink (j + 1) (b .requests))
+      sent : p .gateway .unsent ≡ false
+      free : p .gateway .stuck ≡ false
+
+    sent-after : {r : Refused} → From (j + 1) q o e r → Open (j + 1) q o e → isGateway q ≡ true → hasGateway (refusedOrder (j + 1) r o) ≡ true → Sent (refusedOrder (j + 1) r o)
+    sent-after {r} w u g h =
+        let p : Order = refusedOrder (j + 1) r o in
+        let a : After i (j + 1) o p (b .requests) = after-refusal w in
+        let live : isDone (p .state .status) ≡ false = gateway-live p (a .kept .done) h in
+        let flight : InFlight (j + 1) o = asked-flight g (u .unanswered) (a .live live) in
+        record {
+          live = live;
+          quiet = asked-quiet g (u .unanswered) (a .live live);
+          sent = ap (λ (x : GatewayCancel). x .unsent) (a .gateway h) ∙ flight .sent;
+          free = ap (λ (x : GatewayCancel). x .stuck) (a .gateway h) ∙ flight .free;
+        }
+
+    up-kept : {r : Refused} {out : Output} → From (j + 1) q o e r → Open (j + 1) q o e → isGateway q ≡ true → hasGateway (refusedOrder (j + 1) r o) ≡ true
+        → Kept b i (left (f .place) (withGateway (givenUp (refusedOrder (j + 1) r o)) (refusedOrder (j + 1) r o)) (j + 1) 0 out)
+    up-kept {r} w u g h =
+        let p : Order = refusedOrder (j + 1) r o in
+        let a : After i (j + 1) o p (b .requests) = after-refusal w in
+        let s : Sent p = sent-after w u g h in
+        let l : OrderKept i p (answerLink (j + 1) (b .requests)) = answer-kept i (j + 1) p (b .requests) (a .free) (a .kept) in
+        once-kept b i f o here (record { name = a .same .name; client = a .same .client }) owns
+        (gateway-kept i p _ l (givenUp p) (s .live) (s .quiet) (stuck-range _ p h (s .sent) (l .gateway)) (unfold givenUp in three-tries (givenUp p) (s .sent) (tries-at (p .gateway) (l .tries))))
+
+    refuses-kept : {y : Order} {k s : ℕ} {out : Output} → Refuses (j + 1) q o e y k s out → Kept b i (left (f .place) y k s out)
+    refuses-kept still = own-still b i f o here
+    refuses-kept (gone w u g) = gone-kept w
+    refuses-kept (given-up w u g h) = up-kept w u g h
+    refuses-kept (told w u g) = gone-kept w
+
+    retried-kept : {r : Refused} (out : Output) → From (j + 1) q o e r → Open (j + 1) q o e → isGateway q ≡ true → hasGateway (refusedOrder (j + 1) r o) ≡ true → refusedOrder (j + 1) r o .gateway .tries < 3
+        → Kept b i (sendGatewayCancel f (left (f .place) (refusedOrder (j + 1) r o) (j + 1) 0 out))
+    retried-kept {r} out w u g h few =
+        let s : Sent (refusedOrder (j + 1) r o) = sent-after w u g h in
+        send-kept b i f o here _
+        (record { kept = gone-kept w; idle = refl; live = s .live; quiet = unfold requestsAfter answerLink if_then_else_ in s .quiet; few = omega arith; free = s .free })
+
+  -- the one that waited goes
+  resumed-kept : {y : Order} {k s : ℕ} {out : Output} → Kept b i (left (f .place) y k s out) → hasGateway y ≡ true → y .gateway .unsent ≡ true → Kept b i (sendGatewayCancel f (left (f .place) y k s out))
+  resumed-kept {y} {k} {s} {out} l g u =
+      let live : isDone (y .state .status) ≡ false = gateway-live y (l .rule .done) g in
+      send-kept b i f o here _
+      (record {
+        kept = l;
+        idle = refl;
         live = live;
-        quiet = asked-quiet g un (a .live live);
-        sent = ap (λ (x : GatewayCancel). x .unsent) (a .gateway h) ∙ flight .sent;
-        free = ap (λ (x : GatewayCancel). x .stuck) (a .gateway h) ∙ flight .free;
-      }
-
-  pub still-refuses : Refuses b i (unchanged (f .place) o)
-  still-refuses = record { kept = still-kept b i f o here; idle = λ u. unfold unchanged in refl }
-
-  -- the order is left so, and the request answered
-  answered-refuses : (p : Order) → Same o p → (j + 1 ≡ p .pending .request → j + 1 ≡ 0) → OrderKept i p (b .requests) → Refuses b i (answering (j + 1) (unchanged (f .place) p))
-  answered-refuses p s free l = record {
-    kept = answering-kept b i f o here (j + 1) p s owns (answer-kept i (j + 1) p (b .requests) free l);
-    idle = λ u. unfold answering unchanged in refl;
-  }
-
-  pub refuse-refuses : (venue : ℕ) (r : Refused) → (eqb (r .status) 0 ≡ false → isStatus (r .status) ≡ true) → textWithin 0 32 (r .venueorderid) ≡ true
-      → Refuses b i (refuseRequest f (j + 1) q venue r o)
-  unfolding refuseRequest
-  refuse-refuses venue r s w =
-      let p : Order = refusedOrder (j + 1) r o in
-      let a : After i (j + 1) o p (b .requests) = refused-after i o (b .requests) (here .kept) (j + 1) r s w in
-      let c : Refuses b i (alarming (refusedAlarm r o) (answering (j + 1) (unchanged (f .place) p))) = alarming-refuses b i _ _ (answered-refuses p (a .same) (a .free) (a .kept)) in
-      split-if (Refuses b i) _ (λ e. still-refuses)
-      (λ e. split-if (Refuses b i) _ (λ e. still-refuses)
-      (λ e. split-if (Refuses b i) _ (λ e. still-refuses)
-      (λ unanswered. split-if (Refuses b i) _ (λ e. c)
-      (λ e. split-if (Refuses b i) _
-      (λ g. cancel-refused b i f o here _ (c .kept) (r .note) (unfold alarming answering unchanged in refl) (λ h. alarming-sent b i _ _ (sent-after p a g unanswered (unfold alarming answering unchanged in h))))
-      (λ g. telling-refuses b i _ _ c)))))
+        quiet = quiet-unsent i y (requestsAfter (b .requests) (left (f .place) y k s out)) live u (l .rule .flight);
+        few = tries-unsent (y .gateway) u (l .rule .tries);
+        free = not-stuck _ (y .gateway) u (l .rule .gateway);
+      })
 
   -- ---- a send that failed
 
-  failed-gateway : isGateway q ≡ true → isAnswered q ≡ false → hasGateway o ≡ true → Kept b i (answering (j + 1) (unchanged (f .place) (withGateway (sendRefused (o .gateway)) o)))
+  failed-gateway : {out : Output} → isGateway q ≡ true → isAnswered q ≡ false → hasGateway o ≡ true → Kept b i (left (f .place) (withGateway (sendRefused (o .gateway)) o) (j + 1) 0 out)
   failed-gateway g un h =
       let live : isDone (o .state .status) ≡ false = gateway-live o (here .kept .done) h in
       let flight : InFlight (j + 1) o = asked-flight g un live in
       let l : OrderKept i o (answerLink (j + 1) (b .requests)) = answer-kept i (j + 1) o (b .requests) (asked-free (gateway-not-replace q g)) (here .kept) in
       let few : o .gateway .tries ≤ 3 = tries-at (o .gateway) (here .kept .tries) in
-      answering-kept b i f o here (j + 1) (withGateway (sendRefused (o .gateway)) o) (record { name = refl; client = refl }) owns
+      once-kept b i f o here (record { name = refl; client = refl }) owns
       (gateway-kept i o _ l (sendRefused (o .gateway)) live (asked-quiet g un live)
       (refused-range _ (o .gateway) (unfold hasGateway in h) (flight .free) (l .gateway)) (unfold sendRefused in few-tries (sendRefused (o .gateway)) 2 (omega arith) (omega arith)))
 
-  first-failed : isFirst q ≡ true → eqb (o .state .status) pendingNew ≡ true → (n : Note) → Kept b i (firstFailed f (j + 1) n o)
-  unfolding firstFailed nextExec
-  first-failed first s n =
+  first-failed : {out : Output} → isFirst q ≡ true → eqb (o .state .status) pendingNew ≡ true → Kept b i (left (f .place) (nextExec (setStatus rejected o)) (j + 1) 0 out)
+  unfolding nextExec
+  first-failed first s =
       let live : isDone (o .state .status) ≡ false = subst (λ (x : ℕ). isDone x ≡ false) (sym (eqb-true (o .state .status) pendingNew s)) (unfold isDone in refl) in
       let same : After i (j + 1) o o (b .requests) =
       record { kept = here .kept; same = record { name = refl; client = refl }; live = λ d. d; gateway = λ g. refl; free = asked-free (first-not-replace q first) } in
       let a : After i (j + 1) o (setStatus rejected o) (b .requests) = set-after rejected i (j + 1) o o (b .requests) live (unfold isStatus statuses in refl) same in
-      telling-kept b i _ _
-      (answered-refuses (nextExec (setStatus rejected o)) (record { name = a .same .name; client = a .same .client }) (a .free) (sequence-kept i _ (b .requests) (a .kept)) .kept)
-
-  pub failed-kept : (venue : ℕ) (n : Note) → Kept b i (sendFailed f (j + 1) q venue n o)
-  unfolding sendFailed
-  failed-kept venue n =
-      split-if (Kept b i) _ (λ e. still-kept b i f o here)
-      (λ e. split-if (Kept b i) _ (λ e. still-kept b i f o here)
-      (λ un. split-if (Kept b i) _
-      (λ e. answered-refuses o (record { name = refl; client = refl }) (asked-free (gateway-not-replace q (both-true (isGateway q) _ e .0))) (here .kept) .kept)
-      (λ h. split-if (Kept b i) _
-      (λ g. failed-gateway g (and-else (isGateway q) (isAnswered q) g un) (not-false (hasGateway o) (and-else (isGateway q) _ g h)))
-      (λ g. split-if (Kept b i) _
-      (λ e. refuse-refuses venue (record { status = o .state .status; venueorderid = noText; note = n }) (λ z. here .kept .coded) no-text .kept)
-      (λ e. split-if (Kept b i) _ (λ e. still-kept b i f o here)
-      (λ t. first-failed (not-false (isFirst q) e) (not-false (eqb (o .state .status) pendingNew) (either-false (isAnswered q) _ t .1)) n))))))
-
-  pub unsent-kept : (venue : ℕ) → Kept b i (unsent f (j + 1) q venue o)
-  unfolding unsent
-  unsent-kept venue =
-      let told : (m : Message) → Kept b i (telling m (unchanged (f .place) o)) = λ m. telling-kept b i m _ (still-kept b i f o here) in
-      split-if (Kept b i) _ (λ e. told _) (λ e. split-if (Kept b i) _ (λ e. told _) (λ e. split-if (Kept b i) _ (λ e. told _) (λ e. failed-kept venue _)))
+      answered-kept b i f o here (record { name = a .same .name; client = a .same .client }) owns (a .free) (sequence-kept i _ (b .requests) (a .kept))
 
   -- ---- a report
 
@@ -552,28 +468,6 @@ module _ (b : Book) (i : ℕ) (f : Findings) (o : Order) (here : Here b i f o) (
     same : Same o p
     none : accepted ≡ true → (k : ℕ) → k ≡ p .pending .request → k ≡ 0
     left : accepted ≡ false → (k : ℕ) → (k ≡ o .pending .request → k ≡ 0) → k ≡ p .pending .request → k ≡ 0
-
-  settles-kept : (accepted : Bool) (s : ℕ) (p : Order) → Reported accepted p → Kept b i (settles accepted s (j + 1) q o (unchanged (f .place) p))
-  unfolding settles
-  settles-kept accepted s p r =
-      split-if (Kept b i) _
-      (λ e. superseded (answer-kept i (o .links .current) p _ (r .none e (o .links .current)) (answer-kept i (j + 1) p (b .requests) (r .none e (j + 1)) (r .kept))))
-      (λ e. split-if (Kept b i) _
-      (λ c. answering-kept b i f o here (j + 1) p (r .same) owns
-      (answer-kept i (j + 1) p (b .requests) (r .left e (j + 1) (asked-free (cancel-not-replace q (both-true (isCancel q) (eqb s canceled) c .0)))) (r .kept)))
-      (λ c. unchanged-kept b i f o here p (r .same) (r .kept)))
-    where
-      superseded : OrderKept i p (answerLink (o .links .current) (answerLink (j + 1) (b .requests))) → Kept b i (superseding (o .links .current) (answering (j + 1) (unchanged (f .place) p)))
-      superseded l = unfold superseding answering unchanged requestsAfter if_then_else_ in record {
-        place = here .place;
-        name = λ h. r .same .name ∙ ap (λ (x : Order). x .names .name) (here .is);
-        client = λ h. r .same .client ∙ ap (λ (x : Order). x .client) (here .is);
-        answers = owns;
-        supersedes = λ k e. let c = current-link i o (b .requests) (here .kept .current) in
-            subst (λ (n : ℕ). at (b .requests) n .order ≡ i) (omega arith) (c .own);
-        added = λ e. clash true refl e;
-        rule = l;
-      }
 
   sequence-reported : (accepted : Bool) (p : Order) → Reported accepted p → Reported accepted (nextExec p)
   unfolding nextExec
@@ -628,48 +522,38 @@ module _ (b : Book) (i : ℕ) (f : Findings) (o : Order) (here : Here b i f o) (
           left = λ a k h. set-free _ k _ h;
         }
 
-    applied-kept : isDone (o .state .status) ≡ false → max (e .exec .cumqty) (o .state .cumqty) ≤ orderedQty (accepts (j + 1) q o e) o → Kept b i (applyReport f (j + 1) q o e)
-    unfolding applyReport
-    applied-kept live fits =
-        let a : Bool = accepts (j + 1) q o e in
-        let s : ℕ = statusTaken (j + 1) q o e in
-        let r : Reported a (reportedOrder a s q o e) = reported-order a s refl refl live fits in
-        split-if (Kept b i) _ (λ t. settles-kept a s _ r)
-        (λ t. telling-kept b i _ _ (settles-kept a s _ (sequence-reported a _ r)))
+    settles-kept : {p : Order} {k s : ℕ} {out : Output} → Reported (accepts (j + 1) q o e) p → Settles (j + 1) q o e k s → Kept b i (left (f .place) p k s out)
+    settles-kept {p} r (replaced t) =
+        left-kept b i f o here (r .same) owns
+        (λ k z. let c = current-link i o (b .requests) (here .kept .current) in subst (λ (n : ℕ). at (b .requests) n .order ≡ i) (omega arith) (c .own))
+        (answer-kept i (o .links .current) p _ (r .none t (o .links .current)) (answer-kept i (j + 1) p (b .requests) (r .none t (j + 1)) (r .kept)))
+    settles-kept r (cancelled t u) = answered-kept b i f o here (r .same) owns (r .left t (j + 1) (asked-free (cancel-not-replace q u))) (r .kept)
+    settles-kept r (neither t) = still-kept b i f o here (r .same) (r .kept)
 
-    pub report-kept : Kept b i (venueReport f (j + 1) q o e)
-    unfolding venueReport droppedStale droppedRepeat
-    report-kept =
-        let still : Kept b i (unchanged (f .place) o) = still-kept b i f o here in
-        split-if (Kept b i) _
-        (λ t. let r = refuse-refuses (e .venue) _ (refused-status) (ranged .venueorderid) in resume-kept b i f o here _ (r .kept) (r .idle))
-        (λ t. split-if (Kept b i) _ (λ t. still)
-        (λ t. split-if (Kept b i) _ (λ t. split-if (Kept b i) _ (λ t. alarming-kept b i _ _ still) (λ t. still))
-        (λ stale. split-if (Kept b i) _
-        (λ t. named)
-        (λ t. split-if (Kept b i) _ (λ t. alarming-kept b i _ _ still)
-        (λ t. alarming-kept b i _ _ (applied-kept (not-stale stale) (ltb-false _ _ t)))))))
-      where
-        named : Kept b i (unchanged (f .place) (recordVenueOrderId (e .ids .venueorderid) false o))
-        named = unchanged-kept b i f o here (recordVenueOrderId (e .ids .venueorderid) false o) (unfold recordVenueOrderId in record { name = refl; client = refl })
-            (named-kept i o (b .requests) (here .kept) (e .ids .venueorderid) false (ranged .venueorderid))
+    applied : Applied (j + 1) q o e → Reported (accepts (j + 1) q o e) (reported (j + 1) q o e)
+    applied x = reported-order (accepts (j + 1) q o e) (statusTaken (j + 1) q o e) refl refl (x .live) (let l : o .state .cumqty ≤ e .exec .cumqty = x .up in let m : e .exec .cumqty ≤ orderedQty (accepts (j + 1) q o e) o = x .fits in omega arith)
 
-        refused-status : eqb (if eqb (e .exec .status) rejected then 0 else e .exec .status) 0 ≡ false → isStatus (if eqb (e .exec .status) rejected then 0 else e .exec .status) ≡ true
-        refused-status = split-if (λ (n : ℕ). eqb n 0 ≡ false → isStatus n ≡ true) _ (λ t h. clash true refl h) (λ t h. ranged .status h)
+    fails-kept : {y : Order} {k s : ℕ} {out : Output} → Fails (j + 1) q o e y k s out → Kept b i (left (f .place) y k s out)
+    fails-kept unfailed = own-still b i f o here
+    fails-kept (refused r g) = refuses-kept e ranged r
+    fails-kept (freed g h) = answered-kept b i f o here (record { name = refl; client = refl }) owns (asked-free (gateway-not-replace q g)) (here .kept)
+    fails-kept (fell t g u h) = failed-gateway g u h
+    fails-kept (ended w t g h) = first-failed t h
 
-        not-stale : stale (j + 1) q o e ≡ false → isDone (o .state .status) ≡ false
-        not-stale h = unfold stale in either-false (isDone (o .state .status)) (ltb (e .exec .cumqty) (o .state .cumqty))
-            (either-false (isDone (o .state .status) || ltb (e .exec .cumqty) (o .state .cumqty)) _ h .0) .0
-
-  pub unknown-kept : (e : Event) → Kept b i (unknownAtVenue f (j + 1) o e)
-  unfolding unknownAtVenue
-  unknown-kept e =
-      let still : Kept b i (unchanged (f .place) o) = still-kept b i f o here in
-      split-if (Kept b i) _ (λ t. still) (λ t. split-if (Kept b i) _ (λ t. still) (λ t. split-if (Kept b i) _ (λ t. still) (λ t. alarming-kept b i _ _ still)))
-
-  pub reject-kept : (e : Event) → Ranged e → Kept b i (venueCancelReject f (j + 1) q o e)
-  unfolding venueCancelReject
-  reject-kept e ranged = let r = refuse-refuses (e .venue) _ (ranged .status) (ranged .venueorderid) in resume-kept b i f o here _ (r .kept) (r .idle)
+    pub made-kept : {c c′ : Change} → MadeBy f (j + 1) q o e c c′ → Kept b i c
+    made-kept (stays (fails z l)) = fails-kept l
+    made-kept (stays (resends z new-again)) = own-still b i f o here
+    made-kept (stays (resends z (cancel-again t))) = own-still b i f o here
+    made-kept (stays (resends z (replace-again t))) = own-still b i f o here
+    made-kept (stays (resends z (failing t l))) = fails-kept l
+    made-kept (stays (alarms a l)) = own-still b i f o here
+    made-kept (stays names) =
+        still-kept b i f o here (unfold recordVenueOrderId in record { name = refl; client = refl }) (named-kept i o (b .requests) (here .kept) (e .ids .venueorderid) false (ranged .venueorderid))
+    made-kept (stays (applies a u s)) = settles-kept (applied a) s
+    made-kept (stays (informs a s)) = settles-kept (sequence-reported _ _ (applied a)) s
+    made-kept (refusing! z (quietly r)) = refuses-kept e ranged r
+    made-kept (refusing! z (retries w u g h t)) = retried-kept e ranged _ w u g h t
+    made-kept (resumes z r h t) = resumed-kept (refuses-kept e ranged r) h t
 
 -- ---- what is asked of the order itself
 
@@ -712,33 +596,21 @@ module _ (b : Book) (i : ℕ) (f : Findings) (o : Order) (here : Here b i f o) w
           here .latest ∙ if-false (eqb (o .links .cancel) 0) noRequest (at (b .requests) (o .links .cancel - 1)) some ∙ ap (at (b .requests)) (omega arith) in
           subst (λ (x : Request). settled x ≡ true) is (settled-or (isAnswered (f .cancel)) (isGateway (f .cancel)) (not-is some) idle)
 
-  begun-kept : isDone (o .state .status) ≡ false → Quiet i (b .requests) → Kept b i (unchanged (f .place) (withGateway (begun o) o))
-  unfolding begun
-  begun-kept live quiet =
-      unchanged-kept b i f o here (withGateway (begun o) o) (record { name = refl; client = refl })
-      (gateway-kept i o (b .requests) (here .kept) (begun o) live quiet (named-range i o (b .requests) (begun o) refl refl (here .kept)) (few-tries (begun o) 0 (omega arith) (omega arith)))
+  begun-kept : {out : Output} → isDone (o .state .status) ≡ false → gatewayCancelInFlight f o ≡ false → Kept b i (left (f .place) (withGateway (begun o) o) 0 0 out)
+  begun-kept live idle =
+      still-kept b i f o here (record { name = refl; client = refl })
+      (unfold begun in gateway-kept i o (b .requests) (here .kept) (begun o) live (quiet-idle live idle) (named-range i o (b .requests) (begun o) refl refl (here .kept)) (few-tries (begun o) 0 (omega arith) (omega arith)))
 
-  pub cancel-order : Kept b i (cancelOrder f o)
-  unfolding cancelOrder
-  cancel-order =
-      split-if (Kept b i) _ (λ t. still-kept b i f o here)
-      (λ live. split-if (Kept b i) _ (λ t. still-kept b i f o here)
-      (λ idle. let quiet : Quiet i (b .requests) = quiet-idle live idle in
-      let k : Kept b i (unchanged (f .place) (withGateway (begun o) o)) = begun-kept live quiet in
-      split-if (Kept b i) _ (λ t. k)
-      (λ t. sends live quiet k)))
-    where
-      sends : isDone (o .state .status) ≡ false → Quiet i (b .requests) → Kept b i (unchanged (f .place) (withGateway (begun o) o))
-          → Kept b i (sendGatewayCancel f (unchanged (f .place) (withGateway (begun o) o)))
-      sends live quiet k = send-kept b i f o here (unchanged (f .place) (withGateway (begun o) o))
-          (unfold unchanged begun requestsAfter answerLink if_then_else_ in record { kept = k; idle = refl; live = live; quiet = quiet; few = omega arith; free = refl })
+  pub asked-kept : {c c′ : Change} → AskedBy f o c c′ → Kept b i c
+  asked-kept (declined z) = own-still b i f o here
+  asked-kept (waits live idle) = begun-kept live idle
+  asked-kept (goes live idle) =
+      send-kept b i f o here _
+      (unfold begun requestsAfter answerLink if_then_else_ in
+      record { kept = begun-kept live idle; idle = refl; live = live; quiet = quiet-idle live idle; few = omega arith; free = refl })
 
-  pub status-kept : (e : Event) → Kept b i (statusReport f o e)
-  unfolding statusReport
-  status-kept e = telling-kept b i _ _ (unchanged-kept b i f o here (nextExec o) (unfold nextExec in record { name = refl; client = refl }) (sequence-kept i o (b .requests) (here .kept)))
-
-  pub told-kept : (m : Message) → Kept b i (telling m (unchanged (f .place) o))
-  told-kept m = telling-kept b i m _ (still-kept b i f o here)
+  pub status-kept : {out : Output} → Kept b i (left (f .place) (nextExec o) 0 0 out)
+  status-kept = still-kept b i f o here (unfold nextExec in record { name = refl; client = refl }) (sequence-kept i o (b .requests) (here .kept))
 
   -- the client's request, under a ClOrdID that it never used
   module _ (e : Event) (clordid : textWithin 1 32 (e .ids .clordid) ≡ true) (origclordid : textWithin 1 32 (e .ids .origclordid) ≡ true)
@@ -761,12 +633,11 @@ module _ (b : Book) (i : ℕ) (f : Findings) (o : Order) (here : Here b i f o) w
     pub cancel-goes : Quiet i (b .requests) → Kept b i (cancelGoes f o e)
     unfolding cancelGoes
     cancel-goes quiet =
-        telling-kept b i _ _
-        (adding-kept b i f o here (nextRequest f o cancelKind (e .ids .clordid) (e .ids .origclordid)) (numberedOrder f true o) same
+        goes-kept b i f o here (nextRequest f o cancelKind (e .ids .clordid) (e .ids .origclordid)) (numberedOrder f true o) _ same
         (client-added cancelKind (numberedOrder f true o) same refl (unfold isFirst nextRequest in refl) (unfold isGateway nextRequest in refl))
         (own-kept i (b .requests) (nextRequest f o cancelKind (e .ids .clordid) (e .ids .origclordid)) f true o (here .count) (here .few)
         (unfold nextRequest in let z : f .place ≡ i + 1 = here .place in omega arith) (λ t. unfold isCancel isFirst isReplace nextRequest in refl)
-        (quiet-flights i _ (b .requests) quiet) (settled-flight _ _ _ (unfold isGateway nextRequest in refl)) (here .kept)))
+        (quiet-flights i _ (b .requests) quiet) (settled-flight _ _ _ (unfold isGateway nextRequest in refl)) (here .kept))
       where
         same : Same o (numberedOrder f true o)
         same = unfold numberedOrder in record { name = refl; client = refl }
@@ -774,8 +645,7 @@ module _ (b : Book) (i : ℕ) (f : Findings) (o : Order) (here : Here b i f o) w
     pub replace-goes : Ranged e → pricedRight (orOwn (e .terms .ordtype) (o .terms .ordtype)) e ≡ true → Kept b i (replaceGoes f o e)
     unfolding replaceGoes
     replace-goes ranged priced =
-        telling-kept b i _ _
-        (adding-kept b i f o here x p same (client-added replaceKind p same refl (unfold isFirst nextRequest in refl) (unfold isGateway nextRequest in refl)) kept)
+        goes-kept b i f o here x p _ same (client-added replaceKind p same refl (unfold isFirst nextRequest in refl) (unfold isGateway nextRequest in refl)) kept
       where
         x : Request
         x = nextRequest f o replaceKind (e .ids .clordid) (e .ids .origclordid)

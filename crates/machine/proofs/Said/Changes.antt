@@ -1,18 +1,17 @@
--- The messages of each change are right: one law for a function of the handling. Rests on Orders and Reads.
+-- The messages of each change are right: one law for a function of the handling. Rests on Orders, Reads and Stepped.
 use Prim.Native.Nat.{ℕ, _+_, _-_, _^_, _≤_, _<_}
 use native.Mathlib.Omega.{arith}
 use native.Mathlib.Nat.{mod-lt}
 use mathlib.Core.Path.{_≡_, refl, sym, ap, subst, _∙_}
 use mathlib.Core.Logic.{⊎-elim}
 use mathlib.Core.Bool.{Bool, true, false, not, _&&_}
-use mathlib.Core.List.{[], _∷_}
 use lib.Dec.{eqb, leb, lit<}
-use borrow.Author.Tests.{eqb-true, eqb-false, eq-eqb, ne-eqb, leb-true, le-leb, lt-ltb, not-true, not-false}
+use borrow.Author.Tests.{eqb-true, eqb-false, ne-eqb, leb-true, le-leb, lt-ltb, not-true, not-false}
 use Rattle.prelude.specs.Cases.{if_then_else_, split-if, clash, both-true, both-false, either-true}
 use Rattle.prelude.specs.declared.Text.{Text}
 use Rattle.wide.specs.Words.{upper-word}
 use Rattle.wide.specs.Price.{price-fits, source-range}
-use Rattle.format.specs.Codes.{isStatus, statuses, isExectype, exectypes, isOrdtype, isName, within, isQty, isPrice, rejected, execStatus, execRejected}
+use Rattle.format.specs.Codes.{isStatus, statuses, isExectype, exectypes, isOrdtype, isName, within, isPrice, rejected, execStatus, execRejected}
 use Rattle.records.specs.Record.{isMessage}
 use Rattle.store.specs.declared.Pending.{Pending}
 use Rattle.store.specs.declared.Order.{Order}
@@ -20,18 +19,22 @@ use Rattle.store.specs.declared.Request.{Request}
 use Rattle.store.specs.Orders.{noOrder, noPending}
 use Rattle.text.specs.Words.{noText}
 use Rattle.machine.specs.Constants.{textRejected, other, venues}
-use Rattle.machine.specs.Orders.{isEmpty, setStatus, recordVenueOrderId, pendingTerms, nextExec, withPending, withGateway}
+use Rattle.machine.specs.Orders.{isEmpty, setStatus, recordVenueOrderId, pendingTerms, nextExec, withPending}
 use Rattle.machine.specs.Messages.{noPrice, noNote}
-use Rattle.machine.specs.Changes.{Event, Message, unchanged, refusing, answering, superseding, adding, telling, alarming, isFirst, isReplace, isGateway, isCancel, nextDownstream, numberedOrder}
-use Rattle.machine.specs.GatewayCancel.{begun, trySent, sendGatewayCancel, cancelOrder, resumeGatewayCancel, stuck, retryGatewayCancel, gatewayCancelRefused}
-use Rattle.machine.specs.Amend.{has, passes, refusal, amendRefusal, refuse, alreadyTaken, statusReport, cancelRefusal, cancelGoes, cancel, orOwn, verdictText, checkReplace, replaceRefusal, newTerms, pricedRight, newPending, replaceGoes, replace, notPending, refusedOrder, refusedAlarm, refusedNote, refuseRequest, venueNote, venueCancelReject, firstFailed, sendFailed, resendable, unsent}
-use Rattle.machine.specs.Report.{unknownAtVenue, isRejection, pendingHere, droppedStale, droppedRepeat, statusTaken, accepts, answersRequest, reportedOrder, fillPriceOf, reportNote, clientReport, settles, applyReport, venueReport}
+use Rattle.machine.specs.Changes.{Event, Message, unchanged, refusing, adding, telling, alarming, isFirst, isReplace, isGateway, isCancel, nextDownstream, numberedOrder}
+use Rattle.machine.specs.GatewayCancel.{begun, sendGatewayCancel}
+use Rattle.machine.specs.Amend.{has, passes, refusal, amendRefusal, cancelRefusal, cancelGoes, orOwn, verdictText, checkReplace, replaceRefusal, newTerms, pricedRight, newPending, replaceGoes, notPending, refusedOrder, refusedAlarm, refusedNote, venueNote}
+use Rattle.machine.specs.Report.{isRejection, pendingHere, statusTaken, accepts, answersRequest, reportedOrder, fillPriceOf, reportNote, clientReport}
 use Rattle.machine.specs.Events.{Ranged}
 use Rattle.machine.specs.Rules.{forceRange, pricedRange, termsRange}
 use Rattle.machine.specs.declared.Note.{Note}
 use Rattle.machine.specs.declared.Refusal.{Refusal}
 use Rattle.machine.specs.declared.Refused.{Refused}
+use Rattle.machine.specs.declared.Output.{Output}
 use Rattle.machine.specs.declared.Change.{Change}
+use Rattle.machine.proofs.Made.{calm, says, stuckBehind, left, Failure, told-us, not-sent, From, by-report, by-reject, by-failure, Refuses, still, gone, given-up, told, Fails, unfailed, refused, freed, fell, ended, new-again, cancel-again, replace-again, failing, Left, fails, resends, alarms, names, applies, informs, quietly, retries, stays, refusing!, resumes, declined, waits, goes, Own, of-cancel, of-replace, statusTold, refusalTold, repeated, turned, unpriced, cancel-sent, replace-sent}
+use Rattle.machine.proofs.Stepped.{MadeBy, AskedBy, AmendedBy}
+use Rattle.machine.proofs.Claim.Walk.{none-taken, none-refused}
 use Rattle.machine.proofs.Kept.Laws.{both, TextKept, text-kept, kept-text}
 use Rattle.machine.proofs.Kept.Local.{TermsKept, terms-kept, kept-terms}
 use Rattle.machine.proofs.Kept.Keep.{priced-range, freed-coded}
@@ -51,11 +54,6 @@ pub record Says (c : Change) : Type 0 where
   pub first : eqb (c .output .count) 0 ≡ false → isMessage (c .output .first) ≡ true
   pub second : eqb (c .output .count) 0 ≡ false → eqb (c .output .count) 1 ≡ false → isMessage (c .output .second) ≡ true
 
--- and the order that is left can be told
-pub record Speaks (c : Change) : Type 0 where
-  pub order : Tellable (c .order)
-  pub says : Says c
-
 pub unchanged-says : (place : ℕ) (o : Order) → Says (unchanged place o)
 unfolding unchanged
 unchanged-says place o = record { first = λ z. clash true refl z; second = λ z. clash true refl z }
@@ -72,14 +70,6 @@ pub adding-says : (q : Request) (c : Change) → Says c → Says (adding q c)
 unfolding adding
 adding-says q c s = record { first = s .first; second = s .second }
 
-answering-says : (k : ℕ) (c : Change) → Says c → Says (answering k c)
-unfolding answering
-answering-says k c s = record { first = s .first; second = s .second }
-
-superseding-says : (k : ℕ) (c : Change) → Says c → Says (superseding k c)
-unfolding superseding
-superseding-says k c s = record { first = s .first; second = s .second }
-
 telling-says : (m : Message) (c : Change) → isMessage m ≡ true → Says c → Says (telling m c)
 unfolding telling if_then_else_
 telling-says m c r s = record {
@@ -91,48 +81,32 @@ telling-says m c r s = record {
     behind true y = clash true refl y
     behind false y = r
 
-pub unchanged-speaks : (place : ℕ) (o : Order) → Tellable o → Speaks (unchanged place o)
-unfolding unchanged
-unchanged-speaks place o k = record { order = k; says = unchanged-says place o }
+-- what is put out: at most one message, and it is right
+record Heard (out : Output) : Type 0 where
+  few : out .count ≤ 1
+  first : eqb (out .count) 0 ≡ false → isMessage (out .first) ≡ true
 
-answering-speaks : (k : ℕ) (c : Change) → Speaks c → Speaks (answering k c)
-answering-speaks k c s = record { order = unfold answering in s .order; says = answering-says k c (s .says) }
+calm-heard : (a : ℕ) → Heard (calm a)
+calm-heard a = record { few = omega arith; first = λ z. clash true refl z }
 
-alarming-speaks : (a : ℕ) (c : Change) → Speaks c → Speaks (alarming a c)
-alarming-speaks a c s = record { order = unfold alarming in s .order; says = alarming-says a c (s .says) }
+behind-heard : (a : ℕ) → Heard (stuckBehind a)
+behind-heard a = record { few = omega arith; first = λ z. clash true refl z }
 
-telling-speaks : (m : Message) (c : Change) → isMessage m ≡ true → Speaks c → Speaks (telling m c)
-telling-speaks m c r s = record { order = unfold telling in s .order; says = telling-says m c r (s .says) }
+says-heard : {m : Message} {a : ℕ} → isMessage m ≡ true → Heard (says m a)
+says-heard r = record { few = omega arith; first = λ z. r }
 
--- ---- gateway cancels
+left-says : {p : ℕ} {y : Order} {j s : ℕ} {out : Output} → Heard out → Says (left p y j s out)
+left-says {out = out} h = record {
+  first = h .first;
+  second = λ z u. let l : out .count ≤ 1 = h .few in let a : (out .count ≡ 0 → ⊥) = eqb-false (out .count) 0 z in let b : (out .count ≡ 1 → ⊥) = eqb-false (out .count) 1 u in absurd (omega arith);
+}
 
-module _ (f : Findings) where
-  send-speaks : (c : Change) → Speaks c → Speaks (sendGatewayCancel f c)
-  unfolding sendGatewayCancel
-  send-speaks c s =
-      let o : Order = withGateway (trySent (c .order)) (numberedOrder f true (c .order)) in
-      let k : Tellable o = gateway-tellable _ _ (numbered-tellable f true (c .order) (s .order)) in
-      telling-speaks _ _ (cancel-right o k (nextDownstream (c .order)) (next-fine (c .order) (s .order)))
-      (record { order = unfold adding in k; says = adding-says _ _ (record { first = s .says .first; second = s .says .second }) })
-
-  pub resume-speaks : (c : Change) → Speaks c → Speaks (resumeGatewayCancel f c)
-  unfolding resumeGatewayCancel
-  resume-speaks c s = split-if Speaks _ (λ t. send-speaks c s) (λ t. s)
-
-  stuck-speaks : (c : Change) → Speaks c → Speaks (stuck c)
-  unfolding stuck
-  stuck-speaks c s = record { order = unfold alarming in gateway-tellable _ _ (s .order); says = alarming-says _ _ (record { first = s .says .first; second = s .says .second }) }
-
-  refused-speaks : (n : Note) (c : Change) → Speaks c → Speaks (gatewayCancelRefused f n c)
-  unfolding gatewayCancelRefused retryGatewayCancel
-  refused-speaks n c s =
-      split-if Speaks _ (λ t. s) (λ t. split-if Speaks _ (λ t. stuck-speaks c s) (λ t. split-if Speaks _ (λ t. stuck-speaks c s) (λ t. send-speaks c s)))
-
-  pub cancel-order-says : (o : Order) → Tellable o → Says (cancelOrder f o)
-  unfolding cancelOrder
-  cancel-order-says o k =
-      let begins : Speaks (unchanged (f .place) (withGateway (begun o) o)) = unchanged-speaks (f .place) _ (gateway-tellable (begun o) o k) in
-      split-if Says _ (λ t. unchanged-says _ o) (λ t. split-if Says _ (λ t. unchanged-says _ o) (λ t. split-if Says _ (λ t. begins .says) (λ t. send-speaks _ begins .says)))
+-- a gateway cancel goes out
+send-says : (f : Findings) (p : ℕ) (y : Order) (j s : ℕ) {out : Output} → Tellable y → Heard out → Says (sendGatewayCancel f (left p y j s out))
+unfolding sendGatewayCancel
+send-says f p y j s {out} t h =
+    telling-says _ _ (cancel-right _ (gateway-tellable _ _ (numbered-tellable f true y t)) (nextDownstream y) (next-fine y t))
+    (adding-says _ _ (left-says h))
 
 -- ---- notes
 
@@ -224,70 +198,6 @@ client-kind q h f g =
     let c : (q .kind ≡ 3 → ⊥) = eqb-false (q .kind) 3 g in
     both (le-leb 1 (q .kind) (omega arith)) (le-leb (q .kind) 2 (omega arith))
 
-module _ (f : Findings) (o : Order) (t : Tellable o) where
-  still-speaks : Speaks (unchanged (f .place) o)
-  still-speaks = unchanged-speaks (f .place) o t
-
-  module _ (k : ℕ) (q : Request) (a : Asks q) where
-    refuse-speaks : (venue : ℕ) (r : Refused) → (eqb (r .status) 0 ≡ false → isStatus (r .status) ≡ true) → Fine 0 32 (r .venueorderid) → Noted (r .note)
-        → Speaks (refuseRequest f k q venue r o)
-    unfolding refuseRequest
-    refuse-speaks venue r s v n =
-        let p : Tellable (refusedOrder k r o) = refused-tellable k r o s v t in
-        let c : Speaks (alarming (refusedAlarm r o) (answering k (unchanged (f .place) (refusedOrder k r o)))) = alarming-speaks _ _ (answering-speaks k _ (unchanged-speaks (f .place) (refusedOrder k r o) p)) in
-        let m : Answered (refusedNote (r .note)) = refused-note (r .note) n in
-        split-if Speaks _ (λ e. still-speaks)
-        (λ first. split-if Speaks _ (λ e. still-speaks)
-        (λ e. split-if Speaks _ (λ e. still-speaks)
-        (λ e. split-if Speaks _ (λ e. c)
-        (λ e. split-if Speaks _ (λ g. refused-speaks f (r .note) _ c)
-        (λ g. telling-speaks _ _
-        (reject-right (o .client) (o .names .name) (refusedOrder k r o .state .status) (q .clordid) (q .origclordid) (q .kind) (refusedNote (r .note))
-        (t .client) (named-text (o .names .name) (t .names .name)) (λ z. named-is (o .names .name) (t .names .name)) (p .state .status)
-        (a .clordid g) (a .origclordid first g) (client-kind q (a .kind) first g) (m .noted) (m .one) (m .reason))
-        c)))))
-
-    first-speaks : (n : Note) → Noted n → Speaks (firstFailed f k n o)
-    unfolding firstFailed
-    first-speaks n m =
-        let p : Tellable (nextExec (setStatus rejected o)) = sequence-tellable _ (status-tellable rejected o (unfold isStatus statuses in refl) t) in
-        telling-speaks _ _
-        (report-right (nextExec (setStatus rejected o)) _ noText execRejected 0 noPrice _ p (p .names .clordid) no-fine (unfold isExectype exectypes in refl) refl
-        (record { two = refl; low = omega arith; high = omega arith }) (omega arith)
-        (record { text = m .text; fixedtext = m .fixedtext; reason = omega arith; origin = omega arith; unsaid = λ z. absurd (omega arith); one = m .one }))
-        (answering-speaks k _ (unchanged-speaks (f .place) (nextExec (setStatus rejected o)) p))
-
-    pub failed-speaks : (venue : ℕ) (n : Note) → Noted n → Speaks (sendFailed f k q venue n o)
-    unfolding sendFailed
-    failed-speaks venue n m =
-        split-if Speaks _ (λ e. still-speaks)
-        (λ e. split-if Speaks _ (λ e. still-speaks)
-        (λ e. split-if Speaks _ (λ e. answering-speaks k _ still-speaks)
-        (λ e. split-if Speaks _ (λ e. answering-speaks k _ (unchanged-speaks (f .place) _ (gateway-tellable _ o t)))
-        (λ e. split-if Speaks _ (λ e. refuse-speaks venue _ (λ z. t .state .status) no-fine m)
-        (λ e. split-if Speaks _ (λ e. still-speaks) (λ e. first-speaks n m))))))
-
-    pub unsent-speaks : (venue : ℕ) → eqb k 0 ≡ false → Speaks (unsent f k q venue o)
-    unfolding unsent
-    unsent-speaks venue some =
-        split-if Speaks _ (λ e. telling-speaks _ _ (new-right o t (q .downstream) (a .downstream)) still-speaks)
-        (λ e. split-if Speaks _ (λ e. telling-speaks _ _ (cancel-right o t (q .downstream) (a .downstream)) still-speaks)
-        (λ e. split-if Speaks _
-        (λ e. telling-speaks _ _ (replace-right o t (q .downstream) (a .downstream) (pendingTerms o) (t .pending (here (both-true (resendable q venue o && isReplace q) (eqb (o .pending .request) k) e .1)))) still-speaks)
-        (λ e. failed-speaks venue _ (record { text = no-long-text; fixedtext = omega arith; reason = omega arith; origin = omega arith; unsaid = λ z. refl; one = refl }))))
-      where
-        here : eqb (o .pending .request) k ≡ true → eqb (o .pending .request) 0 ≡ false
-        here e = ap (λ (n : ℕ). eqb n 0) (eqb-true (o .pending .request) k e) ∙ some
-
-    pub reject-speaks : (e : Event) → Right e → Speaks (venueCancelReject f k q o e)
-    unfolding venueCancelReject
-    reject-speaks e h = resume-speaks f _ (refuse-speaks (e .venue) _ (right-ranged e h .status) (record { long = h .venueorderid .long; range = right-ranged e h .venueorderid }) (venue-noted e h))
-
-  pub unknown-says : (k : ℕ) (e : Event) → Says (unknownAtVenue f k o e)
-  unfolding unknownAtVenue
-  unknown-says k e =
-      split-if Says _ (λ z. unchanged-says _ o) (λ z. split-if Says _ (λ z. unchanged-says _ o) (λ z. split-if Says _ (λ z. unchanged-says _ o) (λ z. alarming-says _ _ (unchanged-says _ o))))
-
 -- ---- a report
 
 -- a range that begins lower
@@ -319,8 +229,8 @@ answers-client k q o e =
     apart : isReplace q ≡ true → isFirst q ≡ false
     apart z = unfold isReplace isFirst in ne-eqb (q .kind) 0 (λ y. let x : q .kind ≡ 2 = eqb-true (q .kind) 2 (unfold isReplace in z) in omega arith)
 
-module _ (f : Findings) (o : Order) (t : Tellable o) (k : ℕ) (q : Request) (a : Asks q) (some : eqb k 0 ≡ false) (mine : eqb (o .pending .request) k ≡ true → isReplace q ≡ true)
-    (e : Event) (h : Right e) (kind : e .kind ≡ 4) where
+module _ (o : Order) (t : Tellable o) (k : ℕ) (q : Request) (a : Asks q) (some : eqb k 0 ≡ false) (mine : eqb (o .pending .request) k ≡ true → isReplace q ≡ true)
+    (e : Event) (h : Right e) where
   given : Fine 0 32 (e .ids .venueorderid)
   given = record { long = h .venueorderid .long; range = right-ranged e h .venueorderid }
 
@@ -350,9 +260,9 @@ module _ (f : Findings) (o : Order) (t : Tellable o) (k : ℕ) (q : Request) (a 
       (le-leb (e .exec .cumqty) (10 ^ 12) (ranges e h .cumqty)) (right-ranged e h .avgpx) (t .state .execseq)
       (named-tellable (e .ids .venueorderid) false o given t)
 
-  client-right : (p : Order) → Tellable p → isMessage (clientReport (answersRequest k q o) (e .exec .cumqty - o .state .cumqty) q (fillPriceOf o e) p e) ≡ true
+  client-right : e .kind ≡ 4 → (p : Order) → Tellable p → isMessage (clientReport (answersRequest k q o) (e .exec .cumqty - o .state .cumqty) q (fillPriceOf o e) p e) ≡ true
   unfolding clientReport
-  client-right p s =
+  client-right kind p s =
       let most : e .exec .cumqty ≤ 1000000000000 = ranges e h .cumqty in
       report-right p _ _ _ (e .exec .cumqty - o .state .cumqty) (fillPriceOf o e) (reportNote e) s
       (split-if (Fine 1 32) _ (λ z. a .clordid (answers-client k q o z .1)) (λ z. s .names .clordid))
@@ -360,53 +270,98 @@ module _ (f : Findings) (o : Order) (t : Tellable o) (k : ℕ) (q : Request) (a 
       (split-if (λ (x : ℕ). isExectype x ≡ true) _ (λ z. unfold isExectype exectypes in refl) (λ z. right-exectype e h kind))
       (le-leb (e .exec .cumqty - o .state .cumqty) (10 ^ 12) (omega arith)) (price-words o e h) (price-source o e) (report-noted e h)
 
-  settles-says : (accepted : Bool) (s : ℕ) (c : Change) → Says c → Says (settles accepted s k q o c)
-  unfolding settles
-  settles-says accepted s c y = split-if Says _ (λ z. superseding-says _ _ (answering-says k c y)) (λ z. split-if Says _ (λ z. answering-says k c y) (λ z. y))
+  failure-noted : {n : Note} → Failure k q o e n → Noted n
+  failure-noted told-us = text-noted e h
+  failure-noted not-sent = record { text = no-long-text; fixedtext = omega arith; reason = omega arith; origin = omega arith; unsaid = λ z. refl; one = refl }
 
-  applied-says : Says (applyReport f k q o e)
-  unfolding applyReport
-  applied-says =
-      let accepted : Bool = accepts k q o e in
-      let s : ℕ = statusTaken k q o e in
-      let p : Order = reportedOrder accepted s q o e in
-      let told : Tellable p = reported-tellable accepted s refl refl in
-      split-if Says _ (λ z. settles-says accepted s _ (unchanged-says _ p))
-      (λ z. telling-says _ _ (client-right (nextExec p) (sequence-tellable p told)) (settles-says accepted s _ (unchanged-says _ (nextExec p))))
+  -- what refuses a request is right
+  record Refusable (r : Refused) : Type 0 where
+    status : eqb (r .status) 0 ≡ false → isStatus (r .status) ≡ true
+    named : Fine 0 32 (r .venueorderid)
+    noted : Noted (r .note)
 
-  pub report-says : Says (venueReport f k q o e)
-  unfolding venueReport droppedStale droppedRepeat
-  report-says =
-      let still : Says (unchanged (f .place) o) = unchanged-says (f .place) o in
-      split-if Says _ (λ z. resume-speaks f _ (refuse-speaks f o t k q a (e .venue) _ status given (text-noted e h)) .says)
-      (λ z. split-if Says _ (λ z. still)
-      (λ z. split-if Says _ (λ z. split-if Says _ (λ z. alarming-says _ _ still) (λ z. still))
-      (λ z. split-if Says _ (λ z. unchanged-says _ _) (λ z. split-if Says _ (λ z. alarming-says _ _ still) (λ z. alarming-says _ _ applied-says)))))
-    where
-      status : eqb (if eqb (e .exec .status) rejected then 0 else e .exec .status) 0 ≡ false → isStatus (if eqb (e .exec .status) rejected then 0 else e .exec .status) ≡ true
-      status = split-if (λ (n : ℕ). eqb n 0 ≡ false → isStatus n ≡ true) _ (λ z y. clash true refl y) (λ z. right-ranged e h .status)
+  refusable : {r : Refused} → From k q o e r → Refusable r
+  refusable by-report = record {
+    status = split-if (λ (n : ℕ). eqb n 0 ≡ false → isStatus n ≡ true) _ (λ z y. clash true refl y) (λ z. right-ranged e h .status);
+    named = given;
+    noted = text-noted e h;
+  }
+  refusable by-reject = record { status = right-ranged e h .status; named = given; noted = venue-noted e h }
+  refusable (by-failure n) = record { status = λ z. t .state .status; named = no-fine; noted = failure-noted n }
+
+  refused-told : {r : Refused} → From k q o e r → Tellable (refusedOrder k r o)
+  refused-told {r} w = let f = refusable w in refused-tellable k r o (f .status) (f .named) t
+
+  refuses-heard : {y : Order} {j s : ℕ} {out : Output} → Refuses k q o e y j s out → Tellable y × Heard out
+  refuses-heard still = (t, calm-heard 0)
+  refuses-heard (gone w u g) = (refused-told w, calm-heard _)
+  refuses-heard (given-up {r} w u g z) = (gateway-tellable _ _ (refused-told w), behind-heard (refusedAlarm r o))
+  refuses-heard (told {r} w u g) =
+      let p : Tellable (refusedOrder k r o) = refused-told w in
+      let m : Answered (refusedNote (r .note)) = refused-note (r .note) (refusable w .noted) in (
+        p,
+        says-heard (reject-right (o .client) (o .names .name) (refusedOrder k r o .state .status) (q .clordid) (q .origclordid) (q .kind) (refusedNote (r .note))
+            (t .client) (named-text (o .names .name) (t .names .name)) (λ z. named-is (o .names .name) (t .names .name)) (p .state .status)
+            (a .clordid g) (a .origclordid (u .later) g) (client-kind q (a .kind) (u .later) g) (m .noted) (m .one) (m .reason)),
+      )
+
+  fails-heard : {y : Order} {j s : ℕ} {out : Output} → Fails k q o e y j s out → Heard out
+  fails-heard unfailed = calm-heard 0
+  fails-heard (refused r g) = refuses-heard r .1
+  fails-heard (freed g z) = calm-heard 0
+  fails-heard (fell u g v z) = calm-heard 0
+  fails-heard (ended {n} w u g z) =
+      let m : Noted n = failure-noted w in
+      let p : Tellable (nextExec (setStatus rejected o)) = sequence-tellable _ (status-tellable rejected o (unfold isStatus statuses in refl) t) in
+      says-heard
+      (report-right (nextExec (setStatus rejected o)) _ noText execRejected 0 noPrice _ p (p .names .clordid) no-fine (unfold isExectype exectypes in refl) refl
+      (record { two = refl; low = omega arith; high = omega arith }) (omega arith)
+      (record { text = m .text; fixedtext = m .fixedtext; reason = omega arith; origin = omega arith; unsaid = λ z. absurd (omega arith); one = m .one }))
+
+  left-heard : {y : Order} {j s : ℕ} {out : Output} → Left k q o e y j s out → Heard out
+  left-heard (fails z l) = fails-heard l
+  left-heard (resends z new-again) = says-heard (new-right o t (q .downstream) (a .downstream))
+  left-heard (resends z (cancel-again u)) = says-heard (cancel-right o t (q .downstream) (a .downstream))
+  left-heard (resends z (replace-again u)) =
+      says-heard (replace-right o t (q .downstream) (a .downstream) (pendingTerms o) (t .pending (ap (λ (n : ℕ). eqb n 0) (eqb-true (o .pending .request) k u) ∙ some)))
+  left-heard (resends z (failing u l)) = fails-heard l
+  left-heard (alarms x l) = calm-heard x
+  left-heard names = calm-heard 0
+  left-heard (applies x u s) = calm-heard _
+  left-heard (informs x s) = says-heard (client-right (eqb-true (e .kind) 4 (x .kind)) _ (sequence-tellable _ (reported-tellable _ _ refl refl)))
+
+  pub made-says : {f : Findings} (c c′ : Change) → MadeBy f k q o e c c′ → Says c
+  made-says c c′ (stays l) = left-says (left-heard l)
+  made-says c c′ (refusing! z (quietly r)) = left-says (refuses-heard r .1)
+  made-says c c′ (refusing! z (retries w u g v x)) = send-says _ _ _ _ _ (refused-told w) (calm-heard _)
+  made-says c c′ (resumes z r v x) = send-says _ _ _ _ _ (refuses-heard r .0) (refuses-heard r .1)
+
+pub asked-says : {f : Findings} {o : Order} → Tellable o → (c c′ : Change) → AskedBy f o c c′ → Says c
+asked-says t c c′ (declined z) = left-says (calm-heard 0)
+asked-says t c c′ (waits d g) = left-says (calm-heard 0)
+asked-says {f} {o} t c c′ (goes d g) = send-says _ _ _ _ _ (gateway-tellable (begun o) o t) (calm-heard 0)
 
 -- ---- a client's cancel or replace
 
 -- a refusal of ours that is told
-record Refuses (r : Refusal) : Type 0 where
+record Turns (r : Refusal) : Type 0 where
   reason : r .reason < 2 ^ 32
   fixedtext : r .fixedtext ≤ 18
 
 -- one of known numbers, or else the next
-or-known : (t : Bool) (r : Refusal) {s : Refusal} → leb (r .reason) 99 && leb (r .fixedtext) 18 ≡ true → Refuses s → Refuses (if t then r else s)
+or-known : (t : Bool) (r : Refusal) {s : Refusal} → leb (r .reason) 99 && leb (r .fixedtext) 18 ≡ true → Turns s → Turns (if t then r else s)
 or-known t r e k =
     let (a, c) = both-true (leb (r .reason) 99) (leb (r .fixedtext) 18) e in
-    split-if Refuses t (λ z. record { reason = omega (arith, leb-true (r .reason) 99 a); fixedtext = leb-true (r .fixedtext) 18 c }) (λ z. k)
+    split-if Turns t (λ z. record { reason = omega (arith, leb-true (r .reason) 99 a); fixedtext = leb-true (r .fixedtext) 18 c }) (λ z. k)
 
-no-refusal : Refuses passes
+no-refusal : Turns passes
 no-refusal = record { reason = omega arith; fixedtext = omega arith }
 
-amend-refuses : (f : Findings) (order : ℕ) (full : Bool) (o : Order) (e : Event) (own : Refusal) → Refuses own → Refuses (amendRefusal f order full o e own)
+amend-refuses : (f : Findings) (order : ℕ) (full : Bool) (o : Order) (e : Event) (own : Refusal) → Turns own → Turns (amendRefusal f order full o e own)
 unfolding amendRefusal
 amend-refuses f order full o e own r = or-known _ _ refl (or-known _ _ refl (or-known _ _ refl (or-known _ _ refl (or-known _ _ refl r))))
 
-cancel-refuses : (f : Findings) (o : Order) → Refuses (cancelRefusal f o)
+cancel-refuses : (f : Findings) (o : Order) → Turns (cancelRefusal f o)
 unfolding cancelRefusal
 cancel-refuses f o = or-known _ _ refl no-refusal
 
@@ -415,32 +370,54 @@ verdict-text : (v : ℕ) → v ≤ 7 → verdictText v ≡ 11 + v
 unfolding verdictText if_then_else_
 verdict-text v h = rw (lt-ltb v 244 (omega arith))
 
-replace-refuses : (f : Findings) (o : Order) (e : Event) → e .verdict ≤ 7 → Refuses (replaceRefusal f o e)
+replace-refuses : (f : Findings) (o : Order) (e : Event) → e .verdict ≤ 7 → Turns (replaceRefusal f o e)
 unfolding replaceRefusal checkReplace
 replace-refuses f o e v =
-    let verdict : Refuses (refusal other (verdictText (e .verdict))) = record { reason = omega arith; fixedtext = rw (verdict-text (e .verdict) v) (omega arith) } in
+    let verdict : Turns (refusal other (verdictText (e .verdict))) = record { reason = omega arith; fixedtext = rw (verdict-text (e .verdict) v) (omega arith) } in
     or-known _ _ refl (or-known _ _ refl (or-known _ _ refl (or-known _ _ refl (or-known _ _ refl (or-known _ _ refl verdict)))))
 
-module _ (f : Findings) (o : Order) (e : Event) (h : Right e) (clordid : Fine 1 32 (e .ids .clordid)) (origclordid : Fine 1 32 (e .ids .origclordid)) where
-  -- of an order of the book, or of none
-  refuse-says : (responseto : ℕ) (r : Refusal) → within 1 2 responseto ≡ true → RightText (o .names .name) → (isEmpty (o .names .name) ≡ false → isName (o .names .name) ≡ true)
-      → isStatus (if eqb (f .place) 0 then rejected else o .state .status) ≡ true → Refuses r → not (eqb (r .fixedtext) 0) ≡ true → Says (refuse f responseto o e r)
-  unfolding refuse
-  refuse-says responseto r w name named status k some =
-      telling-says _ _
-      (reject-right (e .client) (o .names .name) _ (e .ids .clordid) (e .ids .origclordid) responseto _ (ranges e h .client) name named status clordid origclordid w
+-- the order is the book's, or there is none
+pub data Seen (place : ℕ) (o : Order) : Type 0 where
+  no-order-seen : place ≡ 0 → o ≡ noOrder → Seen place o
+  some-order : Tellable o → Seen place o
+
+module _ (f : Findings) (order : ℕ) (full : Bool) (o : Order) (e : Event) (h : Right e) (clordid : Fine 1 32 (e .ids .clordid)) (origclordid : Fine 1 32 (e .ids .origclordid)) where
+  own-refuses : {kind : ℕ} {own : Refusal} → Own order full o e (f .place) (f .cancel) (f .requests) (f .requests) kind own → (within 1 2 kind ≡ true) × Turns own
+  own-refuses of-cancel = (refl, cancel-refuses f o)
+  own-refuses of-replace = (refl, replace-refuses f o e (ranges e h .verdict))
+
+  -- what a refusal says of the order
+  record Named : Type 0 where
+    name : RightText (o .names .name)
+    named : isEmpty (o .names .name) ≡ false → isName (o .names .name) ≡ true
+    status : isStatus (if eqb (f .place) 0 then rejected else o .state .status) ≡ true
+
+  seen-named : Seen (f .place) o → Named
+  seen-named (some-order t) = record {
+    name = named-text (o .names .name) (t .names .name);
+    named = λ z. named-is (o .names .name) (t .names .name);
+    status = split-if (λ (s : ℕ). isStatus s ≡ true) _ (λ z. unfold isStatus statuses in refl) (λ z. t .state .status);
+  }
+  seen-named (no-order-seen p s) = record {
+    name = subst (λ (x : Order). RightText (x .names .name)) (sym s) no-right-text;
+    named = subst (λ (x : Order). isEmpty (x .names .name) ≡ false → isName (x .names .name) ≡ true) (sym s) (λ z. clash true refl z);
+    status = ap (λ (x : ℕ). isStatus (if eqb x 0 then rejected else o .state .status)) p ∙ (unfold isStatus statuses if_then_else_ in refl);
+  }
+
+  refuse-heard : {kind : ℕ} {own : Refusal} → Own order full o e (f .place) (f .cancel) (f .requests) (f .requests) kind own → Named
+      → not (eqb (amendRefusal f order full o e own .fixedtext) 0) ≡ true → isMessage (refusalTold (f .place) kind o e (amendRefusal f order full o e own)) ≡ true
+  refuse-heard {kind} {own} w n some =
+      let (x, y) = own-refuses w in
+      let k : Turns (amendRefusal f order full o e own) = amend-refuses f order full o e own y in
+      reject-right (e .client) (o .names .name) _ (e .ids .clordid) (e .ids .origclordid) kind _ (ranges e h .client) (n .name) (n .named) (n .status) clordid origclordid x
       (record { text = no-long-text; fixedtext = k .fixedtext; reason = k .reason; origin = omega arith; unsaid = λ z. absurd (omega arith); one = refl })
-      (sym (ap not some)) refl)
-      (unchanged-says _ o)
+      (sym (ap not some)) refl
 
   module _ (t : Tellable o) where
-    status-says : Says (statusReport f o e)
-    unfolding statusReport
-    status-says =
-        telling-says _ _
-        (report-right (nextExec o) (e .ids .clordid) (e .ids .origclordid) execStatus 0 noPrice noNote (sequence-tellable o t) clordid (wider _ origclordid)
-        (unfold isExectype exectypes in refl) refl (record { two = refl; low = omega arith; high = omega arith }) (omega arith) no-noted)
-        (unchanged-says _ (nextExec o))
+    status-heard : isMessage (statusTold o e) ≡ true
+    status-heard =
+        report-right (nextExec o) (e .ids .clordid) (e .ids .origclordid) execStatus 0 noPrice noNote (sequence-tellable o t) clordid (wider _ origclordid)
+        (unfold isExectype exectypes in refl) refl (record { two = refl; low = omega arith; high = omega arith }) (omega arith) no-noted
 
     cancel-goes : Says (cancelGoes f o e)
     unfolding cancelGoes
@@ -474,57 +451,15 @@ module _ (f : Findings) (o : Order) (e : Event) (h : Right e) (clordid : Fine 1 
         p : Tellable (withPending (newPending f (newTerms o e)) (numberedOrder f false o))
         p = pending-tellable (newPending f (newTerms o e)) (numberedOrder f false o) (λ z. unfold newPending pendingTerms numberedOrder newTerms in terms) (numbered-tellable f false o t)
 
-  -- told again, refused, or on to what goes out
-  amended-says : (order : ℕ) (full : Bool) (n : ℕ) (own : Refusal) (goes : Change) → within 1 2 n ≡ true → Refuses own
-      → RightText (o .names .name) → (isEmpty (o .names .name) ≡ false → isName (o .names .name) ≡ true) → isStatus (if eqb (f .place) 0 then rejected else o .state .status) ≡ true
-      → (alreadyTaken f order e ≡ true → Says (statusReport f o e)) → (not (eqb (amendRefusal f order full o e own .fixedtext) 0) ≡ false → Says goes)
-      → Says (let r = amendRefusal f order full o e own in if alreadyTaken f order e then statusReport f o e else if not (eqb (r .fixedtext) 0) then refuse f n o e r else goes)
-  amended-says order full n own goes w k name named status taken passed =
-      split-if Says _ taken (λ z. split-if Says _ (λ y. refuse-says n _ w name named status (amend-refuses f order full o e own k) y) passed)
-
-  -- of an order
-  module _ (t : Tellable o) where
-    some-says : (order : ℕ) (full : Bool) (n : ℕ) (own : Refusal) (goes : Change) → within 1 2 n ≡ true → Refuses own → Says goes
-        → Says (let r = amendRefusal f order full o e own in if alreadyTaken f order e then statusReport f o e else if not (eqb (r .fixedtext) 0) then refuse f n o e r else goes)
-    some-says order full n own goes w k g =
-        amended-says order full n own goes w k (named-text (o .names .name) (t .names .name)) (λ z. named-is (o .names .name) (t .names .name))
-        (split-if (λ (s : ℕ). isStatus s ≡ true) _ (λ z. unfold isStatus statuses in refl) (λ z. t .state .status)) (λ z. status-says t) (λ z. g)
-
-    pub cancel-says : (order : ℕ) (full : Bool) → Says (cancel f order full o e)
-    unfolding cancel
-    cancel-says order full = some-says order full _ _ _ refl (cancel-refuses f o) (cancel-goes t)
-
-    pub replace-says : (order : ℕ) (full : Bool) → Says (replace f order full o e)
-    unfolding replace
-    replace-says order full = some-says order full _ _ _ refl (replace-refuses f o e (ranges e h .verdict))
-        (split-if Says _ (λ z. refusing-says 6) (λ z. replace-goes t (not-false _ z)))
-
--- of none: it is refused
-module _ (f : Findings) (none : f .place ≡ 0) (e : Event) (h : Right e) (clordid : Fine 1 32 (e .ids .clordid)) (origclordid : Fine 1 32 (e .ids .origclordid)) where
-  none-says : (order : ℕ) (full : Bool) (n : ℕ) (own : Refusal) (goes : Change) → within 1 2 n ≡ true → Refuses own
-      → Says (let r = amendRefusal f order full noOrder e own in if alreadyTaken f order e then statusReport f noOrder e else if not (eqb (r .fixedtext) 0) then refuse f n noOrder e r else goes)
-  none-says order full n own goes w k =
-      amended-says f noOrder e h clordid origclordid order full n own goes w k no-right-text (λ z. clash true refl z)
-      (ap (λ (x : ℕ). isStatus (if eqb x 0 then rejected else 0)) none ∙ (unfold isStatus statuses if_then_else_ in refl))
-      (λ z. clash _ z taken) (λ z. clash _ refused z)
-    where
-      apart : (x y : Bool) → x && not y && y ≡ false
-      apart true true = refl
-      apart true false = refl
-      apart false y = refl
-
-      taken : alreadyTaken f order e ≡ false
-      taken = unfold alreadyTaken in ap (λ (x : ℕ). has e 21 && not (eqb order 0) && eqb order x) none ∙ apart (has e 21) (eqb order 0)
-
-      refused : not (eqb (amendRefusal f order full noOrder e own .fixedtext) 0) ≡ true
-      refused = unfold amendRefusal in
-          split-if (λ (r : Refusal). not (eqb (r .fixedtext) 0) ≡ true) _ (λ z. refl)
-          (λ z. split-if (λ (r : Refusal). not (eqb (r .fixedtext) 0) ≡ true) _ (λ y. refl) (λ y. clash _ (eq-eqb (f .place) 0 none) y))
-
-  pub cancel-none : (order : ℕ) (full : Bool) → Says (cancel f order full noOrder e)
-  unfolding cancel
-  cancel-none order full = none-says order full _ _ _ refl (cancel-refuses f noOrder)
-
-  pub replace-none : (order : ℕ) (full : Bool) → Says (replace f order full noOrder e)
-  unfolding replace
-  replace-none order full = none-says order full _ _ _ refl (replace-refuses f noOrder e (ranges e h .verdict))
+  -- nothing goes out where there is no order
+  pub amended-says : Seen (f .place) o → (c c′ : Change) → AmendedBy f order full o e c c′ → Says c
+  amended-says (some-order t) c c′ (repeated z) = left-says (says-heard (status-heard t))
+  amended-says (no-order-seen p s) c c′ (repeated z) = clash _ z (none-taken f order e p)
+  amended-says (some-order t) c c′ (turned w z) = left-says (says-heard (refuse-heard w (seen-named (some-order t)) z))
+  amended-says (no-order-seen p s) c c′ (turned w z) = left-says (says-heard (refuse-heard w (seen-named (no-order-seen p s)) z))
+  amended-says (some-order t) c c′ (unpriced z) = refusing-says 6
+  amended-says (no-order-seen p s) c c′ (unpriced z) = refusing-says 6
+  amended-says (some-order t) c c′ (cancel-sent y z) = cancel-goes t
+  amended-says (no-order-seen p s) c c′ (cancel-sent y z) = clash _ (not-false _ z) (none-refused f order full o e _ p)
+  amended-says (some-order t) c c′ (replace-sent z y) = replace-goes t y
+  amended-says (no-order-seen p s) c c′ (replace-sent z y) = clash _ (not-false _ z) (none-refused f order full o e _ p)

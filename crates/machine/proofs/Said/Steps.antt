@@ -1,45 +1,42 @@
 -- Every message that an event puts out on a book that keeps its rules is right. Rests on Changes.
 use Prim.Native.Nat.{ℕ, _+_, _-_, _≤_, _<_}
 use native.Mathlib.Omega.{arith}
-use mathlib.Core.Path.{_≡_, refl, sym, subst}
-use mathlib.Core.Logic.{inl, inr}
-use mathlib.Core.Bool.{Bool, true, false}
+use mathlib.Core.Path.{_≡_, refl, subst}
+use mathlib.Core.Bool.{true, false}
 use mathlib.Core.Option.{some}
 use mathlib.Core.List.{List}
-use lib.Dec.{eqb, leb}
+use lib.Dec.{eqb}
 use lib.ListN.{length}
 use Rattle.prelude.specs.Span.{splice}
 use borrow.Author.Tests.{eqb-true, ne-eqb}
 use Rattle.prelude.specs.Below.{first-some}
-use Rattle.prelude.specs.Cases.{if_then_else_, split-if, split-maybe, both-true}
+use Rattle.prelude.specs.Cases.{if_then_else_, split-if, both-true}
 use Rattle.records.specs.Record.{isMessage}
 use Rattle.records.specs.Answer.{answerBytes, answerAlarm, answerAlarm2, chosen, areMessages}
 use Rattle.store.specs.declared.Order.{Order}
-use Rattle.store.specs.declared.Request.{Request}
 use Rattle.store.specs.Book.{Book, orderIn, requestIn}
 use Rattle.store.specs.Orders.{noOrder}
 use Rattle.machine.specs.Changes.{Event, Message, isReplace}
-use Rattle.store.specs.Finds.{findClordid, countClordids}
-use Rattle.machine.specs.Machine.{orderOf, orderAtLink, bookOrder, Amending, amending, onRequest, nothing, unknownReport, onReport, onName, changeOf, stepOf, findingsOf}
-use Rattle.machine.specs.Amend.{cancel, replace}
+use Rattle.store.specs.Finds.{findClordid}
+use Rattle.machine.specs.Machine.{stepOf, findingsOf}
 use Rattle.machine.specs.Rules.{pendingTest}
-use Rattle.machine.specs.Events.{Amendment, Ranged}
+use Rattle.machine.specs.Events.{Amendment}
 use Rattle.machine.specs.Whole.{WholeBook}
 use Rattle.machine.specs.History.{messagesOf}
 use Rattle.machine.specs.Said.{MessagesRight, MessagesFew, AnswerRead}
 use Rattle.machine.specs.declared.Change.{Change}
 use Rattle.machine.proofs.Kept.Laws.{both}
-use Rattle.machine.proofs.Kept.Tables.{at, at-link}
+use Rattle.machine.proofs.Kept.Tables.{at}
 use Rattle.machine.proofs.Kept.Local.{pending-parts}
 use Rattle.machine.proofs.Kept.Lift.{BookKept, book-kept}
+use Rattle.machine.proofs.Stepped.{step-made}
 use Rattle.machine.proofs.Claim.Walk.{found-request, found-order}
 use Rattle.machine.proofs.Said.Reads.{event-right-facts, right-ranged}
 use Rattle.machine.proofs.Said.Rows.{Fine}
 use Rattle.machine.proofs.Said.Messages.{Tellable}
-use Rattle.machine.proofs.Said.Orders.{Asks, request-asks, order-tellable}
+use Rattle.machine.proofs.Said.Orders.{request-asks, order-tellable}
 use Rattle.machine.proofs.Said.Alarms.{step-alarmed}
-use Rattle.machine.proofs.Said.Changes.{Says, unchanged-says, refusing-says, alarming-says, adding-says, text-noted, cancel-order-says, failed-speaks, unsent-speaks, reject-speaks, unknown-says, report-says, cancel-says, replace-says, cancel-none, replace-none}
-use Rattle.machine.specs.declared.Findings.{Findings}
+use Rattle.machine.proofs.Said.Changes.{Says, unchanged-says, refusing-says, alarming-says, adding-says, no-order-seen, some-order, made-says, asked-says, amended-says}
 use Rattle.records.specs.Laws.Right.{Right}
 use Rattle.records.specs.Laws.Writing.{answer-most}
 use Rattle.records.specs.Laws.AnswerBack.{answer-messages, answer-accepted, answer-alarm, answer-alarm2}
@@ -79,58 +76,27 @@ module _ (b : Book) (e : Event) (good : BookKept b) (whole : WholeBook b) (h : R
       pending-parts i o (b .requests) (ne-eqb (o .pending .request) 0 (λ y. omega arith)) (good .order i (good .request j l .order)) .link .passes in
       both-true (isReplace (requestIn b j)) _ (subst (λ (n : ℕ). pendingTest (at (b .requests) n) ≡ true) (omega arith) t) .0
 
-  on-request : (unknown : Change) (handle : Findings → ℕ → Request → Order → Change) → Says unknown
-      → ((f : Findings) (k : ℕ) (q : Request) (o : Order) → Tellable o → Asks q → eqb k 0 ≡ false → (eqb (o .pending .request) k ≡ true → isReplace q ≡ true) → Says (handle f k q o))
-      → Says (onRequest unknown handle b e)
-  unfolding onRequest
-  on-request unknown handle u s =
-      split-maybe Says _ (λ z. u)
-      (λ j z. let l : j < length (b .requests) = found-request b (e .ids .downstream) j z in
-      s _ _ _ _ (tellable-at (requestIn b j .order) (good .request j l .order)) (request-asks b j good whole l) (ne-eqb (j + 1) 0 (λ y. omega arith)) (pending-replace j l))
-
-  on-clordid : (handle : Amending) → ((f : Findings) (order : ℕ) (full : Bool) → f .place ≡ 0 → Says (handle f order full noOrder e))
-      → ((f : Findings) (order : ℕ) (full : Bool) (o : Order) → Tellable o → Says (handle f order full o e)) → Says (amending handle b e)
-  unfolding amending orderOf
-  on-clordid handle absent there =
-      let order : ℕ = orderOf b (e .client) (e .ids .clordid) in
-      let full : Bool = leb (b .setting) (countClordids b (e .client)) in
-      split-maybe (λ (p : ℕ). Says (handle (findingsOf b p) order full (orderAtLink b p) e)) (findClordid b (e .client) (e .ids .origclordid))
-      (λ z. unfold orderAtLink findingsOf if_then_else_ in absent (findingsOf b 0) order full refl)
-      (λ j z.
-      let i : ℕ = requestIn b j .order in
-      subst (λ (o : Order). Says (handle (findingsOf b (i + 1)) order full o e)) (sym (at-link b i)) (there _ order full (orderIn b i) (tellable-at i (good .request j (found j z) .order))))
-    where
-      found : (j : ℕ) → findClordid b (e .client) (e .ids .origclordid) ≡ some j → j < length (b .requests)
-      found j z = unfold findClordid in first-some _ (length (b .requests)) j z .below
+  found-clordid : (j : ℕ) → findClordid b (e .client) (e .ids .origclordid) ≡ some j → j < length (b .requests)
+  unfolding findClordid
+  found-clordid j z = first-some _ (length (b .requests)) j z .below
 
   amends : Amendment e → (Fine 1 32 (e .ids .clordid)) × (Fine 1 32 (e .ids .origclordid))
   amends a = (record { long = h .clordid .long; range = a .clordid }, record { long = h .origclordid .long; range = a .origclordid })
 
-  change-says : Says (changeOf b e)
-  unfolding changeOf bookOrder onName onReport
-  change-says =
-      let still : Says nothing = unchanged-says 0 noOrder in
-      let unknown : Says unknownReport = alarming-says _ _ still in
-      let ranged : Ranged e = right-ranged e h in
-      split-if Says (eqb (e .kind) 1)
-      (λ t. split-if Says _ (λ t. refusing-says 5) (λ t. split-if Says _ (λ t. refusing-says 6) (λ t. adding-says _ _ (unchanged-says _ _))))
-      (λ t. split-if Says (eqb (e .kind) 2)
-      (λ t. let (c, d) = amends (ranged .amendment (inl (eqb-true (e .kind) 2 t))) in
-      on-clordid cancel (λ f order full z. cancel-none f z e h c d order full) (λ f order full o k. cancel-says f o e h c d k order full))
-      (λ t. split-if Says (eqb (e .kind) 3)
-      (λ t. let (c, d) = amends (ranged .amendment (inr (eqb-true (e .kind) 3 t))) in
-      on-clordid replace (λ f order full z. replace-none f z e h c d order full) (λ f order full o k. replace-says f o e h c d k order full))
-      (λ t. split-if Says (eqb (e .kind) 4)
-      (λ t. on-request _ _ unknown (λ f k q o p a n mine. split-if Says _ (λ z. unknown-says f o p k e) (λ z. report-says f o p k q a n mine e h (eqb-true (e .kind) 4 t))))
-      (λ t. split-if Says _ (λ t. on-request _ _ unknown (λ f k q o p a n mine. unknown-says f o p k e))
-      (λ t. split-if Says _ (λ t. on-request _ _ unknown (λ f k q o p a n mine. reject-speaks f o p k q a e h .says))
-      (λ t. split-if Says _ (λ t. on-request _ _ still (λ f k q o p a n mine. failed-speaks f o p k q a _ _ (text-noted e h) .says))
-      (λ t. split-if Says _ (λ t. on-request _ _ still (λ f k q o p a n mine. unsent-speaks f o p k q a _ n .says))
-      (λ t. split-maybe Says _ (λ z. still) (λ i z. cancel-order-says _ _ (tellable-at i (found-order b (e .ids .name) i z)))))))))))
-
   step-says : Says (stepOf b e)
-  unfolding stepOf
-  step-says = split-if Says _ (λ t. change-says) (λ t. split-if Says _ (λ t. change-says) (λ t. refusing-says 7))
+  step-says = step-made Says b e (record {
+    refuses = λ n z. refusing-says n;
+    no-order = λ z. unchanged-says 0 noOrder;
+    unknown = λ z. alarming-says _ _ (unchanged-says 0 noOrder);
+    books = λ t u v. adding-says _ _ (unchanged-says _ _);
+    amends-none = λ z order full. let (c, d) = amends (right-ranged e h .amendment z) in amended-says _ _ _ _ e h c d (unfold findingsOf in no-order-seen refl refl);
+    amends = λ z k y full. let (c, d) = amends (right-ranged e h .amendment z) in
+        amended-says _ _ _ _ e h c d (some-order (tellable-at (requestIn b k .order) (good .request k (found-clordid k y) .order)));
+    answers = λ y j z. let l : j < length (b .requests) = found-request b (e .ids .downstream) j z in
+        made-says (orderIn b (requestIn b j .order)) (tellable-at (requestIn b j .order) (good .request j l .order)) (j + 1) (requestIn b j) (request-asks b j good whole l)
+        (ne-eqb (j + 1) 0 (λ y. omega arith)) (pending-replace j l) e h;
+    asks = λ y i z. asked-says (tellable-at i (found-order b (e .ids .name) i z));
+  })
 
 pub messages-right : MessagesRight
 messages-right b e k whole ok = said (stepOf b e) (step-says b e (book-kept b k) whole (event-right-facts e ok))
