@@ -1,9 +1,13 @@
 //! Links the static libraries that `rt staticlib` writes: `gateway` for the feature `book`, `fix` for the feature `fix`. They
 //! stand in `target/staticlib` of the repository, or in the folder that `JUBAFIYE_LIB` names. Where one is missing, the build
 //! ends here with one message and never reaches the linker.
+//!
+//! What is linked is a copy in which each function begins with `jubafiye_` (`host/prefix`): the library's own names, `check` or
+//! `start`, could be another shared object's too.
 
 use std::env;
 use std::path::{Path, PathBuf};
+use std::process::Command;
 
 /// A library of the crate: the feature that wants it, and its name.
 const LIBRARIES: [(&str, &str); 2] = [("CARGO_FEATURE_BOOK", "gateway"), ("CARGO_FEATURE_FIX", "fix")];
@@ -14,10 +18,10 @@ fn main() {
         if env::var_os(feature).is_none() {
             continue;
         }
-        match folder(name) {
-            Ok(folder) => {
-                println!("cargo::rustc-link-search=native={}", folder.display());
-                println!("cargo::rustc-link-lib=static={name}");
+        match folder(name).and_then(|folder| prefixed(&folder, name)) {
+            Ok(copy) => {
+                println!("cargo::rustc-link-search=native={}", copy.display());
+                println!("cargo::rustc-link-lib=static=jubafiye_{name}");
             }
             Err(missing) => println!("cargo::error={missing}"),
         }
@@ -46,4 +50,21 @@ fn folder(name: &str) -> Result<PathBuf, String> {
          repository's root, which writes target/staticlib/lib{name}.a, or set JUBAFIYE_LIB to a folder that has one",
         folder.display()
     ))
+}
+
+/// The folder with the copy whose functions have a prefix, or why there is none.
+fn prefixed(folder: &Path, name: &str) -> Result<PathBuf, String> {
+    let script = Path::new(env!("CARGO_MANIFEST_DIR")).join("prefix");
+    println!("cargo::rerun-if-changed={}", script.display());
+    let copies = PathBuf::from(env::var_os("OUT_DIR").unwrap_or_default());
+    let (from, to) = (folder.join(format!("lib{name}.a")), copies.join(format!("libjubafiye_{name}.a")));
+    println!("cargo::rustc-env=JUBAFIYE_{}={}", name.to_uppercase(), to.display());
+    let run = Command::new(&script).arg(&from).arg(&to).output();
+    match run {
+        Ok(output) if output.status.success() => Ok(copies),
+        Ok(output) => {
+            Err(format!("{}: {}", script.display(), String::from_utf8_lossy(&output.stderr).trim()))
+        }
+        Err(error) => Err(format!("{}: {error}", script.display())),
+    }
 }

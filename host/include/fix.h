@@ -14,6 +14,15 @@
 extern "C" {
 #endif
 
+/* As in gateway.h: with JUBAFIYE_PREFIXED defined the functions are those of a copy that host/prefix made. */
+#ifndef JUBAFIYE_FUNCTION
+#ifdef JUBAFIYE_PREFIXED
+#define JUBAFIYE_FUNCTION(name) jubafiye_##name
+#else
+#define JUBAFIYE_FUNCTION(name) name
+#endif
+#endif
+
 /* A refusal, or 0 and the length of the message. With a refusal the length is 0. */
 typedef struct {
     uint32_t refusal;
@@ -23,7 +32,7 @@ typedef struct {
 /* Writes a message of an answer, a record of kind 16 to 20, to the front of out, of which the bytes behind the message stay
  * as they are. sender and target are the session's comp IDs, sequence its number, time the text of SendingTime(52) and
  * TransactTime(60). Refused, in this order, with JUBAFIYE_FIX_REFUSED_RECORD, _RANGE, _TEXT, _ROOM. */
-Written fix_write(const uint8_t *record, size_t record_len, const uint8_t *sender, size_t sender_len,
+Written JUBAFIYE_FUNCTION(fix_write)(const uint8_t *record, size_t record_len, const uint8_t *sender, size_t sender_len,
                   const uint8_t *target, size_t target_len, uint64_t sequence, const uint8_t *time, size_t time_len,
                   uint8_t *out, size_t out_len);
 
@@ -42,7 +51,7 @@ typedef struct {
 
 /* Reads a message as fix_write writes them. Refused with JUBAFIYE_FIX_REFUSED_RECORD exactly where the bytes are such that
  * no record and no header are written so. */
-FixFields fix_read(const uint8_t *message, size_t message_len);
+FixFields JUBAFIYE_FUNCTION(fix_read)(const uint8_t *message, size_t message_len);
 
 /* A refusal, or 0 and where a message stands in an answer, and its length. With a refusal both are 0. */
 typedef struct {
@@ -54,7 +63,7 @@ typedef struct {
 /* Where message number n of an answer stands, the first being 0: its record, as fix_write takes it. What is behind the
  * answer's length is not looked at, so that the whole answer buffer may be passed. Refused with JUBAFIYE_FIX_REFUSED_RECORD or
  * _RANGE where the bytes are no answer; where it has no such message the length is 0, without a refusal. */
-Place message_at(const uint8_t *answer, size_t answer_len, uint32_t n);
+Place JUBAFIYE_FUNCTION(message_at)(const uint8_t *answer, size_t answer_len, uint32_t n);
 
 /* What the functions return. */
 enum {

@@ -14,6 +14,17 @@
 extern "C" {
 #endif
 
+/* The functions have the library's own names. Such names may be another shared object's too, and the linker would hand it ours:
+ * host/prefix makes a copy of the library in which each begins with jubafiye_, and a program that links the copy defines
+ * JUBAFIYE_PREFIXED before it includes this file. */
+#ifndef JUBAFIYE_FUNCTION
+#ifdef JUBAFIYE_PREFIXED
+#define JUBAFIYE_FUNCTION(name) jubafiye_##name
+#else
+#define JUBAFIYE_FUNCTION(name) name
+#endif
+#endif
+
 #define JUBAFIYE_BOOK_BYTES 65536
 #define JUBAFIYE_ANSWER_BYTES 1024
 #define JUBAFIYE_PAGE_LINE 81
@@ -28,16 +39,16 @@ extern "C" {
 
 /* Makes an empty book. setting: the most ClOrdIDs that a client may use, the reserve included.
  * 0, or 1 where the book has another length. */
-uint32_t start(uint8_t *book, size_t book_len, uint32_t setting);
+uint32_t JUBAFIYE_FUNCTION(start)(uint8_t *book, size_t book_len, uint32_t setting);
 
 /* Takes one event record and writes the answer to the front of the answer buffer, of which the bytes behind the answer stay
  * as they are. 0, or the number of the first question that is answered with no, JUBAFIYE_REFUSED_BOOK to
  * JUBAFIYE_REFUSED_FULL. */
-uint32_t event(uint8_t *book, size_t book_len, const uint8_t *record, size_t record_len, uint8_t *answer,
+uint32_t JUBAFIYE_FUNCTION(event)(uint8_t *book, size_t book_len, const uint8_t *record, size_t record_len, uint8_t *answer,
                size_t answer_len);
 
 /* 0 where the book has its length and keeps its rules, else 1. */
-uint32_t check(const uint8_t *book, size_t book_len);
+uint32_t JUBAFIYE_FUNCTION(check)(const uint8_t *book, size_t book_len);
 
 /* A refusal, or 0 and the number that was asked for. With a refusal the number is 0. */
 typedef struct {
@@ -50,7 +61,7 @@ typedef struct {
  * filled with blanks, a byte below 32 as a blank; 37 has the status; 38 to 79 have ordered, cumulative and leaves quantity,
  * each right-aligned in 14 columns with four decimals; 80 is a blank. The number is the page's length. Refused with
  * JUBAFIYE_REFUSED_BOOK, then with JUBAFIYE_REFUSED_PAGE_BUFFER where out is shorter than 81 bytes for each order. */
-Counted page(const uint8_t *book, size_t book_len, uint8_t *out, size_t out_len);
+Counted JUBAFIYE_FUNCTION(page)(const uint8_t *book, size_t book_len, uint8_t *out, size_t out_len);
 
 /* A refusal, or 0 and a client's open quantity. With a refusal the quantity is 0. */
 typedef struct {
@@ -60,7 +71,7 @@ typedef struct {
 
 /* A client's open quantity, a count of 1/10,000: the sum of LeavesQty over its orders, 0 where it has none. Refused with
  * JUBAFIYE_REFUSED_BOOK alone. */
-Opened open_quantity(const uint8_t *book, size_t book_len, uint16_t client);
+Opened JUBAFIYE_FUNCTION(open_quantity)(const uint8_t *book, size_t book_len, uint16_t client);
 
 /* Writes the net position to the front of lines, of which the bytes behind them stay as they are: a line for each client and
  * symbol that has an order, by first booking. A line has the client (2 bytes), the symbol as its length (1) and 16 bytes filled
@@ -68,7 +79,7 @@ Opened open_quantity(const uint8_t *book, size_t book_len, uint16_t client);
  * count of 1/10,000 in two's complement. The number is that of the lines. What the scratch then holds is free. Refused with
  * JUBAFIYE_REFUSED_BOOK, then with JUBAFIYE_REFUSED_NET_BUFFERS where count is below JUBAFIYE_NET_SCRATCH or lines_len below
  * JUBAFIYE_NET_BYTES, whatever the book; neither scratch nor lines has then changed. */
-Counted net_position(const uint8_t *book, size_t book_len, uint64_t *scratch, size_t count, uint8_t *lines,
+Counted JUBAFIYE_FUNCTION(net_position)(const uint8_t *book, size_t book_len, uint64_t *scratch, size_t count, uint8_t *lines,
                      size_t lines_len);
 
 /* Sets a mark in a buffer of whole places of JUBAFIYE_PLACE_BYTES, a last part that is shorter not used: the name, filled with
@@ -76,13 +87,13 @@ Counted net_position(const uint8_t *book, size_t book_len, uint64_t *scratch, si
  * byte changes. A place whose name is no name belongs to nobody. Refused with JUBAFIYE_REFUSED_BOOK, then with
  * JUBAFIYE_REFUSED_MARK_NAME where the name is not 1 to 16 letters or digits, then with JUBAFIYE_REFUSED_NO_PLACE where no place
  * is of that name and none is free. */
-uint32_t set_mark(const uint8_t *book, size_t book_len, const uint8_t *name, size_t name_len, uint8_t *places,
+uint32_t JUBAFIYE_FUNCTION(set_mark)(const uint8_t *book, size_t book_len, const uint8_t *name, size_t name_len, uint8_t *places,
                   size_t places_len);
 
 /* Makes the book the image of a mark: the first place of that name whose image keeps the book's rules, byte for byte. The report
  * sequences are the image's again, so that ExecIDs that were sent before come again with other contents. Refused with
  * JUBAFIYE_REFUSED_BOOK, then with JUBAFIYE_REFUSED_MARK_NAME, then with JUBAFIYE_REFUSED_NO_MARK where there is no such place. */
-uint32_t return_to_mark(uint8_t *book, size_t book_len, const uint8_t *name, size_t name_len, const uint8_t *places,
+uint32_t JUBAFIYE_FUNCTION(return_to_mark)(uint8_t *book, size_t book_len, const uint8_t *name, size_t name_len, const uint8_t *places,
                         size_t places_len);
 
 /* A refusal, or 0 and what an event will need. With a refusal all else is 0. */
@@ -97,14 +108,14 @@ typedef struct {
 
 /* What the event in a record will need: the numbers of `event` on the same book and record with an answer buffer of
  * JUBAFIYE_ANSWER_BYTES. The refusal is the one that it would return, never JUBAFIYE_REFUSED_ANSWER_BUFFER. Nothing changes. */
-Needs needs(const uint8_t *book, size_t book_len, const uint8_t *record, size_t record_len);
+Needs JUBAFIYE_FUNCTION(needs)(const uint8_t *book, size_t book_len, const uint8_t *record, size_t record_len);
 
 /* Writes the chain of a client's ClOrdID to the front of list, of which the bytes behind it stay as they are: that name, the one
  * that its request's OrigClOrdID names, and so on back to the first. An entry has the name as its length (1 byte) and 32 bytes
  * filled with zeros, and what its request came to (1), a JUBAFIYE_OUTCOME. The number is that of the entries; it is 0 for a name
  * that the client never used, whatever its length. Refused with JUBAFIYE_REFUSED_BOOK, then with JUBAFIYE_REFUSED_CHAIN_LIST where
  * list cannot hold the whole chain. */
-Counted chain(const uint8_t *book, size_t book_len, uint16_t client, const uint8_t *name, size_t name_len, uint8_t *list,
+Counted JUBAFIYE_FUNCTION(chain)(const uint8_t *book, size_t book_len, uint16_t client, const uint8_t *name, size_t name_len, uint8_t *list,
               size_t list_len);
 
 /* What a request came to: open until it is settled, and from then on what that made it. */

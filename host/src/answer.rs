@@ -1,6 +1,8 @@
 //! What follows an event that was taken: the messages and the alarms of an answer (docs/SCOPE.md, Answers). Rests on message,
 //! list and error.
 
+use std::fmt;
+
 use crate::error::{BadAnswer, Fault};
 use crate::list::listed;
 use crate::message::Message;
@@ -29,7 +31,8 @@ impl std::error::Error for Alarm {}
 /// The head of an answer: its length in two bytes, the count of messages, and two alarms.
 const HEAD: usize = 5;
 
-/// What follows an event that was taken.
+/// What follows an event that was taken. Its messages are to be sent.
+#[must_use = "its messages are to be sent, and its alarms looked at"]
 #[derive(Debug, Clone, PartialEq, Eq, Default)]
 #[non_exhaustive]
 pub struct Answer {
@@ -73,6 +76,22 @@ impl Answer {
             answer.alarms.push(Alarm::from_number(alarm).ok_or(Fault::Alarm(alarm))?);
         }
         Ok(answer)
+    }
+}
+
+/// Lines for a person, one for each message and each alarm; of an answer without either one line that says so.
+///
+/// ```
+/// assert_eq!(jubafiye::Answer::read(&[5, 0, 0, 0, 0])?.to_string(), "nothing goes out\n");
+/// # Ok::<(), jubafiye::BadAnswer>(())
+/// ```
+impl fmt::Display for Answer {
+    fn fmt(&self, f: &mut fmt::Formatter<'_>) -> fmt::Result {
+        if self.messages.is_empty() && self.alarms.is_empty() {
+            return writeln!(f, "nothing goes out");
+        }
+        self.messages.iter().try_for_each(|message| writeln!(f, "{message}"))?;
+        self.alarms.iter().try_for_each(|alarm| writeln!(f, "alarm {}: {alarm}", alarm.number()))
     }
 }
 

@@ -1,24 +1,20 @@
 //! Which ClOrdID stands for which order: the chain of a client's ClOrdID back to the first; and the links of a book from before
-//! they were stored. Rests on entries, book and docs/LAYOUT.md.
+//! they were stored. Rests on entries, layout and book.
 
 use crate::book::Book;
 use crate::entries::{self, BookBytes, CHAIN_ENTRY, REQUESTS};
 use crate::error::Refusal;
+use crate::explain::origin;
+use crate::layout;
+use crate::layout::request::{ORIGIN, ORIG_CL_ORD_ID};
 use crate::list::listed;
+use crate::show::shown;
 
 /// The bytes of an entry of a chain.
 pub const CHAIN_ENTRY_BYTES: usize = CHAIN_ENTRY;
 
 /// The bytes that the chain of any ClOrdID has at most.
 pub const CHAIN_BYTES: usize = CHAIN_ENTRY * REQUESTS;
-
-/// Where the requests stand, and the fields of one (docs/LAYOUT.md).
-const REQUESTS_AT: usize = 16_640;
-const REQUEST: usize = 128;
-const ORDER: usize = 0;
-const CL_ORD_ID: usize = 4;
-const ORIG_CL_ORD_ID: usize = 37;
-const ORIGIN: usize = 104;
 
 listed! {
     /// What a request came to. It is open until the request is settled, and from then on stays what that made it.
@@ -39,7 +35,7 @@ listed! {
 }
 
 /// A ClOrdID of a chain, and what its request came to.
-#[derive(Debug, Clone, PartialEq, Eq, Hash)]
+#[derive(Clone, PartialEq, Eq, Hash)]
 #[non_exhaustive]
 pub struct ChainEntry {
     /// The ClOrdID, which may hold any byte.
@@ -47,6 +43,8 @@ pub struct ChainEntry {
     /// What its request came to.
     pub outcome: Outcome,
 }
+
+shown!(ChainEntry { cl_ord_id as text, outcome });
 
 impl ChainEntry {
     /// The entry at the front of some bytes; none where they are no entry.
@@ -124,38 +122,12 @@ impl Book {
 
 /// Writes the link of the request that each OrigClOrdID names, among those of its order that stand before it, and no other byte.
 pub(crate) fn write_origins(book: &mut BookBytes) {
-    let requests: Vec<Named> = (0..sent(book)).map_while(|index| named(book, index)).collect();
-    for (index, request) in requests.iter().enumerate().filter(|(_, request)| !request.orig.is_empty()) {
-        let own = |other: &Named| other.order == request.order && other.name == request.orig;
-        let Some(origin) = requests.iter().take(index).position(own) else { continue };
-        let at = index.saturating_mul(REQUEST).saturating_add(REQUESTS_AT).saturating_add(ORIGIN);
-        let link = u16::try_from(origin.saturating_add(1)).unwrap_or_default();
-        if let Some(word) = book.get_mut(at..).and_then(|rest| rest.first_chunk_mut()) {
-            *word = link.to_le_bytes();
+    for index in 0..layout::requests_in_use(book) {
+        if layout::request(book, index).text(ORIG_CL_ORD_ID).length == 0 {
+            continue;
         }
+        let Some(link) = origin(book, index) else { continue };
+        let at = layout::request(book, index).at(ORIGIN);
+        layout::write(book, at, ORIGIN, u64::from(link));
     }
-}
-
-/// A request's order, its ClOrdID and its OrigClOrdID.
-struct Named {
-    order: u16,
-    name: Vec<u8>,
-    orig: Vec<u8>,
-}
-
-/// How many requests are in use.
-fn sent(book: &BookBytes) -> usize {
-    let count = book.get(2..).and_then(|rest| rest.first_chunk());
-    usize::from(count.map_or(0, |count| u16::from_le_bytes(*count))).min(REQUESTS)
-}
-
-fn named(book: &BookBytes, index: usize) -> Option<Named> {
-    let request =
-        book.get(index.checked_mul(REQUEST)?.checked_add(REQUESTS_AT)?..)?.first_chunk::<REQUEST>()?;
-    let text = |at: usize| {
-        let (text, rest) = request.get(at..)?.split_first_chunk::<32>()?;
-        Some(text.get(..usize::from(*rest.first()?))?.to_vec())
-    };
-    let order = u16::from_le_bytes(*request.get(ORDER..)?.first_chunk()?);
-    Some(Named { order, name: text(CL_ORD_ID)?, orig: text(ORIG_CL_ORD_ID)? })
 }

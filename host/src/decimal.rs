@@ -1,7 +1,7 @@
 //! Quantities and prices: counts of a small unit, and the same as decimals (docs/SCOPE.md, The book). Rests on nothing.
 
 use std::fmt;
-use std::iter::repeat;
+use std::iter::{repeat, Sum};
 use std::str::FromStr;
 
 /// A quantity: a count of 1/10,000, at most [`Qty::MAX`] in an event.
@@ -14,6 +14,7 @@ use std::str::FromStr;
 /// let qty: Qty = "12.5".parse()?;
 /// assert_eq!(qty, Qty(125_000));
 /// assert_eq!(qty.to_string(), "12.5");
+/// assert_eq!("12.50000".parse(), Ok(qty));
 /// assert_eq!("0.00001".parse::<Qty>(), Err(DecimalError::TooManyDecimals { most: 4 }));
 /// assert_eq!("100000000.0001".parse::<Qty>(), Err(DecimalError::TooLarge { most: 100_000_000 }));
 /// # Ok::<(), DecimalError>(())
@@ -60,6 +61,51 @@ pub struct Price(
     pub u128,
 );
 
+/// Checked arithmetic on counts, and their sum.
+macro_rules! counted {
+    ($($name:ident: $count:ident, $one:literal)*) => {
+        $(
+            impl $name {
+                /// The sum of two, where the bits hold it.
+                ///
+                /// ```
+                #[doc = concat!("# use jubafiye::", stringify!($name), ";")]
+                #[doc = concat!("let one = ", stringify!($name), "(", stringify!($one), ");")]
+                #[doc = concat!("assert_eq!(one.checked_add(one), Some(", stringify!($name), "(2 * ", stringify!($one), ")));")]
+                #[doc = concat!("assert_eq!(", stringify!($name), "(", stringify!($count), "::MAX).checked_add(", stringify!($name), "(1)), None);")]
+                /// ```
+                pub const fn checked_add(self, other: Self) -> Option<Self> {
+                    match self.0.checked_add(other.0) {
+                        Some(count) => Some(Self(count)),
+                        None => None,
+                    }
+                }
+
+                /// The first less the second, where the bits hold it.
+                ///
+                /// ```
+                #[doc = concat!("# use jubafiye::", stringify!($name), ";")]
+                #[doc = concat!("assert_eq!(", stringify!($name), "(3).checked_sub(", stringify!($name), "(1)), Some(", stringify!($name), "(2)));")]
+                #[doc = concat!("assert_eq!(", stringify!($name), "(", stringify!($count), "::MIN).checked_sub(", stringify!($name), "(1)), None);")]
+                /// ```
+                pub const fn checked_sub(self, other: Self) -> Option<Self> {
+                    match self.0.checked_sub(other.0) {
+                        Some(count) => Some(Self(count)),
+                        None => None,
+                    }
+                }
+            }
+
+            /// The sum, or the largest that the bits hold where they do not hold it.
+            impl Sum for $name {
+                fn sum<I: Iterator<Item = Self>>(all: I) -> Self {
+                    all.fold(Self::default(), |sum, one| Self(sum.0.saturating_add(one.0)))
+                }
+            }
+        )*
+    };
+}
+
 /// Why a text is no quantity or no price.
 #[derive(Debug, Clone, Copy, PartialEq, Eq, Hash)]
 #[non_exhaustive]
@@ -73,7 +119,7 @@ pub enum DecimalError {
         /// The character.
         found: char,
     },
-    /// It has more decimals than the unit, be they zeros.
+    /// It has more decimals than the unit, zeros at its end aside.
     TooManyDecimals {
         /// The unit's: 4 for a quantity, 8 for a price.
         most: usize,
@@ -105,12 +151,43 @@ impl Qty {
     const DECIMALS: usize = 4;
 
     /// Whole units; as many as 64 bits hold, which the book refuses.
+    ///
+    /// ```
+    /// # use jubafiye::Qty;
+    /// assert_eq!(Qty::units(100).to_string(), "100");
+    /// ```
     pub const fn units(units: u64) -> Self {
         Self(units.saturating_mul(10_000))
     }
+
+    /// So many ten-thousandths of a unit.
+    ///
+    /// ```
+    /// # use jubafiye::Qty;
+    /// assert_eq!(Qty::ten_thousandths(100).to_string(), "0.01");
+    /// ```
+    pub const fn ten_thousandths(count: u64) -> Self {
+        Self(count)
+    }
+}
+
+counted! {
+    Qty: u64, 1
+    Net: i64, -1
+    Price: u128, 1
 }
 
 impl Price {
+    /// So many counts of 10^-8.
+    ///
+    /// ```
+    /// # use jubafiye::Price;
+    /// assert_eq!(Price::hundred_millionths(25_000_000).to_string(), "0.25");
+    /// ```
+    pub const fn hundred_millionths(count: u128) -> Self {
+        Self(count)
+    }
+
     /// The most that an event may bring: 10^14, or 1,000,000 whole units.
     pub const MAX: Self = Self(100_000_000_000_000);
 
@@ -183,7 +260,7 @@ fn read(text: &str, decimals: usize) -> Result<u128, DecimalError> {
     if whole.is_empty() && part.is_empty() {
         return Err(DecimalError::NoDigit);
     }
-    if part.len() > decimals {
+    if part.trim_end_matches('0').len() > decimals {
         return Err(DecimalError::TooManyDecimals { most: decimals });
     }
     let part = part.chars().chain(repeat('0')).take(decimals);
@@ -249,7 +326,7 @@ mod tests {
 
     #[test]
     fn read_exactly() {
-        for text in ["7.5", "007.5", "7.50", "7.5000"] {
+        for text in ["7.5", "007.5", "7.50", "7.5000", "7.50000", "7.500000000000"] {
             assert_eq!(text.parse(), Ok(Qty(75_000)), "{text}");
         }
         for (text, count) in
@@ -259,6 +336,15 @@ mod tests {
         }
         assert_eq!("1000000.00000000".parse(), Ok(Price::MAX));
         assert_eq!(format!("{}1", "0".repeat(400)).parse(), Ok(Price::units(1)));
+    }
+
+    #[test]
+    fn counts_are_added_and_taken_away() {
+        assert_eq!([Qty(1), Qty(2)].into_iter().sum::<Qty>(), Qty(3));
+        assert_eq!([Qty(u64::MAX), Qty(2)].into_iter().sum::<Qty>(), Qty(u64::MAX));
+        assert_eq!([Net(-1), Net(-2)].into_iter().sum::<Net>(), Net(-3));
+        assert_eq!((Qty(1).checked_sub(Qty(2)), Net(1).checked_sub(Net(2))), (None, Some(Net(-1))));
+        assert_eq!(Qty(100), Qty::ten_thousandths(100));
     }
 
     #[test]
@@ -280,7 +366,7 @@ mod tests {
         {
             assert_eq!(qty(text), Err(DecimalError::Unexpected { at, found }), "{text}");
         }
-        for text in ["1.00001", "1.00000", "0.12345678"] {
+        for text in ["1.00001", "1.000010", "0.12345678"] {
             assert_eq!(qty(text), Err(DecimalError::TooManyDecimals { most: 4 }), "{text}");
         }
         let long = "9".repeat(60);

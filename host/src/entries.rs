@@ -3,19 +3,11 @@
 //! A further call of the library is three things: its C function in `c`, a safe function under it, and a method of `Book`.
 
 use crate::error::Refusal;
+pub(crate) use crate::layout::{BookBytes, BOOK_BYTES, ORDERS, REQUESTS};
 use crate::needs::Needs;
-
-/// The bytes of a book.
-pub const BOOK_BYTES: usize = 65_536;
 
 /// The bytes that an answer buffer must have at least.
 pub const ANSWER_BYTES: usize = 1_024;
-
-/// The most orders of a book.
-pub(crate) const ORDERS: usize = 64;
-
-/// The most requests of a book.
-pub(crate) const REQUESTS: usize = 256;
 
 /// A line of the evening page, with its line feed.
 pub(crate) const PAGE_LINE: usize = 81;
@@ -33,9 +25,7 @@ pub(crate) const MARK_PLACE: usize = MARK_NAME + BOOK_BYTES;
 /// An entry of a chain: a ClOrdID as its length and 32 bytes, and an outcome.
 pub(crate) const CHAIN_ENTRY: usize = 34;
 
-/// A book's bytes: the type holds their number.
-pub(crate) type BookBytes = [u8; BOOK_BYTES];
-
+/// The library's functions, in the copy with a prefix that build.rs links.
 mod c {
     /// A refusal, or 0 and the number that was asked for.
     #[repr(C)]
@@ -63,7 +53,9 @@ mod c {
     }
 
     extern "C" {
+        #[link_name = "jubafiye_start"]
         pub fn start(book: *mut u8, book_len: usize, setting: u32) -> u32;
+        #[link_name = "jubafiye_event"]
         pub fn event(
             book: *mut u8,
             book_len: usize,
@@ -72,9 +64,13 @@ mod c {
             answer: *mut u8,
             answer_len: usize,
         ) -> u32;
+        #[link_name = "jubafiye_check"]
         pub fn check(book: *const u8, book_len: usize) -> u32;
+        #[link_name = "jubafiye_page"]
         pub fn page(book: *const u8, book_len: usize, out: *mut u8, out_len: usize) -> Counted;
+        #[link_name = "jubafiye_open_quantity"]
         pub fn open_quantity(book: *const u8, book_len: usize, client: u16) -> Opened;
+        #[link_name = "jubafiye_net_position"]
         pub fn net_position(
             book: *const u8,
             book_len: usize,
@@ -83,6 +79,7 @@ mod c {
             lines: *mut u8,
             lines_len: usize,
         ) -> Counted;
+        #[link_name = "jubafiye_set_mark"]
         pub fn set_mark(
             book: *const u8,
             book_len: usize,
@@ -91,6 +88,7 @@ mod c {
             places: *mut u8,
             places_len: usize,
         ) -> u32;
+        #[link_name = "jubafiye_return_to_mark"]
         pub fn return_to_mark(
             book: *mut u8,
             book_len: usize,
@@ -99,7 +97,9 @@ mod c {
             places: *const u8,
             places_len: usize,
         ) -> u32;
+        #[link_name = "jubafiye_needs"]
         pub fn needs(book: *const u8, book_len: usize, record: *const u8, record_len: usize) -> Needs;
+        #[link_name = "jubafiye_chain"]
         pub fn chain(
             book: *const u8,
             book_len: usize,

@@ -105,6 +105,7 @@ impl Refusal {
     }
 
     /// What a call came to.
+    #[cfg(any(feature = "book", feature = "fix", test))]
     pub(crate) fn of(number: u32) -> Result<(), Self> {
         Self::from_number(number).map_or(Ok(()), Err)
     }

@@ -1,12 +1,15 @@
 //! Events as the gateway has them, and their records (docs/SCOPE.md, Events). Rests on record, fields, decimal and words.
 
+use std::fmt;
+
 use crate::decimal::{Price, Qty};
 use crate::fields::{ExecType, OrdStatus, OrdType, Side, TimeInForce};
 use crate::record::{Bit, Writer};
+use crate::show::shown;
 use crate::words::RiskReject;
 
 /// An order that was admitted. The gateway sends it to the venue itself, under its name.
-#[derive(Debug, Clone, Copy, PartialEq, Eq)]
+#[derive(Clone, Copy, PartialEq, Eq)]
 pub struct Booking<'a> {
     /// The client's number.
     pub client: u16,
@@ -31,7 +34,7 @@ pub struct Booking<'a> {
 }
 
 /// A client's cancel, and what a replace has in common with one.
-#[derive(Debug, Clone, Copy, PartialEq, Eq)]
+#[derive(Clone, Copy, PartialEq, Eq)]
 pub struct Amend<'a> {
     /// The client's number.
     pub client: u16,
@@ -94,7 +97,7 @@ pub struct Replace<'a> {
 }
 
 /// A venue's execution report.
-#[derive(Debug, Clone, Copy, PartialEq, Eq)]
+#[derive(Clone, Copy, PartialEq, Eq)]
 pub struct VenueReport<'a> {
     /// The venue that it came from.
     pub venue: u16,
@@ -121,7 +124,7 @@ pub struct VenueReport<'a> {
 }
 
 /// A venue's refusal of a cancel or replace (OrderCancelReject).
-#[derive(Debug, Clone, Copy, PartialEq, Eq)]
+#[derive(Clone, Copy, PartialEq, Eq)]
 pub struct RejectedRequest<'a> {
     /// The venue that it came from.
     pub venue: u16,
@@ -146,7 +149,7 @@ pub struct RejectedRequest<'a> {
 /// assert!(Book::new(10_000).take(&event)?.messages.is_empty());
 /// # Ok::<(), jubafiye::Error>(())
 /// ```
-#[derive(Debug, Clone, Copy, PartialEq, Eq)]
+#[derive(Clone, Copy, PartialEq, Eq)]
 pub enum Event<'a> {
     /// An admitted order is entered.
     Book(Booking<'a>),
@@ -308,6 +311,34 @@ fn told(w: &mut Writer<'_>, venue_order_id: Option<&[u8]>, reason: Option<u32>, 
         w.put(Bit::REASON, &reason.to_le_bytes());
     }
     w.text_if(Bit::TEXT, text);
+}
+
+shown!(Booking<'_> {
+    client, venue, name as text, cl_ord_id as text, symbol as text, side, ord_type, qty, price, time_in_force,
+});
+
+shown!(Amend<'_> { client, cl_ord_id as text, orig_cl_ord_id as text, symbol as text, side, redelivered });
+
+shown!(VenueReport<'_> {
+    venue, downstream as text, exec_type, status, last_qty, last_px, cum_qty, avg_px, venue_order_id as text, reason, text as text,
+});
+
+shown!(RejectedRequest<'_> {
+    venue, downstream as text, status, venue_order_id as text, reason, text as text,
+});
+
+/// The small events in their text form, the others field by field.
+impl fmt::Debug for Event<'_> {
+    fn fmt(&self, f: &mut fmt::Formatter<'_>) -> fmt::Result {
+        match self {
+            Self::Book(booking) => f.debug_tuple("Book").field(booking).finish(),
+            Self::Cancel(amend) => f.debug_tuple("Cancel").field(amend).finish(),
+            Self::Replace(replace) => f.debug_tuple("Replace").field(replace).finish(),
+            Self::VenueReport(report) => f.debug_tuple("VenueReport").field(report).finish(),
+            Self::CancelReject(reject) => f.debug_tuple("CancelReject").field(reject).finish(),
+            small => write!(f, "Event({small})"),
+        }
+    }
 }
 
 #[cfg(test)]

@@ -138,7 +138,9 @@ pub enum Error {
 impl fmt::Display for Error {
     fn fmt(&self, f: &mut fmt::Formatter<'_>) -> fmt::Result {
         match self {
-            Self::Refused(refusal) => refusal.fmt(f),
+            Self::Refused(refusal) => {
+                write!(f, "{refusal}; just messages as this library writes them are read")
+            }
             Self::Unreadable { tag } => write!(f, "the field {tag} does not read"),
         }
     }

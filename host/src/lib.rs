@@ -46,16 +46,23 @@
 mod answer;
 #[cfg(feature = "book")]
 mod book;
+mod builders;
 #[cfg(feature = "book")]
 mod chain;
 mod decimal;
 #[cfg(feature = "book")]
+mod diff;
+#[cfg(feature = "book")]
 mod entries;
 mod error;
 mod event;
+mod explain;
 mod fields;
 #[cfg(feature = "fix")]
 pub mod fix;
+mod kinds;
+#[cfg_attr(not(feature = "book"), allow(dead_code))] // without the library just `explain` reads books
+mod layout;
 mod list;
 #[cfg(feature = "book")]
 mod marks;
@@ -68,7 +75,12 @@ mod net;
 mod open;
 #[cfg(feature = "book")]
 mod page;
+mod read;
 mod record;
+mod show;
+pub mod text;
+#[cfg(feature = "book")]
+mod view;
 mod words;
 
 pub use answer::{Alarm, Answer};
@@ -78,10 +90,15 @@ pub use book::Book;
 pub use chain::{ChainEntry, Outcome, CHAIN_BYTES, CHAIN_ENTRY_BYTES};
 pub use decimal::{DecimalError, Net, Price, Qty};
 #[cfg(feature = "book")]
-pub use entries::{ANSWER_BYTES, BOOK_BYTES};
+pub use diff::Change;
+#[cfg(feature = "book")]
+pub use entries::ANSWER_BYTES;
 pub use error::{BadAnswer, Error, Fault, Refusal};
 pub use event::{Amend, Booking, Event, RejectedRequest, Replace, VenueReport};
+pub use explain::{explain, Broken, Rule};
 pub use fields::{ExecType, OrdStatus, OrdType, Side, TimeInForce};
+pub use kinds::{SentKind, Stage};
+pub use layout::BOOK_BYTES;
 #[cfg(feature = "book")]
 pub use marks::{Marks, PLACE_BYTES};
 pub use message::{CancelReject, Message, PriceSource, Report, RequestKind, ToVenue};
@@ -91,4 +108,8 @@ pub use needs::Needs;
 pub use net::{NetLine, NET_BYTES, NET_SCRATCH};
 #[cfg(feature = "book")]
 pub use page::{Page, PAGE_BYTES};
+pub use read::{explain_record, BadRecord, RecordFault};
+pub use text::{OwnedEvent, TextError};
+#[cfg(feature = "book")]
+pub use view::{GatewayCancel, Order, Pending, Request};
 pub use words::{FixedText, Reason, RiskReject, Words};

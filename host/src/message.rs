@@ -7,10 +7,11 @@ use crate::error::Fault;
 use crate::fields::{ExecType, OrdStatus, OrdType, Side, TimeInForce};
 use crate::list::listed;
 use crate::record::{Bit, Field, Reader};
+use crate::show::shown;
 use crate::words::{FixedText, Reason, Words};
 
 /// An ExecutionReport for a client.
-#[derive(Debug, Clone, PartialEq, Eq)]
+#[derive(Clone, PartialEq, Eq)]
 #[non_exhaustive]
 pub struct Report {
     /// The client's number.
@@ -81,7 +82,7 @@ listed! {
 }
 
 /// An OrderCancelReject for a client.
-#[derive(Debug, Clone, PartialEq, Eq)]
+#[derive(Clone, PartialEq, Eq)]
 #[non_exhaustive]
 pub struct CancelReject {
     /// The client's number.
@@ -103,7 +104,7 @@ pub struct CancelReject {
 }
 
 /// A new order, cancel or replace for a venue.
-#[derive(Debug, Clone, PartialEq, Eq)]
+#[derive(Clone, PartialEq, Eq)]
 #[non_exhaustive]
 pub struct ToVenue {
     /// The venue's number.
@@ -245,9 +246,23 @@ impl fmt::Display for ToVenue {
 }
 
 /// Bytes as one line of text.
-fn line(bytes: &[u8]) -> String {
+pub(crate) fn line(bytes: &[u8]) -> String {
     String::from_utf8_lossy(bytes).replace(char::is_control, " ")
 }
+
+shown!(Report {
+    client, name as text, cl_ord_id as text, orig_cl_ord_id as text, symbol as text, side, ord_type, qty, price, time_in_force,
+    exec_type, status, last_qty, last_px, price_source, cum_qty, avg_px, leaves_qty, exec_seq, reason, text,
+});
+
+shown!(CancelReject {
+    client, name as text, cl_ord_id as text, orig_cl_ord_id as text, status, reason, response_to, text,
+});
+
+shown!(ToVenue {
+    venue, downstream as text, orig_downstream as text, symbol as text, side, ord_type, qty, price, time_in_force,
+    venue_order_id as text,
+});
 
 macro_rules! listed_fields {
     ($($name:ident, $from:ident;)*) => {

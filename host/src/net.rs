@@ -4,6 +4,7 @@ use crate::book::Book;
 use crate::decimal::Net;
 use crate::entries::{self, NET_LINE, NET_LINES, NET_NUMBERS};
 use crate::error::Refusal;
+use crate::show::shown;
 
 /// The bytes that the lines of the net position need, whatever the book.
 pub const NET_BYTES: usize = NET_LINES;
@@ -12,7 +13,7 @@ pub const NET_BYTES: usize = NET_LINES;
 pub const NET_SCRATCH: usize = NET_NUMBERS;
 
 /// What a client has bought less what it has sold in a symbol: a line of the net position.
-#[derive(Debug, Clone, PartialEq, Eq, Hash)]
+#[derive(Clone, PartialEq, Eq, Hash)]
 #[non_exhaustive]
 pub struct NetLine {
     /// The client.
@@ -22,6 +23,8 @@ pub struct NetLine {
     /// Bought less sold, over all orders, done ones included; a short sale is a sale.
     pub net: Net,
 }
+
+shown!(NetLine { client, symbol as text, net });
 
 impl NetLine {
     /// The line at the front of some bytes; none where they are no line.

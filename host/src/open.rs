@@ -1,22 +1,13 @@
-//! The open quantity of a client, and how a book from before it was stored is carried over. Rests on entries, book, chain, fields
-//! and docs/LAYOUT.md.
+//! The open quantity of a client, and how a book from before it was stored is carried over. Rests on entries, layout, book,
+//! chain and explain.
 
 use crate::book::Book;
 use crate::chain::write_origins;
 use crate::decimal::Qty;
-use crate::entries::{self, BookBytes, ORDERS};
+use crate::entries::{self, BookBytes};
 use crate::error::Refusal;
-use crate::fields::OrdStatus;
-
-/// Where the orders and the clients' open quantities stand, and the fields of an order (docs/LAYOUT.md).
-const ORDERS_AT: usize = 256;
-const ORDER: usize = 256;
-const OPENS_AT: usize = 49_408;
-const OPEN: usize = 8;
-const CLIENT: usize = 0;
-const QTY: usize = 172;
-const STATUS: usize = 188;
-const CUM_QTY: usize = 189;
+use crate::explain::leaves;
+use crate::layout::{self, OPEN};
 
 impl Book {
     /// A client's open quantity: the sum of what its orders leave open, 0 where it has none. The book keeps its rules, so that
@@ -74,31 +65,14 @@ impl Book {
 
 /// Writes each client's sum at the place of its first order, and no other byte.
 fn write_opens(book: &mut BookBytes) {
-    let orders: Vec<(u16, u64)> = (0..booked(book)).map_while(|index| order(book, index)).collect();
+    let orders: Vec<(u16, u64)> = (0..layout::orders_in_use(book)).map(|index| leaves(book, index)).collect();
     for (index, &(client, _)) in orders.iter().enumerate() {
         if orders.iter().position(|order| order.0 == client) != Some(index) {
             continue;
         }
         let own = orders.iter().filter(|order| order.0 == client);
         let open = own.fold(0, |sum: u64, order| sum.saturating_add(order.1));
-        let at = index.saturating_mul(OPEN).saturating_add(OPENS_AT);
-        if let Some(word) = book.get_mut(at..).and_then(|rest| rest.first_chunk_mut()) {
-            *word = open.to_le_bytes();
-        }
+        let at = layout::open(book, index).at(OPEN);
+        layout::write(book, at, OPEN, open);
     }
-}
-
-/// How many orders are in use.
-fn booked(book: &BookBytes) -> usize {
-    usize::from(book.first_chunk().map_or(0, |count| u16::from_le_bytes(*count))).min(ORDERS)
-}
-
-/// The client of the order at an index, and what the order leaves open: nothing where it is done or done for the day.
-fn order(book: &BookBytes, index: usize) -> Option<(u16, u64)> {
-    let order = book.get(index.checked_mul(ORDER)?.checked_add(ORDERS_AT)?..)?.first_chunk::<ORDER>()?;
-    let number = |at: usize| Some(u64::from_le_bytes(*order.get(at..)?.first_chunk()?));
-    let client = u16::from_le_bytes(*order.get(CLIENT..)?.first_chunk()?);
-    let nothing = OrdStatus::from_code(*order.get(STATUS)?).is_some_and(OrdStatus::leaves_nothing);
-    let leaves = number(QTY)?.saturating_sub(number(CUM_QTY)?);
-    Some((client, if nothing { 0 } else { leaves }))
 }

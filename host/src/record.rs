@@ -56,6 +56,11 @@ fields! {
 }
 
 impl Bit {
+    /// Its place in the map, from 0.
+    pub(crate) fn place(self) -> usize {
+        usize::try_from(self.0).unwrap_or(usize::MAX)
+    }
+
     const fn mask(self) -> u32 {
         match 1u32.checked_shl(self.0) {
             Some(mask) => mask,

@@ -3,6 +3,7 @@
 use std::fmt;
 
 use crate::list::listed;
+use crate::show::Text;
 
 listed! {
     /// Why the host's risk check refused a replace: the verdicts 1 to 7.
@@ -59,7 +60,7 @@ impl fmt::Display for Reason {
 }
 
 /// A text: one that came with the event, or one of the book's fixed texts.
-#[derive(Debug, Clone, PartialEq, Eq, Hash)]
+#[derive(Clone, PartialEq, Eq, Hash)]
 pub enum Words {
     /// The event's own, byte for byte.
     Given(Vec<u8>),
@@ -159,6 +160,15 @@ impl fmt::Display for FixedText {
             Self::NotSentBeforeRestart => "not sent before the gateway restarted",
             Self::Risk(reject) => return f.pad(&format!("over a risk limit: {reject}")),
         })
+    }
+}
+
+impl fmt::Debug for Words {
+    fn fmt(&self, f: &mut fmt::Formatter<'_>) -> fmt::Result {
+        match self {
+            Self::Given(text) => f.debug_tuple("Given").field(&text.quoted()).finish(),
+            Self::Fixed(text) => f.debug_tuple("Fixed").field(text).finish(),
+        }
     }
 }
 

@@ -25,7 +25,7 @@ fn booking<'a>(name: &'a [u8], cl_ord_id: &'a [u8]) -> Booking<'a> {
 fn live() -> Book {
     let mut book = Book::new(10_000);
     assert_eq!(book.take(&Event::Book(booking(b"A", b"C1"))), Ok(Answer::default()));
-    book.take(&report(b"A", 0, 0, 0)).unwrap();
+    drop(book.take(&report(b"A", 0, 0, 0)).unwrap());
     book
 }
 
@@ -103,7 +103,7 @@ fn a_fill_is_told_as_the_rise_at_its_price() {
 #[test]
 fn a_price_has_the_source_of_its_rule() {
     let mut book = Book::new(10_000);
-    book.take(&Event::Book(booking(b"A", b"C1"))).unwrap();
+    drop(book.take(&Event::Book(booking(b"A", b"C1"))).unwrap());
     let told = |book: &mut Book, event: &Event<'_>| {
         let told = reported(book, event);
         (told.last_px, told.price_source)
@@ -121,7 +121,7 @@ fn a_price_has_the_source_of_its_rule() {
     assert_eq!(told(&mut book, &Event::Cancel(again)), (Price(0), None));
     let again = Replace { amend: again, ..replace(b"C1", 50) };
     assert_eq!(told(&mut book, &Event::Replace(again)), (Price(0), None));
-    book.take(&Event::Book(booking(b"B", b"C2"))).unwrap();
+    drop(book.take(&Event::Book(booking(b"B", b"C2"))).unwrap());
     let failed = Event::SendFailed { venue: 3, downstream: b"B", text: b"down" };
     assert_eq!(told(&mut book, &failed), (Price(0), None));
 }
@@ -144,7 +144,7 @@ fn a_cancel_goes_to_the_venue_under_the_next_name() {
 #[test]
 fn a_replace_goes_out_or_is_refused() {
     let mut book = live();
-    book.take(&report(b"A", 40, 40, 1)).unwrap();
+    drop(book.take(&report(b"A", 40, 40, 1)).unwrap());
     let below = rejected(&mut book, &Event::Replace(replace(b"C2", 39)));
     assert_eq!((below.response_to, below.reason), (RequestKind::Replace, Reason::Ours(99)));
     assert_eq!((below.text, below.name), (Words::Fixed(FixedText::BelowFilled), Some(b"A".to_vec())));
@@ -163,7 +163,7 @@ fn a_replace_goes_out_or_is_refused() {
 #[test]
 fn a_venues_refusal_reaches_the_client_with_its_words() {
     let mut book = live();
-    book.take(&Event::Cancel(amend(b"C2"))).unwrap();
+    drop(book.take(&Event::Cancel(amend(b"C2"))).unwrap());
     let refusal = RejectedRequest {
         venue: 3,
         downstream: b"A-1",
@@ -182,7 +182,7 @@ fn a_venues_refusal_reaches_the_client_with_its_words() {
 #[test]
 fn sends_that_fail_or_go_again() {
     let mut book = Book::new(10_000);
-    book.take(&Event::Book(booking(b"A", b"C1"))).unwrap();
+    drop(book.take(&Event::Book(booking(b"A", b"C1"))).unwrap());
     let again = Event::SendAgain { venue: 3, downstream: b"A" };
     assert!(matches!(one(&mut book, &again), Message::NewOrder(order) if order.downstream == b"A"));
     let failed = Event::SendFailed { venue: 3, downstream: b"A", text: b"down" };
@@ -271,11 +271,11 @@ fn order_65_and_request_257_do_not_fit() {
     let id = |number: usize| format!("C{number}").into_bytes();
     for number in 1..=64 {
         let name = format!("A{number}").into_bytes();
-        book.take(&Event::Book(booking(&name, &id(number)))).unwrap();
+        drop(book.take(&Event::Book(booking(&name, &id(number)))).unwrap());
     }
     assert_eq!(refused(&mut book, Event::Book(booking(b"B", b"C65"))), 7);
     for number in 65..=256 {
-        book.take(&Event::Cancel(amend(&id(number)))).unwrap();
+        drop(book.take(&Event::Cancel(amend(&id(number)))).unwrap());
     }
     assert_eq!(refused(&mut book, Event::Cancel(amend(b"C257"))), 7);
     assert_eq!(refused(&mut book, Event::GatewayCancel { name: b"A2" }), 7);
@@ -286,7 +286,7 @@ fn order_65_and_request_257_do_not_fit() {
 #[test]
 fn a_book_goes_on_from_its_bytes() {
     let mut book = live();
-    book.take(&Event::Cancel(amend(b"C2"))).unwrap();
+    drop(book.take(&Event::Cancel(amend(b"C2"))).unwrap());
     let mut restored = Book::from_bytes(&book.clone().into_bytes()).unwrap();
     let fill = report(b"A", 40, 40, 1);
     assert_eq!(restored.take(&fill), book.take(&fill));

@@ -83,7 +83,7 @@ fn failed(downstream: &[u8]) -> Event<'_> {
 fn taken(events: &[Event<'_>]) -> Result<Book, Error> {
     let mut book = Book::new(10_000);
     for event in events {
-        book.take(event)?;
+        drop(book.take(event)?);
     }
     Ok(book)
 }
@@ -153,7 +153,7 @@ fn an_outcome_is_set_once() -> Result<(), Error> {
 fn a_name_that_was_never_used_has_no_entry_whatever_its_length() -> Result<(), Error> {
     let mut book = book()?;
     let long = [b'q'; 32];
-    book.take(&Event::Cancel(Amend { symbol: b"W", ..amend(9, &long, b"C1") }))?;
+    drop(book.take(&Event::Cancel(Amend { symbol: b"W", ..amend(9, &long, b"C1") }))?);
     assert_eq!(book.chain(9, long).len(), 2);
     let mut names: Vec<Vec<u8>> = [0, 1, 31, 33, 256, 300, 512, 65_536].map(|length| vec![0; length]).into();
     for used in [&b"C5"[..], &long] {
@@ -193,8 +193,8 @@ fn the_longest_chain() -> Result<(), Error> {
     let name = |number: usize| format!("C{number}").into_bytes();
     let mut book = taken(&[booking(7, b"A", b"C0"), report(b"A", ExecType::New, OrdStatus::New)])?;
     for number in 1..256 {
-        book.take(&cancel(&name(number), &name(number - 1)))?;
-        book.take(&refused(format!("A-{number}").as_bytes()))?;
+        drop(book.take(&cancel(&name(number), &name(number - 1)))?);
+        drop(book.take(&refused(format!("A-{number}").as_bytes()))?);
         assert_eq!(book.chain(7, name(number)).len(), number + 1);
     }
     let chain = book.chain(7, name(255));

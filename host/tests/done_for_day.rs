@@ -19,7 +19,7 @@ fn book() -> Result<Book, Error> {
         price: Some(Price::units(10)),
         time_in_force: None,
     };
-    book.take(&Event::Book(booking))?;
+    drop(book.take(&Event::Book(booking))?);
     Ok(book)
 }
 
@@ -53,7 +53,7 @@ fn told(book: &mut Book, event: &Event<'_>) -> Result<Report, Error> {
 /// New, then done for the day.
 fn ended() -> Result<Book, Error> {
     let mut book = book()?;
-    book.take(&report(ExecType::New, Some(OrdStatus::New), 0, 0))?;
+    drop(book.take(&report(ExecType::New, Some(OrdStatus::New), 0, 0))?);
     let told = told(&mut book, &report(ExecType::DoneForDay, Some(OrdStatus::DoneForDay), 0, 0))?;
     assert_eq!((told.status, told.leaves_qty), (OrdStatus::DoneForDay, Qty(0)));
     Ok(book)
@@ -102,7 +102,7 @@ fn it_is_live() -> Result<(), Error> {
 #[test]
 fn a_refusal_brings_it_and_an_image_holds_it() -> Result<(), Error> {
     let mut book = book()?;
-    book.take(&Event::GatewayCancel { name: b"A" })?;
+    drop(book.take(&Event::GatewayCancel { name: b"A" })?);
     let refused = RejectedRequest {
         venue: 3,
         downstream: b"A-1",

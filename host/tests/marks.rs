@@ -42,7 +42,7 @@ fn fill(downstream: &[u8], cum: u64) -> Event<'_> {
 fn booked(orders: usize) -> Book {
     let mut book = Book::new(10_000);
     for number in 0..orders {
-        book.take(&booking(format!("N{number}").as_bytes())).unwrap();
+        drop(book.take(&booking(format!("N{number}").as_bytes())).unwrap());
     }
     book
 }
@@ -92,12 +92,12 @@ fn a_return_gives_back_the_book_that_was_marked() -> Result<(), Error> {
     marks.set(&book, "before")?;
     let [told, again] = {
         let told = book.take(&fill(b"N0", 40))?;
-        book.take(&booking(b"LATER"))?;
+        drop(book.take(&booking(b"LATER"))?);
         marks.set(&book, "after")?;
         marks.return_to(&mut book, "before")?;
         assert!(book.as_bytes() == marked.as_bytes());
         // The name and the ClOrdID are unused again, and so is the report's number.
-        book.take(&booking(b"LATER"))?;
+        drop(book.take(&booking(b"LATER"))?);
         [told, book.take(&fill(b"N0", 70))?]
     };
     let report = |answer: &jubafiye::Answer| match &answer.messages[..] {

@@ -44,7 +44,7 @@ fn trade(
     name: &str,
     (cum, status): (u64, OrdStatus),
 ) -> Result<i64, Error> {
-    book.take(&booking(pair, side, name.as_bytes()))?;
+    drop(book.take(&booking(pair, side, name.as_bytes()))?);
     let answer = book.take(&report(name.as_bytes(), cum, status))?;
     let told = answer.messages.iter().map(|message| match message {
         Message::Report(report) if report.side == Side::Buy => report.last_qty.0 as i64,

@@ -55,9 +55,9 @@ fn refused(downstream: &[u8], status: Option<OrdStatus>) -> Event<'_> {
 fn book() -> Result<Book, Error> {
     let mut book = Book::new(10_000);
     for (client, name, qty) in [(7, &b"A"[..], 100), (9, b"B", 40), (7, b"C", 50), (9, b"D", 5)] {
-        book.take(&booking(client, name, qty))?;
+        drop(book.take(&booking(client, name, qty))?);
     }
-    book.take(&report(b"C", ExecType::Trade, OrdStatus::PartiallyFilled, 20))?;
+    drop(book.take(&report(b"C", ExecType::Trade, OrdStatus::PartiallyFilled, 20))?);
     Ok(book)
 }
 
@@ -74,9 +74,9 @@ fn bookings_fills_and_done_orders_count() -> Result<(), Error> {
     assert_eq!(open(&Book::new(10_000)), units([0; 4]));
     let mut book = book()?;
     assert_eq!(open(&book), units([0, 130, 45, 0]));
-    book.take(&report(b"A", ExecType::Canceled, OrdStatus::Canceled, 60))?;
+    drop(book.take(&report(b"A", ExecType::Canceled, OrdStatus::Canceled, 60))?);
     assert_eq!(open(&book), units([0, 30, 45, 0]));
-    book.take(&report(b"B", ExecType::Trade, OrdStatus::Filled, 40))?;
+    drop(book.take(&report(b"B", ExecType::Trade, OrdStatus::Filled, 40))?);
     assert_eq!(open(&book), units([0, 30, 5, 0]));
     let before = book.as_bytes().to_vec();
     assert_eq!(book.take(&booking(9, b"B", 7)), Err(Error::Refused(Refusal::InUse)));
@@ -96,9 +96,9 @@ fn a_replace_counts_once_it_is_accepted() -> Result<(), Error> {
         time_in_force: None,
         blocked: false,
     };
-    book.take(&Event::Replace(replace))?;
+    drop(book.take(&Event::Replace(replace))?);
     assert_eq!(book.open_quantity(7), Qty::units(130));
-    book.take(&report(b"A-1", ExecType::Replaced, OrdStatus::New, 0))?;
+    drop(book.take(&report(b"A-1", ExecType::Replaced, OrdStatus::New, 0))?);
     assert_eq!(book.open_quantity(7), Qty::units(330));
     Ok(())
 }
@@ -109,7 +109,7 @@ fn a_refusals_status_counts_with_a_cancel_reject_or_with_nothing_told() -> Resul
         [(Event::Cancel(amend(7, b"A", b"R")), 1), (Event::GatewayCancel { name: b"A" }, 0)]
     {
         let mut book = book()?;
-        book.take(&request)?;
+        drop(book.take(&request)?);
         assert_eq!(book.open_quantity(7), Qty::units(130));
         let answer = book.take(&refused(b"A-1", Some(OrdStatus::Canceled)))?;
         assert_eq!((answer.messages.len(), book.open_quantity(7)), (told, Qty::units(30)), "{request:?}");
@@ -145,7 +145,7 @@ fn a_book_from_before_is_carried_over() -> Result<(), Error> {
         // Two words are written, and nothing else.
         stored[OPENS_AT..OPENS_AT + 16].copy_from_slice(&book.as_bytes()[OPENS_AT..OPENS_AT + 16]);
         assert_eq!(carried.as_bytes(), stored);
-        carried.take(&report(b"A", ExecType::Trade, OrdStatus::PartiallyFilled, 1))?;
+        drop(carried.take(&report(b"A", ExecType::Trade, OrdStatus::PartiallyFilled, 1))?);
         assert_eq!(open(&carried), units([0, 129, 45, 0]));
     }
     Ok(())
@@ -156,7 +156,7 @@ fn a_full_book_from_before_is_carried_over() -> Result<(), Error> {
     let mut book = Book::new(10_000);
     for number in 0..64_u16 {
         let name = format!("N{number}");
-        book.take(&booking(number * 1_040, name.as_bytes(), 100_000_000))?;
+        drop(book.take(&booking(number * 1_040, name.as_bytes(), 100_000_000))?);
     }
     let mut stored = book.as_bytes().to_vec();
     stored[OPENS_AT..OPENS_END].fill(0xFF);

@@ -32,6 +32,7 @@ mod c {
     }
 
     extern "C" {
+        #[link_name = "jubafiye_fix_write"]
         pub fn fix_write(
             record: *const u8,
             record_len: usize,
@@ -45,7 +46,9 @@ mod c {
             out: *mut u8,
             out_len: usize,
         ) -> Written;
+        #[link_name = "jubafiye_fix_read"]
         pub fn fix_read(message: *const u8, message_len: usize) -> FixFields;
+        #[link_name = "jubafiye_message_at"]
         pub fn message_at(answer: *const u8, answer_len: usize, n: u32) -> Place;
     }
 }
