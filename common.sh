@@ -1,19 +1,68 @@
-# What the commands of this folder share; they source it.
+# shellcheck shell=bash
+# What the commands of this folder and of tests/ share; they source it under `set -euo pipefail`.
+#
+# Bash passes over what fails inside a function that is called under `if`, `!`, `&&` or `||`. So what a test runs is a program, by itself
+# or by `step` and `quiet`, which take nothing else, and a function is only a word for something that ends the command.
 
-# Says what is missing where the toolchain is not there.
+# The repository's root, and the command's name in what it says.
+root=$(cd "$(dirname "${BASH_SOURCE[0]}")" && pwd)
+name=$(basename "$0")
+
+# Ends the command, saying why.
+die() {
+    echo "$name: $*" >&2
+    exit 1
+}
+
+# Says what is missing if the toolchain is not there.
 need_rt() {
-    if ! command -v rt >/dev/null; then
-        echo "$(basename "$0"): needs 'rt' of the Rattle toolchain on the path: README.md says where it comes from" >&2
-        exit 1
+    command -v rt >/dev/null || die "needs 'rt', the build and proof command of the Rattle kit (compiler and prover, Linux with glibc), on the path: README.md says more"
+}
+
+# need_library NAME..: these libraries must be there. A comparison without its library would hold a stand-in against itself.
+need_library() {
+    local library
+    for library in "$@"; do
+        [ -f "$root/target/staticlib/lib$library.a" ] || die "no target/staticlib/lib$library.a: 'rt staticlib $library' makes it"
+    done
+}
+
+# begin NAME: the name of a test; what its steps print goes to target/tests/NAME.log.
+begin() {
+    name=$1
+    log=$root/target/tests/$name.log
+    mkdir -p "$root/target/tests"
+    : >"$log"
+}
+
+# step PROGRAM ARG..: runs a program; what it prints goes to the log. If it fails, the log's end is shown and the test ends.
+step() {
+    [ "$(type -t "$1")" = file ] || die "step: $1 is no program"
+    if ! "$@" >>"$log" 2>&1; then
+        tail -n 60 "$log"
+        die "failed: $*"
     fi
 }
 
-# Runs a step; what it prints is shown only where it fails.
+# quiet PROGRAM ARG..: likewise without a log.
 quiet() {
-    local log
-    if ! log=$("$@" 2>&1); then
-        echo "$log"
-        exit 1
+    local told
+    [ "$(type -t "$1")" = file ] || die "quiet: $1 is no program"
+    if ! told=$("$@" 2>&1); then
+        echo "$told"
+        die "failed: $*"
+    fi
+}
+
+# not_run WHAT: says what of a test cannot run and why. With CI=true, or under `./test --all`, that is a failure; else `./test` says it
+# again in its last lines (JUBAFIYE_NOT_RUN names the file where it finds them).
+not_run() {
+    if [ "${CI:-}" = true ] || [ "${JUBAFIYE_ALL:-}" = yes ]; then
+        die "not run, and everything has to: $*"
+    fi
+    echo "$name: not run: $*"
+    if [ "${JUBAFIYE_NOT_RUN:-}" ]; then
+        echo "$name: not run: $*" >>"$JUBAFIYE_NOT_RUN"
     fi
 }
 
@@ -22,7 +71,7 @@ sources() {
     find crates crates.txt -type f ! -name stdin ! -name stdout ! -path '*/must-fail/*' -print0 | sort -z | xargs -0 sha256sum | sha256sum
 }
 
-# Proves and builds the program $1 where that is to be done, and says on standard error how far it is. A sample that was edited, so that
+# Proves and builds the program $1 if that has not been done, and says on standard error how far it is. A sample that was edited, so that
 # it is no longer the stored output's, does not keep it from running: ./test says so.
 build() {
     local log made=target/$1.sources

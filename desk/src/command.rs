@@ -128,7 +128,8 @@ fn page(book: &Book) -> Ended {
         let symbol = String::from_utf8_lossy(&line.symbol).replace(char::is_control, " ");
         format!("{:>5} {symbol:<16} {:>+16}\n", line.client, line.net)
     });
-    print(&format!("{}{}", book.page(), net.collect::<String>()))
+    let heading = if lines.is_empty() { "" } else { "\nNet position: client, symbol, bought less sold\n" };
+    print(&format!("{}{heading}{}", book.page(), net.collect::<String>()))
 }
 
 fn html_page(day: &Day, output: Option<&Path>, title: &str) -> Ended {

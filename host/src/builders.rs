@@ -10,11 +10,13 @@ impl<'a> Booking<'a> {
     /// A market order without names yet: [`Booking::named`] gives them, and without them the book refuses it.
     ///
     /// ```
+    /// # #[cfg(feature = "book")] {
     /// use jubafiye::{Book, Booking, Event, Qty, Side, TimeInForce};
     ///
     /// let booking = Booking::new(7, 3, Side::Buy, Qty::units(100), b"WHEATH27").named(b"G1", b"C1");
     /// let booking = booking.limit("10.25".parse()?).time_in_force(TimeInForce::Day);
     /// assert!(Book::new(10_000).take(&Event::Book(booking))?.messages.is_empty());
+    /// # }
     /// # Ok::<(), Box<dyn std::error::Error>>(())
     /// ```
     pub const fn new(client: u16, venue: u16, side: Side, qty: Qty, symbol: &'a [u8]) -> Self {

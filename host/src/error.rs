@@ -7,6 +7,7 @@ use std::fmt;
 /// changed, neither the book nor what was lent beside it.
 ///
 /// ```
+/// # #[cfg(feature = "book")] {
 /// use jubafiye::{Book, Error, Event, Refusal};
 ///
 /// let mut book = Book::new(10_000);
@@ -14,6 +15,7 @@ use std::fmt;
 /// assert_eq!(refused, Err(Error::Refused(Refusal::Range)));
 /// assert_eq!(Refusal::Range.number(), 4);
 /// assert_eq!(Refusal::Range.to_string(), "refused with 4: a field is out of its range");
+/// # }
 /// ```
 #[derive(Debug, Clone, Copy, PartialEq, Eq, Hash)]
 #[non_exhaustive]

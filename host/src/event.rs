@@ -54,6 +54,7 @@ pub struct Amend<'a> {
 /// A client's replace, with what the host decides about it.
 ///
 /// ```
+/// # #[cfg(feature = "book")] {
 /// use jubafiye::{Amend, Book, Event, FixedText, Message, Qty, Replace, RiskReject, Side, Words};
 ///
 /// let replace = Replace {
@@ -76,6 +77,7 @@ pub struct Amend<'a> {
 /// let answer = Book::new(10_000).take(&Event::Replace(replace))?;
 /// let [Message::CancelReject(told)] = &answer.messages[..] else { panic!("a refusal goes out") };
 /// assert_eq!((told.reason.number(), &told.text), (1, &Words::Fixed(FixedText::UnknownOrder)));
+/// # }
 /// # Ok::<(), jubafiye::Error>(())
 /// ```
 #[derive(Debug, Clone, Copy, PartialEq, Eq)]
@@ -143,10 +145,12 @@ pub struct RejectedRequest<'a> {
 /// What the book is told. Texts are bytes: the book takes any.
 ///
 /// ```
+/// # #[cfg(feature = "book")] {
 /// use jubafiye::{Book, Event};
 ///
 /// let event = Event::SendFailed { venue: 3, downstream: b"G1", text: b"session down" };
 /// assert!(Book::new(10_000).take(&event)?.messages.is_empty());
+/// # }
 /// # Ok::<(), jubafiye::Error>(())
 /// ```
 #[derive(Clone, Copy, PartialEq, Eq)]

@@ -2,6 +2,7 @@
 //! library `libfix.a`, and not on the book's: a FIX engine may link it alone (`default-features = false`).
 //!
 //! ```
+//! # #[cfg(feature = "book")] {
 //! use jubafiye::{fix, Book, Booking, Event, OrdType, Side, ANSWER_BYTES};
 //!
 //! let mut book = Book::new(10_000);
@@ -14,8 +15,9 @@
 //! let answer = book.take_record_into(&event, &mut buffer)?;
 //!
 //! let header = fix::Header { sender: b"GATEWAY", target: b"VENUE", sequence: 42, time: b"20261116-12:34:56.789" };
-//! for record in fix::records(answer)? {
-//!     let message = fix::to_vec(record, &header)?;
+//! for outgoing in fix::outgoing(answer)? {
+//!     assert_eq!(outgoing.to, fix::Peer::Venue(3));
+//!     let message = outgoing.to_vec(&header)?;
 //!     let told = String::from_utf8(message)?.replace('\x01', "|");
 //!     assert_eq!(
 //!         told,
@@ -23,16 +25,20 @@
 //!          38=100.0000|44=10.25000000|60=20261116-12:34:56.789|10=081|"
 //!     );
 //! }
+//! # }
 //! # Ok::<(), Box<dyn std::error::Error>>(())
 //! ```
 
 mod entries;
 mod read;
+mod send;
 
 use std::error;
 use std::fmt;
 
 use crate::error::Refusal;
+
+pub use send::{clean, outgoing, with_clean_text, with_extras, Extra, Outgoing, Peer};
 
 pub use read::{read, Body, Cancel, CancelReject, Fields, Message, NewOrder, Replace, Report};
 
@@ -97,12 +103,13 @@ pub fn to_vec(record: &[u8], header: &Header<'_>) -> Result<Vec<u8>, Refusal> {
     Ok(message)
 }
 
-/// The records of an answer's messages, as [`write`] takes them: an answer's messages have no lengths of their own, and the
-/// library says where each stands. Refused with [`Refusal::Record`] or [`Refusal::Range`] where the bytes are no answer.
+/// The records of an answer's messages, as [`write()`] takes them, for a host that reads no types; [`outgoing`] has both. An
+/// answer's messages have no lengths of their own, and the library says where each stands. Refused with [`Refusal::Record`] or
+/// [`Refusal::Range`] where the bytes are no answer.
 ///
 /// ```
 /// # use jubafiye::{fix, Refusal};
-/// let none = fix::records(&[4, 0, 0, 3])?;
+/// let none = fix::records(&[5, 0, 0, 3, 0])?;
 /// assert!(none.is_empty());
 /// assert_eq!(fix::records(b"none"), Err(Refusal::Record));
 /// # Ok::<(), Refusal>(())

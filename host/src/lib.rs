@@ -1,6 +1,7 @@
 //! A safe wrapper over the proved order book: typed events in, typed messages out, refusals as an error.
 //!
 //! ```
+//! # #[cfg(feature = "book")] {
 //! use jubafiye::{Book, Booking, Event, OrdType, Side};
 //!
 //! let mut book = Book::new(10_000);
@@ -17,6 +18,7 @@
 //!     time_in_force: None,
 //! }))?;
 //! assert!(answer.messages.is_empty() && answer.alarms.is_empty());
+//! # }
 //! # Ok::<(), Box<dyn std::error::Error>>(())
 //! ```
 //!

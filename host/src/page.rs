@@ -31,7 +31,8 @@ impl Page {
         self.bytes
     }
 
-    /// The page as a text, where no symbol has a byte above 127.
+    /// The page as a text, where its bytes are UTF-8: always if no symbol has a byte above 127, and else only if such bytes
+    /// spell characters, of which each takes more columns than one.
     pub fn as_str(&self) -> Option<&str> {
         str::from_utf8(&self.bytes).ok()
     }

@@ -1,5 +1,5 @@
 /* Both libraries in one C program: an order is booked and filled, the report is cut out of the answer, written as a FIX message
- * and read back. 0 where all is right. tests/fix/run builds and runs it. */
+ * and read back. 0 if all is right. tests/host/run builds and runs it. */
 #include <stdio.h>
 #include <string.h>
 
@@ -33,7 +33,7 @@ int main(void) {
     if (message_at(answer, sizeof answer, 0).length != 0) return 3;
     if (take(FILL, sizeof FILL) != 0) return 4;
     place = message_at(answer, sizeof answer, 0);
-    if (place.refusal != 0 || place.at != 4 || message_at(answer, sizeof answer, 1).length != 0) return 5;
+    if (place.refusal != 0 || place.at != 5 || message_at(answer, sizeof answer, 1).length != 0) return 5;
     written = fix_write(answer + place.at, place.length, text("US"), 2, text("THEM"), 4, 7, text("20261116-12:34:56"), 17, out,
                         sizeof out);
     if (written.refusal != 0 || memcmp(out, told, sizeof told - 1) != 0) {

@@ -1,9 +1,9 @@
 //! Both libraries in one program: what the book puts out, written as FIX and read back, is what the answer says.
 
-use jubafiye::fix::{self, Body, Header};
+use jubafiye::fix::{self, Body, Header, Outgoing, Peer};
 use jubafiye::{
-    Amend, Answer, Book, Booking, Event, ExecType, Message, OrdStatus, OrdType, Price, Qty, RejectedRequest,
-    Replace, Side, TimeInForce, VenueReport, Words, ANSWER_BYTES,
+    Amend, Answer, Book, Booking, Error, Event, ExecType, Message, OrdStatus, OrdType, Price, Qty, Refusal,
+    RejectedRequest, Replace, Side, TimeInForce, VenueReport, Words, ANSWER_BYTES,
 };
 
 const HEADER: Header<'static> =
@@ -159,7 +159,12 @@ fn what_the_book_puts_out_is_written_and_read() {
         let answer = Answer::read(bytes).expect("an answer");
         let records = fix::records(bytes).expect("an answer");
         assert_eq!(records.len(), answer.messages.len());
+        let outgoing: Vec<Outgoing<'_>> = fix::outgoing(bytes).expect("an answer").collect();
+        assert!(outgoing.iter().map(|outgoing| outgoing.record).eq(records.iter().copied()));
+        assert!(outgoing.iter().map(|outgoing| &outgoing.message).eq(&answer.messages));
         for (record, message) in records.into_iter().zip(&answer.messages) {
+            let to_client = matches!(message, Message::Report(_) | Message::CancelReject(_));
+            assert_eq!(Peer::of(message), if to_client { Peer::Client(7) } else { Peer::Venue(3) });
             let written = fix::to_vec(record, &HEADER).expect("a message");
             let read = fix::read(&written).expect("what was written");
             assert_eq!(read.header, HEADER);
@@ -168,4 +173,94 @@ fn what_the_book_puts_out_is_written_and_read() {
         }
     }
     assert!(kinds.iter().all(|&count| count > 0), "{kinds:?}");
+}
+
+fn taken<'a>(book: &mut Book, event: &Event<'_>, buffer: &'a mut [u8]) -> Vec<Outgoing<'a>> {
+    let answer = book.take_record_into(&event.record(), buffer).expect("a taken event");
+    fix::outgoing(answer).expect("an answer").collect()
+}
+
+/// A booked order, and a venue's report of a fill of 40 with this text.
+fn filled(text: &[u8]) -> (Book, VenueReport<'_>) {
+    let mut book = Book::new(10_000);
+    day().iter().take(3).for_each(|event| drop(book.take(event).expect("a taken event")));
+    let fill = VenueReport {
+        venue: 3,
+        downstream: b"G1",
+        exec_type: ExecType::Trade,
+        status: Some(OrdStatus::PartiallyFilled),
+        last_qty: Qty::units(40),
+        last_px: Price::units(10),
+        cum_qty: Qty::units(40),
+        avg_px: Price::units(10),
+        venue_order_id: None,
+        reason: None,
+        text: Some(text),
+    };
+    (book, fill)
+}
+
+/// The fill is taken and cannot be told as it is. It is told with the text cleaned, and the book goes on.
+#[test]
+fn a_fill_with_a_text_that_fix_does_not_carry_is_told() {
+    let (mut book, fill) = filled(b"a\nb");
+    let mut buffer = [0; ANSWER_BYTES];
+    let outgoing = taken(&mut book, &Event::VenueReport(fill), &mut buffer);
+    let [told] = &outgoing[..] else { panic!("one message: {outgoing:?}") };
+    assert_eq!(told.to_vec(&HEADER), Err(Refusal::Text));
+    let Message::Report(report) = &told.message else { panic!("a report") };
+    assert_eq!(
+        (report.last_qty, report.text.as_ref()),
+        (Qty::units(40), Some(&Words::Given(b"a\nb".to_vec())))
+    );
+    let message = fix::to_vec(&fix::with_clean_text(told.record), &HEADER).expect("a message");
+    let Ok(Body::Report(read)) = fix::read(&message).map(|read| read.body) else { panic!("a report") };
+    assert_eq!((read.last_qty, read.cum_qty, read.text), (Qty::units(40), Qty::units(40), Some(&b"a b"[..])));
+    assert_eq!((read.exec_id, read.exec_seq), (&b"G1.1"[..], report.exec_seq));
+    // Taken again, as a venue resends it, it is stale: the first answer was the only one that tells it.
+    let mut buffer = [0; ANSWER_BYTES];
+    assert!(taken(&mut book, &Event::VenueReport(fill), &mut buffer).is_empty());
+    assert!(book.keeps_rules());
+}
+
+/// Better: the text is cleaned before the event is taken, so that the book's message is the one that is sent.
+#[test]
+fn a_text_that_is_cleaned_before_it_is_taken_is_written() {
+    let (mut book, fill) = filled(b"a\nb");
+    let text = fix::clean(b"a\nb");
+    let fill = Event::VenueReport(VenueReport { text: Some(&text), ..fill });
+    let mut buffer = [0; ANSWER_BYTES];
+    let outgoing = taken(&mut book, &fill, &mut buffer);
+    let messages: Vec<_> = outgoing.iter().map(|outgoing| outgoing.to_vec(&HEADER)).collect();
+    let [Ok(message)] = &messages[..] else { panic!("one message: {messages:?}") };
+    assert_eq!(fix::read(message).expect("a message").fields.get(58), Some(&b"a b"[..]));
+}
+
+/// An answer of a client's refusal and the gateway's own cancel goes to two peers.
+#[test]
+fn two_messages_of_an_answer_go_to_two_peers() {
+    let mut book = Book::new(10_000);
+    let refused = Event::CancelReject(RejectedRequest {
+        venue: 3,
+        downstream: b"G1-1",
+        status: None,
+        venue_order_id: None,
+        reason: Some(2),
+        text: None,
+    });
+    for event in [&day()[0], &Event::Cancel(amend(b"C2", b"C1")), &Event::GatewayCancel { name: b"G1" }] {
+        let _ = book.take(event).expect("a taken event");
+    }
+    let mut buffer = [0; ANSWER_BYTES];
+    let peers: Vec<Peer> =
+        taken(&mut book, &refused, &mut buffer).iter().map(|outgoing| outgoing.to).collect();
+    assert_eq!(peers, [Peer::Client(7), Peer::Venue(3)]);
+}
+
+#[test]
+fn what_is_no_answer_has_no_messages() {
+    for bytes in [&b""[..], b"none", &[5, 0, 1, 0, 0], &[5, 0, 3, 0, 0]] {
+        assert_eq!(fix::outgoing(bytes).map(Iterator::count), Err(Error::Refused(Refusal::Record)));
+    }
+    assert_eq!(fix::outgoing(&[5, 0, 0, 6, 1]).map(Iterator::count), Ok(0));
 }

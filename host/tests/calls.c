@@ -1,4 +1,4 @@
-/* Every function of gateway.h, called from C: what it returns and what it writes. tests/oracle/run compiles and runs it. */
+/* Every function of gateway.h, called from C: what it returns and what it writes. tests/host/run compiles and runs it. */
 #include "gateway.h"
 
 #include <stdio.h>

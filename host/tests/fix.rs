@@ -1,7 +1,7 @@
 //! FIX messages over the linked library, the book's not needed: rooms, refusals, the header's texts, and any bytes.
 
-use jubafiye::fix::{self, Body, Error, Header};
-use jubafiye::{OrdStatus, Price, Refusal, RequestKind};
+use jubafiye::fix::{self, Body, Error, Extra, Header};
+use jubafiye::{FixedText, OrdStatus, Price, Refusal, RequestKind};
 
 const HEADER: Header<'static> =
     Header { sender: b"GATEWAY", target: b"DESK", sequence: 42, time: b"20261116-12:34:56.789" };
@@ -112,6 +112,119 @@ fn the_room_of_a_header_holds_any_message() {
             (u64::MAX, Price(u128::MAX), Some(u32::MAX))
         );
     }
+}
+
+/// Where the text of [`longest`] stands: behind kind and map, client, four texts, eight codes and numbers, and the reason.
+const TEXT: std::ops::Range<usize> = 161..225;
+
+#[test]
+fn a_text_that_fix_does_not_carry_is_cleaned_and_nothing_else() {
+    let plain = longest();
+    assert_eq!((plain[TEXT.start - 1], &plain[TEXT]), (64, &[b'x'; 64][..]));
+    assert_eq!(fix::with_clean_text(&plain), plain);
+    for byte in 0..=u8::MAX {
+        let mut said = plain.clone();
+        said[TEXT.start] = byte;
+        said[TEXT.end - 1] = byte;
+        let cleaned = fix::with_clean_text(&said);
+        if byte >= 32 {
+            assert_eq!(cleaned, said);
+            continue;
+        }
+        assert_eq!(fix::to_vec(&said, &HEADER), Err(Refusal::Text));
+        let mut blank = plain.clone();
+        blank[TEXT.start] = b' ';
+        blank[TEXT.end - 1] = b' ';
+        assert_eq!(cleaned, blank);
+        let message = fix::to_vec(&cleaned, &HEADER).expect("a message");
+        let Ok(Body::Report(report)) = fix::read(&message).map(|read| read.body) else { panic!("a report") };
+        assert_eq!(report.text, Some(&blank[TEXT]));
+    }
+}
+
+#[test]
+fn only_a_text_is_cleaned() {
+    let mut named = longest();
+    named[30] = 7;
+    assert_eq!(fix::with_clean_text(&named), named, "a ClOrdID goes back as it came");
+    assert_eq!(fix::with_clean_text(REJECT), REJECT, "a fixed text is a number");
+    for end in 0..TEXT.end {
+        let mut cut = longest()[..end].to_vec();
+        cut.iter_mut().skip(TEXT.start).for_each(|byte| *byte = 1);
+        assert_eq!(fix::with_clean_text(&cut), cut, "no record");
+    }
+    let mut numbers = Numbers(2);
+    for length in (0..40).chain([300]).cycle().take(5_000) {
+        let bytes = numbers.bytes(length);
+        assert_eq!(fix::with_clean_text(&bytes).len(), bytes.len());
+    }
+}
+
+#[test]
+fn a_session_adds_fields() {
+    let told = |extras: &[Extra<'_>]| fix::with_extras(TOLD, extras).map(|message| message.to_vec());
+    assert_eq!(told(&[]).as_deref(), Ok(TOLD));
+    for nowhere in [8, 9, 10, 31] {
+        assert_eq!(told(&[Extra { behind: nowhere, tag: 97, value: b"Y" }]).as_deref(), Ok(TOLD));
+    }
+    let extras = [
+        Extra { behind: 52, tag: 43, value: b"Y" },
+        Extra { behind: 52, tag: 122, value: b"20261116-12:34:50" },
+        Extra { behind: 434, tag: 60, value: b"20261116-12:34:56" },
+    ];
+    let message = told(&extras).expect("a message");
+    let text = String::from_utf8(message.clone()).expect("a text").replace('\x01', "|");
+    let body = "35=9|49=GATEWAY|56=DESK|34=42|52=20261116-12:34:56.789|43=Y|122=20261116-12:34:50|37=NONE|11=C2|41=C1|\
+        39=8|102=1|58=unknown order|434=2|60=20261116-12:34:56|";
+    let (front, sum) = text.rsplit_once("10=").expect("a checksum");
+    assert_eq!(front, format!("8=FIX.4.4|9={}|{body}", body.len()));
+    let right = message[..front.len()].iter().map(|&byte| u32::from(byte)).sum::<u32>() % 256;
+    assert_eq!(sum, format!("{right:03}|"));
+    assert_eq!(fix::read(&message), Err(Error::Refused(Refusal::Record)));
+    assert_eq!(fix::with_extras(&message, &extras), Err(Error::Refused(Refusal::Record)));
+}
+
+/// The examples of docs/FIX.md are messages; the one with a field of the session's is none of the library's.
+#[test]
+fn the_documents_examples_are_messages() {
+    let page = include_str!("../../docs/FIX.md");
+    let examples: Vec<&str> = page.lines().filter(|line| line.starts_with("8=FIX.4.4|")).collect();
+    assert_eq!(examples.len(), 7);
+    for example in examples {
+        let message = example.replace('|', "\x01");
+        let bare = message.replace("\x0197=Y\x01", "\x01");
+        let extra = [Extra { behind: 52, tag: 97, value: b"Y" }];
+        match fix::read(message.as_bytes()) {
+            Ok(read) => assert_eq!(read.fields.get(97), None),
+            Err(_) => {
+                let body = bare.split_once("\x0135=").expect("a body").1.rsplit_once("10=").expect("a sum").0;
+                let length = body.len() + "35=".len();
+                let mut written = format!("8=FIX.4.4\x019={length}\x0135={body}").into_bytes();
+                let sum = written.iter().fold(0_u8, |sum, &byte| sum.wrapping_add(byte));
+                written.extend(format!("10={sum:03}\x01").bytes());
+                assert_eq!(fix::with_extras(&written, &extra).as_deref(), Ok(message.as_bytes()));
+            }
+        }
+    }
+}
+
+/// The words of docs/DIFFERENCES.md: those that are written, and the Rust's.
+#[test]
+fn fixed_texts_are_written_in_the_documents_words() {
+    let page = include_str!("../../docs/DIFFERENCES.md");
+    let mut seen = 0;
+    for line in page.lines().filter_map(|line| line.strip_prefix("| text ")) {
+        let cells: Vec<&str> = line.split('|').map(|cell| cell.trim().trim_matches('`')).collect();
+        let number: u8 = cells[0].parse().expect("a number");
+        let mut record = REJECT.to_vec();
+        record[18] = number;
+        let message = fix::to_vec(&record, &HEADER).expect("a message");
+        let read = fix::read(&message).expect("what was written");
+        assert_eq!(read.fields.get(58), Some(cells[1].as_bytes()));
+        assert_eq!(FixedText::from_number(number).map(|text| text.to_string()).as_deref(), Some(cells[2]));
+        seen += 1;
+    }
+    assert_eq!(seen, 11);
 }
 
 /// Numbers that are the same each time (splitmix64).

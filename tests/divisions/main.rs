@@ -1,4 +1,5 @@
-//! The two divisions of `wide`, called as C functions, against 128-bit integers, and their time.
+//! The two divisions of `wide` and the price of a fill, which is what ships, called as C functions, against
+//! 128-bit integers, and their time.
 //! `divisions [INPUTS [ROUNDS]]`: README.md says what is drawn and what is measured.
 
 use std::hint::black_box;
@@ -12,11 +13,28 @@ const MILLION: usize = 1_000_000;
 #[derive(Clone, Copy)]
 struct Words([u64; 2]);
 
+/// A price in two words and its source, as the library returns them.
+#[repr(C)]
+#[derive(Clone, Copy)]
+struct Price {
+    words: Words,
+    source: u64,
+}
+
 #[link(name = "divisions", kind = "static")]
 unsafe extern "C" {
     fn divide_plain(n: u64, d: u64) -> u64;
     fn divide_long(low: u64, high: u64, d: u64) -> Words;
     fn divide_either(low: u64, high: u64, d: u64) -> Words;
+    fn price_of(
+        lastqty: u64,
+        lastpx: u64,
+        cumqty: u64,
+        avgpx: u64,
+        oldcum: u64,
+        oldavg: u64,
+        rise: u64,
+    ) -> Price;
 }
 
 // The entries take any numbers and touch no memory.
@@ -30,6 +48,12 @@ fn long(n: u128, d: u64) -> u128 {
 
 fn either(n: u128, d: u64) -> u128 {
     number(unsafe { divide_either(n as u64, (n >> 64) as u64, d) })
+}
+
+fn price(fill: &Fill) -> (u128, u64) {
+    let &Fill { lastqty, lastpx, cumqty, avgpx, oldcum, oldavg, rise } = fill;
+    let Price { words, source } = unsafe { price_of(lastqty, lastpx, cumqty, avgpx, oldcum, oldavg, rise) };
+    (number(words), source)
 }
 
 fn number(Words([low, high]): Words) -> u128 {
@@ -158,6 +182,130 @@ impl Counts {
     }
 }
 
+/// What the price of a fill is asked with.
+#[derive(Clone, Copy, Debug)]
+struct Fill {
+    lastqty: u64,
+    lastpx: u64,
+    cumqty: u64,
+    avgpx: u64,
+    oldcum: u64,
+    oldavg: u64,
+    rise: u64,
+}
+
+impl Fill {
+    /// What was paid since the last report, 0 if less was paid.
+    fn paid(&self) -> u128 {
+        let product = |a: u64, b: u64| u128::from(a) * u128::from(b);
+        product(self.cumqty, self.avgpx).saturating_sub(product(self.oldcum, self.oldavg))
+    }
+
+    fn by_last_px(&self) -> bool {
+        self.lastpx > 0 && (self.rise == 0 || self.rise == self.lastqty)
+    }
+
+    /// The price and its source: LastPx, else the quotient if it is above 0, else AvgPx.
+    fn exact(&self) -> (u128, u64) {
+        match exact(self.paid(), self.rise) {
+            _ if self.by_last_px() => (self.lastpx.into(), 1),
+            0 => (self.avgpx.into(), 3),
+            quotient => (quotient, 2),
+        }
+    }
+}
+
+/// Wrong prices that the fills must tell from the exact one.
+const WRONG: [(&str, fn(&Fill) -> (u128, u64)); 4] = [
+    ("LastPx whatever the rise", |f| if f.lastpx > 0 { (f.lastpx.into(), 1) } else { f.exact() }),
+    ("a quotient of 0 kept", |f| if f.by_last_px() { f.exact() } else { (exact(f.paid(), f.rise), 2) }),
+    ("what was paid in one word", |f| match exact(f.paid() & u128::from(u64::MAX), f.rise) {
+        _ if f.by_last_px() => f.exact(),
+        0 => (f.avgpx.into(), 3),
+        quotient => (quotient, 2),
+    }),
+    ("the average's source for a quotient", |f| match f.exact() {
+        (price, 2) if price == u128::from(f.avgpx) => (price, 3),
+        right => right,
+    }),
+];
+
+/// A fill: as a day has it, at the border of one word, or of numbers of any length.
+fn draw_fill(random: &mut Random, at: usize) -> Fill {
+    let mut fill = match at % 4 {
+        0 | 1 => common_fill(random),
+        2 => {
+            let rise = 1 + random.below(1 << 20);
+            let avgpx = u64::MAX / rise - 1 + random.below(3);
+            Fill {
+                lastqty: random.below(rise),
+                lastpx: random.word(),
+                cumqty: rise,
+                avgpx,
+                oldcum: 0,
+                oldavg: 0,
+                rise,
+            }
+        }
+        _ => Fill {
+            lastqty: random.word(),
+            lastpx: random.word(),
+            cumqty: random.word(),
+            avgpx: random.word(),
+            oldcum: random.word(),
+            oldavg: random.word(),
+            rise: random.divisor(),
+        },
+    };
+    match random.below(6) {
+        0 => fill.lastqty = fill.rise,
+        1 => fill.lastpx = 0,
+        2 => fill.rise = 0,
+        _ => (),
+    }
+    fill
+}
+
+/// A rise of up to 1,000 shares on up to 1,000, at averages of up to 1,000: LastQty is not the rise.
+fn common_fill(random: &mut Random) -> Fill {
+    let (oldcum, rise) = (random.below(10_000_000), 1 + random.below(10_000_000));
+    let (oldavg, avgpx) = (random.below(100_000_000_000), random.below(100_000_000_000));
+    Fill { lastqty: rise - 1, lastpx: avgpx, cumqty: oldcum + rise, avgpx, oldcum, oldavg, rise }
+}
+
+/// The price of drawn fills; the first that differs, if any.
+fn test_prices(fills: usize) -> Result<(), String> {
+    let mut random = Random(13);
+    let (mut sources, mut one_word) = ([0_usize; 4], 0_usize);
+    let mut found = [0_usize; WRONG.len()];
+    for at in 0..fills {
+        let fill = draw_fill(&mut random, at);
+        let (given, right) = (price(&fill), fill.exact());
+        if given != right {
+            return Err(format!("the price of {fill:?} is {given:?}, should be {right:?}"));
+        }
+        for ((_, wrong), found) in WRONG.iter().zip(&mut found) {
+            *found += usize::from(wrong(&fill) != right);
+        }
+        sources[right.1 as usize] += 1;
+        one_word += usize::from(right.1 == 2 && fill.paid() >> 64 == 0);
+    }
+    let [_, last, quotient, average] = sources;
+    println!(
+        "divisions: {fills} prices of fills, all exact: {last} by LastPx, {quotient} by the quotient ({one_word} of one word), {average} by the average"
+    );
+    for ((what, _), found) in WRONG.iter().zip(found) {
+        println!("  {what}: told by {found} of them");
+        if found == 0 {
+            return Err(format!("{what} is not told from the right price"));
+        }
+    }
+    if [last, one_word, quotient - one_word, average].iter().any(|&n| n * 50 < fills) {
+        return Err("too few prices of one kind".into());
+    }
+    Ok(())
+}
+
 /// Both divisions on drawn inputs; the first that differs, if any.
 fn test(inputs: usize) -> Result<(), String> {
     let mut random = Random(7);
@@ -214,9 +362,9 @@ fn any(random: &mut Random) -> (u64, u64) {
 fn bench(rounds: usize) -> Result<(), String> {
     println!("bench: a million divisions, the same for each, in one thread; ms, best of {rounds} rounds");
     for (what, inputs) in [("common prices", million(common)), ("words of any length", million(any))] {
-        let by_plain = best(rounds, &inputs, |n, d| plain(n, d));
-        let by_long = best(rounds, &inputs, |n, d| long(n.into(), d) as u64);
-        let by_either = best(rounds, &inputs, |n, d| either(n.into(), d) as u64);
+        let by_plain = best(rounds, &inputs, |(n, d)| plain(n, d));
+        let by_long = best(rounds, &inputs, |(n, d)| long(n.into(), d) as u64);
+        let by_either = best(rounds, &inputs, |(n, d)| either(n.into(), d) as u64);
         let ratio = by_long / by_plain;
         println!(
             "  the {what}: single word {by_plain:.2}, two words {by_long:.2}, whichever {by_either:.2}; two words / single {ratio:.2}"
@@ -228,11 +376,38 @@ fn bench(rounds: usize) -> Result<(), String> {
     Ok(())
 }
 
+/// The time of the price that ships. It must be below that of the two-word division alone: a price that took that division for a
+/// common fill would be above it.
+fn bench_price(rounds: usize) -> Result<(), String> {
+    let mut random = Random(17);
+    let mut fills = Vec::with_capacity(MILLION);
+    while fills.len() < MILLION {
+        let fill = common_fill(&mut random);
+        if fill.exact().1 == 2 && fill.paid() >> 64 == 0 {
+            fills.push(fill);
+        }
+    }
+    let divisions: Vec<(u64, u64)> = fills.iter().map(|fill| (fill.paid() as u64, fill.rise)).collect();
+    let by_price = best(rounds, &fills, |fill| price(&fill).0 as u64);
+    let by_plain = best(rounds, &divisions, |(n, d)| plain(n, d));
+    let by_long = best(rounds, &divisions, |(n, d)| long(n.into(), d) as u64);
+    println!(
+        "  the implied prices of common fills: whole price {by_price:.2}, its division alone by the single word {by_plain:.2}, by two words {by_long:.2}"
+    );
+    if by_price > by_long {
+        return Err(
+            "a whole price takes longer than the two-word division alone: it does not take the single word"
+                .into(),
+        );
+    }
+    Ok(())
+}
+
 /// Milliseconds of the best round.
-fn best(rounds: usize, inputs: &[(u64, u64)], divide: impl Fn(u64, u64) -> u64) -> f64 {
+fn best<T: Copy>(rounds: usize, inputs: &[T], divide: impl Fn(T) -> u64) -> f64 {
     let times = (0..rounds).map(|_| {
         let start = thread_seconds();
-        let sum = inputs.iter().fold(0_u64, |sum, &(n, d)| sum.wrapping_add(divide(n, d)));
+        let sum = inputs.iter().fold(0_u64, |sum, &input| sum.wrapping_add(divide(input)));
         let time = thread_seconds() - start;
         black_box(sum);
         time * 1e3
@@ -263,7 +438,14 @@ fn thread_seconds() -> f64 {
 fn main() -> ExitCode {
     let numbers: Vec<usize> = std::env::args().skip(1).map(|arg| arg.parse().expect("a number")).collect();
     let number = |at: usize, usual: usize| numbers.get(at).copied().unwrap_or(usual);
-    match test(number(0, 6_000_000)).and_then(|()| bench(number(1, 30))) {
+    let (inputs, rounds) = (number(0, 6_000_000), number(1, 30));
+    let run = || {
+        test(inputs)?;
+        test_prices(inputs / 2)?;
+        bench(rounds)?;
+        bench_price(rounds)
+    };
+    match run() {
         Ok(()) => ExitCode::SUCCESS,
         Err(why) => {
             println!("divisions: {why}");

@@ -4,7 +4,7 @@ ghost use mathlib.Core.Path.{_≡_};
 ghost use mathlib.Core.Option.{some};
 ghost use Rattle.machine.specs.Orders.{limitPrice};
 ghost use Rattle.store.specs.Orders.{noPending};
-ghost use Rattle.machine.specs.Amend.{has, matches, amendRefusal, refuse, statusReport, alreadyTaken, cancelRefusal, cancelGoes, cancel, orOwn, priceOf, samePrice, verdictText, checkReplace, replaceRefusal, newTerms, pricedRight, newPending, replaceGoes, replace, amendable, number};
+ghost use Rattle.machine.specs.Amend.{has, matches, amendRefusal, refuse, redeliveredReport, alreadyTaken, cancelRefusal, cancelGoes, cancel, orOwn, priceOf, samePrice, verdictText, checkReplace, replaceRefusal, newTerms, pricedRight, newPending, replaceGoes, replace, amendable, number};
 ghost use Rattle.amend.specs.Prices.{priceIn};
 use format::bit;
 use format::codes;
@@ -131,8 +131,8 @@ fn refuse(f: Findings, responseto: u8, o: Order, e: Record, why: Refusal) -> Cha
 }
 
 // A request that was already taken, sent again: the order's state under the request's own ClOrdIDs.
-fn status_report(f: Findings, o: Order, e: Record) -> Change
-    ensures { λ r. ⌜ r ≡ statusReport f o e ⌝ }
+fn redelivered_report(f: Findings, o: Order, e: Record) -> Change
+    ensures { λ r. ⌜ r ≡ redeliveredReport f o e ⌝ }
 {
     let order = order::next_exec(o);
     let ids = e.ids;
@@ -200,7 +200,7 @@ pub fn cancel(f: Findings, order: u16, full: bool, o: Order, e: Record) -> Chang
     ensures { λ r. ⌜ r ≡ cancel f order full o e ⌝ }
 {
     if already_taken(f, order, e) {
-        return status_report(f, o, e);
+        return redelivered_report(f, o, e);
     }
     let own = cancel_refusal(f, o);
     let r = amend_refusal(f, order, full, o, e, own);
@@ -390,7 +390,7 @@ pub fn replace(f: Findings, order: u16, full: bool, o: Order, e: Record) -> Chan
     ensures { λ r. ⌜ r ≡ replace f order full o e ⌝ }
 {
     if already_taken(f, order, e) {
-        return status_report(f, o, e);
+        return redelivered_report(f, o, e);
     }
     let own = replace_refusal(f, o, e);
     let r = amend_refusal(f, order, full, o, e, own);

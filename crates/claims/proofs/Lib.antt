@@ -19,3 +19,4 @@ pub mod Net
 pub mod Marks
 pub mod Fields
 pub mod Needs
+pub mod Venue

@@ -8,3 +8,4 @@ pub mod Exchange
 pub mod Net
 pub mod Marks
 pub mod Needs
+pub mod Venue

@@ -1,5 +1,5 @@
-// The net position, for people: for each line the client in five columns, the symbol in sixteen, and the
-// net in seventeen, in decimal with its sign. Rests on gateway, words and decimal.
+// The net position, for people: a heading, then for each line the client in five columns, the symbol in
+// sixteen, and the net in seventeen, in decimal with its sign. Rests on gateway, words and decimal.
 ghost use mathlib.Core.Path.{_≡_};
 ghost use Prim.Native.Nat.{_≤_};
 ghost use lib.ListN.{length};
@@ -88,12 +88,16 @@ fn print_lines(lines: &[u8], count: usize)
     }
 }
 
-// The net position of a book that was just run.
+// The net position of a book that was just run, under its heading; nothing if the book has no order.
 pub(crate) fn print(book: &[u8]) {
     let mut scratch = [0u64; SCRATCH];
     let mut lines = [0u8; LINES];
     let counted = gateway::net_position(book, &mut scratch, &mut lines);
     let count = counted.number as usize;
+    if count == 0 {
+        return;
+    }
+    io::write_all(1, b"\nNet position: client, symbol, bought less sold\n");
     if count <= 64 {
         print_lines(&lines, count);
     }

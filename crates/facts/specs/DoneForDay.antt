@@ -272,6 +272,12 @@ record Refusals : Type 0 where
   over-cancel : comes (cancels D ∷ turns (X- 1) 54 54 ∷ []) (refusedAs (X- 1) 51) ≡ came (reject 51 ∷ []) 0 0 (left 51 0 100 0 false false (0 ∷ 1 ∷ []))
   over-replace : comes (replaces D 150 ∷ turns (X- 1) 69 69 ∷ []) (refusedAs (X- 1) 51) ≡ came (reject 51 ∷ []) 0 0 (left 51 0 100 0 false false (0 ∷ 1 ∷ []))
   above : comes (partly 40 ∷ cancels D ∷ []) (refusedAs (X- 1) 51) ≡ came (reject 51 ∷ []) 0 0 (left 51 40 100 0 false false (0 ∷ 1 ∷ []))
+  -- on an order that is filled whole too: of a cancel, of a replace, by a report, and of the gateway's cancel, which is tried again; New is PartiallyFilled there
+  whole : comes (partly 100 ∷ cancels D ∷ []) (refusedAs (X- 1) 51) ≡ came (reject 51 ∷ []) 0 0 (left 51 100 100 0 false false (0 ∷ 1 ∷ []))
+  whole-replace : comes (partly 100 ∷ replaces D 150 ∷ []) (refusedAs (X- 1) 51) ≡ came (reject 51 ∷ []) 0 0 (left 51 100 100 0 false false (0 ∷ 1 ∷ []))
+  whole-by-report : comes (partly 100 ∷ cancels D ∷ []) (turns (X- 1) 56 51) ≡ came (reject 51 ∷ []) 0 0 (left 51 100 100 0 false false (0 ∷ 1 ∷ []))
+  whole-gateway : comes (partly 100 ∷ gatewayCancels ∷ []) (refusedAs (X- 1) 51) ≡ came (sent ∷ []) 0 0 (left 51 100 100 0 false true (0 ∷ 1 ∷ 0 ∷ []))
+  whole-another : comes (partly 100 ∷ cancels D ∷ []) (refusedAs (X- 1) 48) ≡ came (reject 49 ∷ []) 0 0 (left 49 100 100 0 false false (0 ∷ 1 ∷ []))
   without : comes (ends ∷ cancels D ∷ []) (rejects (X- 1) 99) ≡ came (reject 51 ∷ []) 0 0 (left 51 0 100 0 false false (0 ∷ 1 ∷ []))
   another : comes (ends ∷ cancels D ∷ []) (refusedAs (X- 1) 48) ≡ came (reject 48 ∷ []) 0 0 (left 48 0 100 100 false false (0 ∷ 1 ∷ []))
   short : comes (ends ∷ cancels D ∷ []) (refusedAs (X- 1) 50) ≡ came (reject 48 ∷ []) 6 0 (left 48 0 100 100 false false (0 ∷ 1 ∷ []))
@@ -291,6 +297,11 @@ refusals = record {
   over-cancel = refl;
   over-replace = refl;
   above = refl;
+  whole = refl;
+  whole-replace = refl;
+  whole-by-report = refl;
+  whole-gateway = refl;
+  whole-another = refl;
   without = refl;
   another = refl;
   short = refl;

@@ -16,7 +16,7 @@ use Rattle.machine.specs.Messages.{noExec, noTold, noLongText, bitIf, termsBits
 use Rattle.bits.specs.Map.{mapOf}
 use Rattle.machine.specs.Changes.{Event, isFirst, isReplace, isGateway, isCancel, isAnswered, unchanged, refusing, answering, superseding, adding, telling, alarming, nextLink, nextNumber, nextDownstream, nextRequest, numberedOrder}
 use Rattle.machine.specs.GatewayCancel.{outstandingCancel, gatewayCancelInFlight, begun, trySent, givenUp, sendGatewayCancel, cancelOrder, gatewayCancelWaiting, resumeGatewayCancel, stuck, retryGatewayCancel, saysGone, gatewayCancelRefused}
-use Rattle.machine.specs.Amend.{matches, amendRefusal, refuse, statusReport, alreadyTaken, cancelRefusal, cancelGoes, cancel, orOwn, priceOf, checkReplace, replaceRefusal, newTerms, pricedRight, newPending, replaceGoes, replace, notPending, refusedOrder, refusedAlarm, refusedNote, refuseRequest, venueNote, venueCancelReject, sendRefused, firstFailed, sendFailed, resendable, unsent}
+use Rattle.machine.specs.Amend.{matches, amendRefusal, refuse, redeliveredReport, alreadyTaken, cancelRefusal, cancelGoes, cancel, orOwn, priceOf, checkReplace, replaceRefusal, newTerms, pricedRight, newPending, replaceGoes, replace, notPending, refusedOrder, refusedAlarm, refusedNote, refuseRequest, venueNote, venueCancelReject, sendRefused, firstFailed, sendFailed, resendable, unsent}
 use Rattle.machine.specs.Report.{saysUnknownAtVenue, unknownAtVenue, isRejection, pendingHere, behind, stale, repeats, droppedStale, droppedRepeat, statusTaken, accepts, answersRequest, orderedQty, reportedOrder, fillPriceOf, reportNote, clientReport, settles, applyReport, venueReport}
 use Rattle.store.specs.Finds.{findName, findDownstream, findClordid, countClordids, ofClient}
 use Rattle.machine.specs.Machine.{orderOf, latestCancel, orderAtLink, findingsOf, bookedOrder, firstRequest, unused, bookOrder, amending, onRequest, onReport, onName, changeOf, hasRoom, stepOf, answerLink, ordersAfter, requestsAfter, after, bookAfter}
@@ -127,7 +127,7 @@ record Facts : Type 0 where
   side : orderIn (bookAfter (bookAfter (booked 7 8) replaceX) acceptsReplace) 0 .terms .side ≡ buy
 
 facts : Facts
-unfolding event books booked cancelX cancelY askX askY replaceX failsX failsY failsReplace acceptsReplace concerns allBelow firstBelow countBelow if_then_else_ maybe textOf contents sameText numberedText decimal digitsOf oneMore hasPending hasGateway limitPrice isDone leavesOf leavesQty asAsked statusAt isShort unlessShort shortAlarm setStatus keptOrderId recordVenueOrderId pendingTerms applyReplace nextSequence nextExec bitIf termsBits noteBits report cancelReject toVenue newOrder cancelRequest replaceRequest isFirst isReplace isGateway isCancel isAnswered unchanged refusing answering superseding adding telling alarming nextLink nextNumber nextDownstream nextRequest numberedOrder outstandingCancel gatewayCancelInFlight begun trySent givenUp sendGatewayCancel cancelOrder gatewayCancelWaiting resumeGatewayCancel stuck retryGatewayCancel saysGone gatewayCancelRefused matches amendRefusal refuse statusReport alreadyTaken cancelRefusal cancelGoes cancel orOwn priceOf checkReplace replaceRefusal newTerms pricedRight newPending replaceGoes replace notPending refusedOrder refusedAlarm refusedNote refuseRequest venueNote venueCancelReject sendRefused firstFailed sendFailed resendable unsent saysUnknownAtVenue unknownAtVenue isRejection pendingHere behind stale repeats droppedStale droppedRepeat statusTaken accepts answersRequest orderedQty reportedOrder fillPriceOf reportNote clientReport settles applyReport venueReport findName findDownstream findClordid ofClient countClordids orderOf latestCancel orderAtLink findingsOf bookedOrder firstRequest unused bookOrder amending onRequest onReport onName changeOf hasRoom stepOf answerLink ordersAfter requestsAfter after bookAfter isText isSide isOrdtype isTimeinforce isStatus textWithin sides ordtypes timesinforce statuses isAlnum isNone isName nameRange namesRange forceRange pricedRange termsRange pendingRange gatewayRange orderRange requestRange linked currentRule cancelRule pendingRule filledRule statusRule doneRule triesRule amendmentsRule orderRule numberIn nameNumber numberRule inFlightRule requestRule sameKey rules
+unfolding event books booked cancelX cancelY askX askY replaceX failsX failsY failsReplace acceptsReplace concerns allBelow firstBelow countBelow if_then_else_ maybe textOf contents sameText numberedText decimal digitsOf oneMore hasPending hasGateway limitPrice isDone leavesOf leavesQty asAsked statusAt isShort unlessShort shortAlarm setStatus keptOrderId recordVenueOrderId pendingTerms applyReplace nextSequence nextExec bitIf termsBits noteBits report cancelReject toVenue newOrder cancelRequest replaceRequest isFirst isReplace isGateway isCancel isAnswered unchanged refusing answering superseding adding telling alarming nextLink nextNumber nextDownstream nextRequest numberedOrder outstandingCancel gatewayCancelInFlight begun trySent givenUp sendGatewayCancel cancelOrder gatewayCancelWaiting resumeGatewayCancel stuck retryGatewayCancel saysGone gatewayCancelRefused matches amendRefusal refuse redeliveredReport alreadyTaken cancelRefusal cancelGoes cancel orOwn priceOf checkReplace replaceRefusal newTerms pricedRight newPending replaceGoes replace notPending refusedOrder refusedAlarm refusedNote refuseRequest venueNote venueCancelReject sendRefused firstFailed sendFailed resendable unsent saysUnknownAtVenue unknownAtVenue isRejection pendingHere behind stale repeats droppedStale droppedRepeat statusTaken accepts answersRequest orderedQty reportedOrder fillPriceOf reportNote clientReport settles applyReport venueReport findName findDownstream findClordid ofClient countClordids orderOf latestCancel orderAtLink findingsOf bookedOrder firstRequest unused bookOrder amending onRequest onReport onName changeOf hasRoom stepOf answerLink ordersAfter requestsAfter after bookAfter isText isSide isOrdtype isTimeinforce isStatus textWithin sides ordtypes timesinforce statuses isAlnum isNone isName nameRange namesRange forceRange pricedRange termsRange pendingRange gatewayRange orderRange requestRange linked currentRule cancelRule pendingRule filledRule statusRule doneRule triesRule amendmentsRule orderRule numberIn nameNumber numberRule inFlightRule requestRule sameKey rules
 facts = record {
   kept = refl;
   concern = (refl, refl);

@@ -6,9 +6,13 @@ pub mod Opens
 pub mod Short
 pub mod DoneForDay
 pub mod Handled
+pub mod Cancelling
 pub mod Counted
 pub mod Broken
+pub mod Inside
 pub mod ExchangeDay
 pub mod ExchangeLimits
 pub mod Outcomes
 pub mod Chains
+pub mod Swept
+pub mod SweptSteps

@@ -29,6 +29,10 @@ Z = 90 ∷ []
 abbrev sells : (name : List ℕ) → List ℕ
 sells name = bytes 1 (number 0 2 7 ∷ number 1 2 4 ∷ spelled 2 name ∷ spelled 3 E ∷ spelled 6 W ∷ number 7 1 50 ∷ number 8 1 49 ∷ number 9 8 (shares 30) ∷ [])
 
+-- the venue accepts the replace X-1, with that many filled before
+abbrev accepts : (cum : ℕ) → List ℕ
+accepts cum = reportOf (X- 1) 53 49 0 0 cum (money 10) []
+
 -- the last call: the kinds of its messages, and what client 7 has open before it and after it, in shares
 record Moved : Type 0 where
   kinds : List ℕ
@@ -73,6 +77,20 @@ record Opens : Type 0 where
   -- the accepted quantity, and not the one that waits
   waiting : opens 7 (books ∷ replaces D 200 ∷ []) ≡ shares 100
   accepted : opens 7 (books ∷ replaces D 200 ∷ turns (X- 1) 53 48 ∷ []) ≡ shares 200
+  -- a replace down likewise: not the smaller of the two while it waits, be it pending at the venue or refused; with a fill, and down to what is filled
+  waiting-down : opens 7 (books ∷ replaces D 60 ∷ []) ≡ shares 100
+  pending-down : opens 7 (books ∷ replaces D 60 ∷ turns (X- 1) 69 69 ∷ []) ≡ shares 100
+  refused-down : opens 7 (books ∷ replaces D 60 ∷ rejects (X- 1) 99 ∷ []) ≡ shares 100
+  accepted-down : opens 7 (books ∷ replaces D 60 ∷ turns (X- 1) 53 48 ∷ []) ≡ shares 60
+  waiting-up-filled : opens 7 (books ∷ fills 40 40 (money 10) (money 10) ∷ replaces D 200 ∷ []) ≡ shares 60
+  accepted-up-filled : opens 7 (books ∷ fills 40 40 (money 10) (money 10) ∷ replaces D 200 ∷ accepts 40 ∷ []) ≡ shares 160
+  waiting-down-filled : opens 7 (books ∷ fills 40 40 (money 10) (money 10) ∷ replaces D 70 ∷ []) ≡ shares 60
+  accepted-down-filled : opens 7 (books ∷ fills 40 40 (money 10) (money 10) ∷ replaces D 70 ∷ accepts 40 ∷ []) ≡ shares 30
+  waiting-to-filled : opens 7 (books ∷ fills 40 40 (money 10) (money 10) ∷ replaces D 40 ∷ []) ≡ shares 60
+  accepted-to-filled : opens 7 (books ∷ fills 40 40 (money 10) (money 10) ∷ replaces D 40 ∷ accepts 40 ∷ []) ≡ 0
+  -- a fill above the quantity that waits, and one in the report that accepts
+  filled-above : opens 7 (books ∷ replaces D 60 ∷ fills 70 70 (money 10) (money 10) ∷ []) ≡ shares 30
+  accepted-with-fill : opens 7 (books ∷ replaces D 60 ∷ reportOf (X- 1) 53 49 40 (money 10) 40 (money 10) [] ∷ []) ≡ shares 20
   -- a booking moves it, without a message
   booking : moves [] books ≡ moved [] 0 100
   -- the status of a refusal moves it: with the client's cancel by a message 17 alone, with the gateway's by no message at all
@@ -102,6 +120,18 @@ opened = record {
   pending-replace = refl;
   waiting = refl;
   accepted = refl;
+  waiting-down = refl;
+  pending-down = refl;
+  refused-down = refl;
+  accepted-down = refl;
+  waiting-up-filled = refl;
+  accepted-up-filled = refl;
+  waiting-down-filled = refl;
+  accepted-down-filled = refl;
+  waiting-to-filled = refl;
+  accepted-to-filled = refl;
+  filled-above = refl;
+  accepted-with-fill = refl;
   booking = refl;
   refusal = refl;
   refusal-silent = refl;

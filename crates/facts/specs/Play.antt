@@ -37,7 +37,7 @@ use Rattle.bits.specs.Map.{mapOf}
 use Rattle.machine.specs.Messages.{noExec, noTold, noLongText, bitIf, termsBits, noteBits, report, cancelReject, toVenue, newOrder, cancelRequest, replaceRequest}
 use Rattle.machine.specs.Changes.{Message, isFirst, isReplace, isGateway, isCancel, isAnswered, unchanged, refusing, answering, superseding, adding, telling, alarming, nextLink, nextNumber, nextDownstream, nextRequest, numberedOrder}
 use Rattle.machine.specs.GatewayCancel.{outstandingCancel, gatewayCancelInFlight, begun, trySent, givenUp, sendGatewayCancel, cancelOrder, gatewayCancelWaiting, resumeGatewayCancel, stuck, retryGatewayCancel, saysGone, gatewayCancelRefused}
-use Rattle.machine.specs.Amend.{matches, amendRefusal, refuse, statusReport, alreadyTaken, cancelRefusal, cancelGoes, cancel, orOwn, priceOf, verdictText, checkReplace, replaceRefusal, newTerms, pricedRight, newPending, replaceGoes, replace, notPending, refusedOrder, refusedAlarm, refusedNote, refuseRequest, venueNote, venueCancelReject, sendRefused, firstFailed, sendFailed, resendable, unsent}
+use Rattle.machine.specs.Amend.{matches, amendRefusal, refuse, redeliveredReport, alreadyTaken, cancelRefusal, cancelGoes, cancel, orOwn, priceOf, verdictText, checkReplace, replaceRefusal, newTerms, pricedRight, newPending, replaceGoes, replace, notPending, refusedOrder, refusedAlarm, refusedNote, refuseRequest, venueNote, venueCancelReject, sendRefused, firstFailed, sendFailed, resendable, unsent}
 use Rattle.machine.specs.Report.{saysUnknownAtVenue, unknownAtVenue, isRejection, pendingHere, behind, stale, repeats, droppedStale, droppedRepeat, statusTaken, accepts, answersRequest, orderedQty, reportedOrder, fillPriceOf, reportNote, clientReport, settles, applyReport, venueReport}
 use Rattle.machine.specs.Machine.{orderOf, latestCancel, orderAtLink, findingsOf, bookedOrder, firstRequest, unused, bookOrder, amending, onRequest, onReport, onName, changeOf, hasRoom, stepOf, answerLink, ordersAfter, requestsAfter, after}
 use Rattle.machine.specs.Ranges.{textWithin, nameRange}
@@ -177,7 +177,7 @@ abbrev pub decoded : List ℕ → Decoded
 decoded s = if eqb (eventRefusal s) 0 then readAs (eventIn s) else unread (eventRefusal s)
 
 unfoldable pub called : Book → List ℕ → Change
-unfolding eventIn eventRefusal recordAt nameIn ranged longOf blank extent next start strip part content value endOf shaped rightAt inRange fields size range isKind requiredBits allowedBits required allowed joined bitsRight sides ordtypes timesinforce statuses exectypes isSide isOrdtype isTimeinforce isStatus isExectype isAlnum isNone isName allBelow firstBelow countBelow if_then_else_ maybe span listBelow textOf contents sameText isText numberedText decimal digitsOf fillPrice implied byLastPx nearest up atHalf oneMore hasPending hasGateway limitPrice isDone leavesOf leavesQty asAsked statusAt isShort unlessShort shortAlarm setStatus keptOrderId recordVenueOrderId pendingTerms applyReplace nextSequence nextExec bitIf termsBits noteBits report cancelReject toVenue newOrder cancelRequest replaceRequest isFirst isReplace isGateway isCancel isAnswered unchanged refusing answering superseding adding telling alarming nextLink nextNumber nextDownstream nextRequest numberedOrder outstandingCancel gatewayCancelInFlight begun trySent givenUp sendGatewayCancel cancelOrder gatewayCancelWaiting resumeGatewayCancel stuck retryGatewayCancel saysGone gatewayCancelRefused matches amendRefusal refuse statusReport alreadyTaken cancelRefusal cancelGoes cancel orOwn priceOf verdictText checkReplace replaceRefusal newTerms pricedRight newPending replaceGoes replace notPending refusedOrder refusedAlarm refusedNote refuseRequest venueNote venueCancelReject sendRefused firstFailed sendFailed resendable unsent saysUnknownAtVenue unknownAtVenue isRejection pendingHere behind stale repeats droppedStale droppedRepeat statusTaken accepts answersRequest orderedQty reportedOrder fillPriceOf reportNote clientReport settles applyReport venueReport findName findDownstream findClordid ofClient countClordids orderOf latestCancel orderAtLink findingsOf bookedOrder firstRequest unused bookOrder amending onRequest onReport onName changeOf hasRoom stepOf answerLink ordersAfter requestsAfter after textWithin nameRange rules namesRange forceRange pricedRange termsRange pendingRange gatewayRange orderRange requestRange linked currentRule cancelRule pendingRule filledRule statusRule doneRule triesRule amendmentsRule orderRule numberIn nameNumber numberRule inFlightRule requestRule sameKey comesTo messagesOf leftBy
+unfolding eventIn eventRefusal recordAt nameIn ranged longOf blank extent next start strip part content value endOf shaped rightAt inRange fields size range isKind requiredBits allowedBits required allowed joined bitsRight sides ordtypes timesinforce statuses exectypes isSide isOrdtype isTimeinforce isStatus isExectype isAlnum isNone isName allBelow firstBelow countBelow if_then_else_ maybe span listBelow textOf contents sameText isText numberedText decimal digitsOf fillPrice implied byLastPx nearest up atHalf oneMore hasPending hasGateway limitPrice isDone leavesOf leavesQty asAsked statusAt isShort unlessShort shortAlarm setStatus keptOrderId recordVenueOrderId pendingTerms applyReplace nextSequence nextExec bitIf termsBits noteBits report cancelReject toVenue newOrder cancelRequest replaceRequest isFirst isReplace isGateway isCancel isAnswered unchanged refusing answering superseding adding telling alarming nextLink nextNumber nextDownstream nextRequest numberedOrder outstandingCancel gatewayCancelInFlight begun trySent givenUp sendGatewayCancel cancelOrder gatewayCancelWaiting resumeGatewayCancel stuck retryGatewayCancel saysGone gatewayCancelRefused matches amendRefusal refuse redeliveredReport alreadyTaken cancelRefusal cancelGoes cancel orOwn priceOf verdictText checkReplace replaceRefusal newTerms pricedRight newPending replaceGoes replace notPending refusedOrder refusedAlarm refusedNote refuseRequest venueNote venueCancelReject sendRefused firstFailed sendFailed resendable unsent saysUnknownAtVenue unknownAtVenue isRejection pendingHere behind stale repeats droppedStale droppedRepeat statusTaken accepts answersRequest orderedQty reportedOrder fillPriceOf reportNote clientReport settles applyReport venueReport findName findDownstream findClordid ofClient countClordids orderOf latestCancel orderAtLink findingsOf bookedOrder firstRequest unused bookOrder amending onRequest onReport onName changeOf hasRoom stepOf answerLink ordersAfter requestsAfter after textWithin nameRange rules namesRange forceRange pricedRange termsRange pendingRange gatewayRange orderRange requestRange linked currentRule cancelRule pendingRule filledRule statusRule doneRule triesRule amendmentsRule orderRule numberIn nameNumber numberRule inFlightRule requestRule sameKey comesTo messagesOf leftBy
 called b s = comesTo b (decoded s)
 
 abbrev pub empty : (setting : ℕ) → Book

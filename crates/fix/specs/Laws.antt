@@ -2,4 +2,3 @@ pub mod Plan
 pub mod Planned
 pub mod Putting
 pub mod Whole
-pub mod Claimed

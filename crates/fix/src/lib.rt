@@ -1,29 +1,24 @@
 // FIX 4.4 messages of our records, for a host that calls these entries as C functions on byte slices:
 // `fix_write` writes the message of a record, `fix_read` gives the fields of a message, and `message_at`
-// says where message n of an answer stands. What messages are stands in fix_words, with its laws; the
-// modules do the writing, fix_reader the reading, and each entry equals a definition. Each is total:
-// whatever the bytes, it returns its number, and a refused call has written nothing. Rests on records,
-// cut, decimal, fix_table and fix_reader.
+// says where message n of an answer stands. What messages are stands in fix_words, with its laws; what
+// the entries return and what is promised of it in fix_claims; the modules do the writing, fix_reader
+// the reading, and each entry equals a definition. Each is total: whatever the bytes, it returns its
+// number, and a refused call has written nothing. Rests on records, cut, decimal, fix_claims, fix_table
+// and fix_reader.
 ghost use mathlib.Core.Path.{_≡_};
 ghost use Rattle.cut.specs.Place.{placeOf};
 ghost use Rattle.fix_words.specs.Record.{session};
-ghost use Rattle.fix_reader.specs.Reading.{fieldsRead};
-ghost use Rattle.fix.specs.Call.{wrote, writeCall};
+ghost use Rattle.fix_claims.specs.Reading.{fieldsRead};
+ghost use Rattle.fix_claims.specs.Call.{wrote, writeCall};
 use cut::Place;
-use fix_reader::FixFields;
+use fix_claims::FixFields;
+use fix_claims::Written;
 
 mod put; // the writer's bytes
 mod room; // the writer's length
 mod value;
 mod words_of;
 mod write;
-
-// The refusal, or 0 and the length of what was written. With a refusal the length is 0.
-#[repr(C)]
-pub struct Written {
-    pub refusal: u32,
-    pub length: u64,
-}
 
 // Writes the FIX message of a message record to the front of `out`, with the session's comp IDs,
 // sequence number and time text.

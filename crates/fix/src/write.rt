@@ -9,13 +9,13 @@ ghost use Rattle.fix_words.specs.Message.{isText, bytesFor};
 ghost use Rattle.fix_words.specs.Record.{session, writingOf, writeOf};
 ghost use Rattle.fix.specs.Laws.Plan.{Parted, textRight, textsRight, lessBy, innerLong, Decided};
 ghost use Rattle.fix_table.specs.Table.{formOf};
-use crate::Written;
 use crate::put;
 use crate::room;
 use crate::room::Room;
 use crate::value::minus;
+use fix_claims::Written;
 use fix_table::form_of;
-ghost use Rattle.fix.specs.Call.{wrote, writeCall};
+ghost use Rattle.fix_claims.specs.Call.{wrote, writeCall};
 
 // What was decided before a byte is written: a refusal, or the record's parts and the body's length.
 pub(crate) struct Plan {

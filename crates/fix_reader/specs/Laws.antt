@@ -8,7 +8,6 @@ pub mod Numbers
 pub mod Decimals
 pub mod Classes
 pub mod Facts
-pub mod Table
 pub mod End
 pub mod Cut
 pub mod Bits

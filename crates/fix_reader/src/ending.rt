@@ -8,7 +8,7 @@ ghost use Rattle.decimal.specs.Decimal.{digits};
 ghost use Rattle.fix_words.specs.Lists.{same};
 ghost use Rattle.fix_words.specs.Spelling.{fieldsIn, spellings};
 ghost use Rattle.fix_words.specs.Message.{stamp, valueAt};
-ghost use Rattle.fix_reader.specs.Reading.{tagOf};
+ghost use Rattle.fix_claims.specs.Reading.{tagOf};
 ghost use Rattle.fix_reader.specs.Laws.Checks.{init, sumField, sameFields, kindIn, closed};
 ghost use Rattle.fix_reader.specs.Laws.Cut.{Placed, Cut};
 ghost use Rattle.fix_reader.specs.Laws.Ending.{sumDigits};

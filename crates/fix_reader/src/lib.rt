@@ -3,10 +3,11 @@
 // header, each value by its row (`walk`, `values`), the end (`ending`). What is asked is specs/Laws/Checks;
 // that it is exactly the writer's image is proved there. Rests on fix_table, decimal and places.
 ghost use mathlib.Core.Path.{_≡_};
-ghost use Rattle.fix_reader.specs.Reading.{fieldsRead};
+ghost use Rattle.fix_claims.specs.Reading.{fieldsRead};
 ghost use Rattle.fix_reader.specs.Laws.Checks.{checks};
 ghost use Rattle.fix_reader.specs.Laws.Cut.{Cut};
 ghost use Rattle.fix_words.specs.Spelling.{fieldsIn};
+use fix_claims::FixFields;
 
 mod ending;
 mod exec;
@@ -15,17 +16,6 @@ mod pieces; // the fields
 mod price; // a number of two words
 mod values; // texts, codes, numbers, names
 mod walk;
-
-// The fields of a message: each one's tag, where its value stands and how long it is; zeros behind
-// them and with a refusal.
-#[repr(C)]
-pub struct FixFields {
-    pub refusal: u32,
-    pub count: u32,
-    pub tag: [u32; 32],
-    pub at: [u64; 32],
-    pub length: [u64; 32],
-}
 
 // A tag, 0 where there is none, and where its value starts.
 struct Tag {

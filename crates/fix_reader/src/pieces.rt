@@ -5,10 +5,10 @@ ghost use Prim.Native.Nat.{_<_, _≤_};
 ghost use lib.ListN.{length, getD};
 ghost use Rattle.fix_reader.specs.Laws.Pieces.{Tagged, Ends, Pieced};
 ghost use Rattle.fix_reader.specs.Laws.Split.{Splits};
-ghost use Rattle.fix_reader.specs.Reading.{tabled};
-use crate::FixFields;
+ghost use Rattle.fix_claims.specs.Reading.{tabled};
 use crate::Piece;
 use crate::Tag;
+use fix_claims::FixFields;
 
 // Byte i as a number, 0 behind the end.
 fn byte(t: &[u8], i: usize) -> u32

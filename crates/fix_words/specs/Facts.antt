@@ -98,6 +98,12 @@ abbrev rejectOf : List Held → List ℕ
 rejectOf texts =
     made 17 (holds 0 (3 ∷ 0 ∷ []) ∷ says 3 "c" ∷ says 4 "b" ∷ says 13 "0" ∷ holds 19 (1 ∷ 0 ∷ 0 ∷ 0 ∷ []) ∷ (texts ++ (holds 28 (1 ∷ []) ∷ holds 29 (1 ∷ []) ∷ [])))
 
+-- and one whose ClOrdID, OrigClOrdID and text have bytes 32, 61 and from 127 on
+abbrev highReject : List ℕ
+highReject =
+    made 17 (holds 0 (3 ∷ 0 ∷ []) ∷ holds 3 (127 ∷ 255 ∷ []) ∷ holds 4 (32 ∷ 128 ∷ []) ∷ says 13 "0" ∷ holds 19 (1 ∷ 0 ∷ 0 ∷ 0 ∷ []) ∷ holds 20 (61 ∷ 200 ∷ [])
+    ∷ holds 28 (1 ∷ []) ∷ holds 29 (1 ∷ []) ∷ [])
+
 -- a cancel with this venue OrderID
 abbrev cancelOf : String → List ℕ
 cancelOf name = made 19 (holds 1 (3 ∷ 0 ∷ []) ∷ says 5 "B" ∷ says 6 "X" ∷ says 7 "1" ∷ says 8 "1" ∷ word 9 1 ∷ says 18 name ∷ says 30 "A" ∷ [])
@@ -151,13 +157,16 @@ record Answers : Type 0 where
   low-target : answerIn least (ascii "S") (31 ∷ 84 ∷ []) (ascii "t") ≡ 9
   low-time : answerIn least (ascii "S") (ascii "T") (116 ∷ 1 ∷ []) ≡ 9
   high-bytes : answerIn least (32 ∷ []) (61 ∷ 127 ∷ []) (255 ∷ []) ≡ 0
+  high-texts : answerTo highReject ≡ 0
   low-text : answerTo (rejectOf (holds 20 (110 ∷ 10 ∷ []) ∷ [])) ≡ 9
   venue-named : answerTo (cancelOf "V") ≡ 0
   venue-unnamed : answerTo (cancelOf "") ≡ 9
   four-first : answerIn (leastOf "X" "9") [] (ascii "T") (ascii "t") ≡ 4
-  -- 10: room for all 89 bytes or none
+  -- 10: room for all bytes, 89 of an order and 165 of a report, or none
   room : writeRefusal least here 89 ≡ 0
   no-room : writeRefusal least here 88 ≡ 10
+  report-room : writeRefusal (reportOf "A" [] []) here 165 ≡ 0
+  report-no-room : writeRefusal (reportOf "A" [] []) here 164 ≡ 10
   nine-first : writeRefusal least (session [] (ascii "T") 702 (ascii "t")) 0 ≡ 9
 
 answers : Answers
@@ -197,12 +206,15 @@ answers = record {
   low-target = refl;
   low-time = refl;
   high-bytes = refl;
+  high-texts = refl;
   low-text = refl;
   venue-named = refl;
   venue-unnamed = refl;
   four-first = refl;
   room = refl;
   no-room = refl;
+  report-room = refl;
+  report-no-room = refl;
   nine-first = refl;
 }
 

@@ -6,3 +6,4 @@ pub mod Claim
 pub mod Said
 pub mod DoneForDay
 pub mod Exchange
+pub mod Venue

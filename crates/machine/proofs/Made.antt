@@ -18,7 +18,7 @@ use Rattle.machine.specs.Orders.{hasGateway, isDone, shortAlarm, setStat
 use Rattle.machine.specs.Messages.{noMessage, noPrice, noNote, noLongText, report, cancelReject, newOrder, cancelRequest, replaceRequest}
 use Rattle.machine.specs.Changes.{Event, Message, unchanged, refusing, adding, answering, superseding, telling, alarming, isFirst, isReplace, isGateway, isCancel, isAnswered}
 use Rattle.machine.specs.GatewayCancel.{outstandingCancel, gatewayCancelInFlight, begun, trySent, givenUp, sendGatewayCancel, cancelOrder, gatewayCancelWaiting, resumeGatewayCancel, stuck, retryGatewayCancel, gatewayCancelRefused}
-use Rattle.machine.specs.Amend.{amendRefusal, refuse, statusReport, alreadyTaken, cancelRefusal, cancelGoes, cancel, orOwn, replaceRefusal, pricedRight, replaceGoes, replace, refusedOrder, refusedAlarm, refusedNote, refuseRequest, venueNote, venueCancelReject, sendRefused, firstFailed, sendFailed, resendable, unsent}
+use Rattle.machine.specs.Amend.{amendRefusal, refuse, redeliveredReport, alreadyTaken, cancelRefusal, cancelGoes, cancel, orOwn, replaceRefusal, pricedRight, replaceGoes, replace, refusedOrder, refusedAlarm, refusedNote, refuseRequest, venueNote, venueCancelReject, sendRefused, firstFailed, sendFailed, resendable, unsent}
 use Rattle.machine.specs.Report.{unknownAtVenue, stale, droppedStale, droppedRepeat, statusTaken, accepts, answersRequest, orderedQty, reportedOrder, fillPriceOf, clientReport, settles, applyReport, venueReport}
 use Rattle.machine.specs.Machine.{textNote, onReport}
 use Rattle.machine.specs.declared.Findings.{Findings}
@@ -402,13 +402,13 @@ module _ (order : ℕ) (full : Bool) (o : Order) (e : Event) (p : ℕ) (x : Requ
   D = Amended order full o e p x m n
 
   pub cancel-made : eqb (e .kind) 2 ≡ true → D (cancel (findings p x m) order full o e) (cancel (findings p x n) order full o e)
-  unfolding cancel alreadyTaken amendRefusal cancelRefusal gatewayCancelInFlight outstandingCancel statusReport refuse
+  unfolding cancel alreadyTaken amendRefusal cancelRefusal gatewayCancelInFlight outstandingCancel redeliveredReport refuse
   cancel-made z =
       split-two D _ (λ h. unfold telling unchanged if_then_else_ in repeated h)
       (λ h. split-two D _ (λ t. unfold telling unchanged if_then_else_ in turned of-cancel t) (cancel-sent z))
 
   pub replace-made : D (replace (findings p x m) order full o e) (replace (findings p x n) order full o e)
-  unfolding replace alreadyTaken amendRefusal replaceRefusal gatewayCancelInFlight outstandingCancel statusReport refuse
+  unfolding replace alreadyTaken amendRefusal replaceRefusal gatewayCancelInFlight outstandingCancel redeliveredReport refuse
   replace-made =
       split-two D _ (λ h. unfold telling unchanged if_then_else_ in repeated h)
       (λ h. split-two D _ (λ t. unfold telling unchanged if_then_else_ in turned of-replace t) (λ t. split-two D _ (λ u. unpriced t) (λ u. replace-sent t (not-false _ u))))

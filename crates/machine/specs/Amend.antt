@@ -65,8 +65,8 @@ refuse f responseto o e r =
     (unchanged (f .place) o)
 
 -- a request that was already taken, sent again: the order's state under the request's own ClOrdIDs
-unfoldable pub statusReport : Findings → Order → Event → Change
-statusReport f o e =
+unfoldable pub redeliveredReport : Findings → Order → Event → Change
+redeliveredReport f o e =
     telling (report (nextExec o) (e .ids .clordid) (e .ids .origclordid) execStatus 0 noPrice noNote) (unchanged (f .place) (nextExec o))
 
 -- the event was redelivered, and its ClOrdID was used for this very order
@@ -77,7 +77,7 @@ alreadyTaken f order e = has e 21 && not (eqb order 0) && eqb order (f .place)
 abbrev pub amendable : Findings → (responseto order : ℕ) (full : Bool) → Order → Event → (own : Refusal) (goes : Change) → Change
 amendable f responseto order full o e own goes =
     let r = amendRefusal f order full o e own in
-    if alreadyTaken f order e then statusReport f o e
+    if alreadyTaken f order e then redeliveredReport f o e
     else if not (eqb (r .fixedtext) 0) then refuse f responseto o e r
     else goes
 

@@ -20,3 +20,5 @@ pub mod Short
 pub mod DoneForDay
 pub mod Said
 pub mod Exchange
+pub mod Status
+pub mod Sources

@@ -4,4 +4,5 @@ pub mod Calls
 pub mod Written
 pub mod Stands
 pub mod Sound
+pub mod Names
 pub mod Last

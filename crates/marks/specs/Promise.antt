@@ -1,5 +1,5 @@
--- What the two calls do, said once more of the places' own bytes, for any book, name and places; and that a mark stands until its name is set again.
--- Rests on Marks. All of it is proved in Laws/Sound, Laws/Stands and Laws/Last.
+-- What the two calls do, said once more of the places' own bytes and of the name's, for any book, name and places; and that a mark stands until its name is
+-- set again. Rests on Marks. All of it is proved in Laws/Sound, Laws/Names, Laws/Stands and Laws/Last.
 use Prim.Native.Nat.{ℕ, _+_, _*_, _≤_, _<_}
 use mathlib.Core.Path.{_≡_}
 use mathlib.Core.Bool.{true, false}
@@ -69,6 +69,31 @@ pub record IsReturn (book name places : List ℕ) (r : Marked) : Type 0 where
 
 abbrev pub SoundReturn : Type 0
 SoundReturn = (book name places : List ℕ) → IsReturn book name places (returnOf book name places)
+
+-- ---- which names are refused: "1–16 letters or digits", in numbers
+
+abbrev pub Alnum : ℕ → Type 0
+Alnum c = ((48 ≤ c) × (c ≤ 57)) ⊎ (((65 ≤ c) × (c ≤ 90)) ⊎ ((97 ≤ c) × (c ≤ 122)))
+
+-- a byte of the name is neither a digit nor a letter, of either case
+pub record OddByte (name : List ℕ) : Type 0 where
+  pub at : ℕ
+  pub inside : at < length name
+  pub odd : Alnum (getD name at 0) → ⊥
+
+-- it is empty, or longer than 16, or has such a byte, wherever it stands
+abbrev pub Malformed : List ℕ → Type 0
+Malformed name = (length name ≡ 0) ⊎ ((16 < length name) ⊎ OddByte name)
+
+-- 13, after 1, exactly if the name is malformed
+pub record Thirteen (book name : List ℕ) (returned : ℕ) : Type 0 where
+  pub refused : keepsOf book ≡ true → Malformed name → returned ≡ 13
+  pub only : returned ≡ 13 → (keepsOf book ≡ true) × Malformed name
+
+-- so of both calls, whatever the places
+pub record NamesRight : Type 0 where
+  pub sets : (book name places : List ℕ) → Thirteen book name (setMarkOf book name places .returned)
+  pub returns : (book name places : List ℕ) → Thirteen book name (returnOf book name places .returned)
 
 -- ---- what both keep, for lists of calls
 

@@ -5,7 +5,7 @@ use mathlib.Core.Path.{_≡_, refl}
 use mathlib.Core.Bool.{true, false}
 use mathlib.Core.Option.{none, some}
 use mathlib.Core.List.{List, [], _∷_, _++_}
-use lib.ListN.{length}
+use lib.ListN.{length, replicate}
 use Rattle.prelude.specs.Below.{allBelow, firstBelow}
 use Rattle.prelude.specs.Bytes.{zeros}
 use Rattle.prelude.specs.Cases.{if_then_else_, maybe}
@@ -26,6 +26,16 @@ sixteen = 97 ∷ 98 ∷ 99 ∷ 100 ∷ 101 ∷ 102 ∷ 122 ∷ 65 ∷ 90 ∷ 48 
 pub sample-names : (isMarkName A ≡ true) × (isMarkName sixteen ≡ true) × (isMarkName (78 ∷ 79 ∷ 78 ∷ 69 ∷ []) ≡ true)
 unfolding isMarkName isAlnum allBelow
 sample-names = (refl, refl, refl)
+
+-- digits alone are a name, and so is one with a digit first: 0, 9a, sixteen zeros
+pub sample-digits : (isMarkName (48 ∷ []) ≡ true) × (isMarkName (57 ∷ 97 ∷ []) ≡ true) × (isMarkName (replicate 16 48) ≡ true)
+unfolding isMarkName isAlnum allBelow
+sample-digits = (refl, refl, refl)
+
+-- a sign at either end, among letters and digits: -A, A-
+pub sample-ends : (isMarkName (45 ∷ A) ≡ false) × (isMarkName (65 ∷ 45 ∷ []) ≡ false)
+unfolding isMarkName isAlnum allBelow
+sample-ends = (refl, refl)
 
 pub sample-malformed : (isMarkName (65 ∷ 0 ∷ 66 ∷ []) ≡ false) × (isMarkName (65 ∷ 45 ∷ 49 ∷ []) ≡ false) × (isMarkName [] ≡ false) × (isMarkName (sixteen ++ A) ≡ false)
 unfolding isMarkName isAlnum allBelow

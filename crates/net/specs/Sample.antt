@@ -1,5 +1,5 @@
--- Six orders and their net position, by values and by bytes: purchases, a short sale and a done order of one client in WHEAT; another client
--- in WHEAT, booked first with nothing filled; and a symbol that is WHEAT and a zero byte. Rests on Net.
+-- Seven orders and their net position, by values and by bytes: purchases, a short sale and a done order of one client in WHEAT; another client
+-- in WHEAT, booked first with nothing filled; a symbol that is WHEAT and a zero byte, and one that differs in its last byte. Rests on Net.
 -- What it shuts out: short sales as purchases (+210), done orders left out (-130), positions by last booking, symbols by their bytes alone.
 use Prim.Native.Nat.{ℕ, _-_, _^_}
 use mathlib.Core.Path.{_≡_, refl}

@@ -11,7 +11,7 @@ unfolding replace if_then_else_
 returns c =
     let c1 = c .before in
     let c2 = c1 .before in
-    rw (← c2 .already-taken .ensures, c1 .if1 .taken, ← c .status-report .ensures)
+    rw (← c2 .already-taken .ensures, c1 .if1 .taken, ← c .redelivered-report .ensures)
 
 returns-2 : tie.Need-returns-2
 unfolding replace if_then_else_

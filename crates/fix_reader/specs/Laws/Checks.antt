@@ -23,7 +23,7 @@ use Rattle.fix_words.specs.Spelling.{Field, field, spellings, fieldsIn, printab
 use Rattle.fix_words.specs.Rows.{Row, Values, body, valueIn, inRows}
 use Rattle.fix_words.specs.Values.{tables, rows, typeOf, kindOf, valueOf, contents}
 use Rattle.fix_words.specs.Message.{Writing, version, stamp, inner, front, sum, trailer, framed, fieldsOf, bytesFor, shapeAt, rangeAt, textAt, isText, paired, shaped, ranged, texted, typed, isWriting, valueAt, looseOf, isMessage, Read, readOf}
-use Rattle.fix_reader.specs.Reading.{noField, tagOf}
+use Rattle.fix_claims.specs.Reading.{noField, tagOf}
 use Rattle.fix_words.specs.Laws.Lists.{same-true, same-self}
 use Rattle.fix_words.specs.Laws.Rows.{allApart, stand, value-back, value-none, body-same, body-append}
 use Rattle.fix_words.specs.Laws.Kinds.{by-kind, kind-back, rows-apart, right, mustIn, with-name}

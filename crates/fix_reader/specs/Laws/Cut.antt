@@ -19,10 +19,10 @@ use Rattle.fix_words.specs.Spelling.{Field, spellings, fieldsIn}
 use Rattle.fix_words.specs.Rows.{leads}
 use Rattle.fix_words.specs.Message.{valueAt}
 use Rattle.fix_words.specs.Laws.Spelling.{fields-back}
-use Rattle.fix_reader.specs.declared.FixFields.{FixFields}
-use Rattle.fix_reader.specs.Reading.{noField, tagOf, placeOf, lengthOf, tabled}
+use Rattle.fix_claims.specs.declared.FixFields.{FixFields}
+use Rattle.fix_claims.specs.Reading.{noField, tagOf, placeOf, lengthOf, tabled}
 use Rattle.fix_reader.specs.Laws.Split.{Plains, plains-print, Found}
-use Rattle.fix_reader.specs.Laws.Table.{value-stands, value-within}
+use Rattle.fix_claims.specs.Laws.Table.{value-stands, value-within}
 
 -- the bytes are fields, and the tables say where their values stand
 pub record Placed (s at len : List ℕ) : Type 0 where

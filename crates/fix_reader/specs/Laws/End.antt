@@ -12,16 +12,16 @@ use Rattle.prelude.specs.Bytes.{bytes-span}
 use Rattle.prelude.specs.Cases.{if_then_else_, if-true, if-false}
 use Rattle.prelude.specs.Number.{Bytes}
 use Rattle.prelude.specs.Span.{span}
-use Rattle.fix_reader.specs.declared.FixFields.{FixFields}
+use Rattle.fix_claims.specs.declared.FixFields.{FixFields}
 use Rattle.fix_words.specs.Lists.{every}
 use Rattle.fix_words.specs.Spelling.{Field, spellings, fieldsIn}
 use Rattle.fix_words.specs.Message.{valueAt, isMessage, Read, readOf}
-use Rattle.fix_reader.specs.Reading.{noField, placeOf, lengthOf, tabled, fieldsRead}
+use Rattle.fix_claims.specs.Reading.{noField, placeOf, lengthOf, tabled, fieldsRead}
 use Rattle.fix_words.specs.Laws.Lists.{below-every}
 use Rattle.fix_words.specs.Laws.Spelling.{fields-back}
 use Rattle.fix_reader.specs.Laws.Split.{Splits, plains-print}
 use Rattle.fix_reader.specs.Laws.Checks.{checks, message-is}
-use Rattle.fix_reader.specs.Laws.Table.{value-stands}
+use Rattle.fix_claims.specs.Laws.Table.{value-stands}
 use Rattle.fix_reader.specs.Laws.Whole.{uncut}
 
 pub bytes-all : (c : List ℕ) → Bytes c → every (λ x. ltb x 256) c ≡ true

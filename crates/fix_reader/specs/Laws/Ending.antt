@@ -17,7 +17,7 @@ use Rattle.fix_words.specs.Lists.{same}
 use Rattle.fix_words.specs.Spelling.{Field, field, spellings}
 use Rattle.fix_words.specs.Message.{stamp, sum, valueAt}
 use Rattle.fix_words.specs.Laws.Spelling.{spellings-append}
-use Rattle.fix_reader.specs.Reading.{noField, tagOf, placeOf}
+use Rattle.fix_claims.specs.Reading.{noField, tagOf, placeOf}
 use Rattle.fix_reader.specs.Laws.Checks.{init, sumField, sameFields, same-fields}
 
 -- the sum of bytes as three digits

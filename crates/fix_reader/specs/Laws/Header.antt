@@ -18,7 +18,7 @@ use Rattle.fix_words.specs.Values.{types, typeOf, kindOf}
 use Rattle.fix_words.specs.Message.{version, isText, valueAt}
 use Rattle.fix_words.specs.Laws.Lists.{same-self}
 use Rattle.fix_words.specs.Laws.Held.{one-byte}
-use Rattle.fix_reader.specs.Reading.{tagOf}
+use Rattle.fix_claims.specs.Reading.{tagOf}
 use Rattle.fix_reader.specs.Laws.Numbers.{same-long}
 use Rattle.fix_reader.specs.Laws.Classes.{text-some}
 use Rattle.fix_reader.specs.Laws.Checks.{kindIn, headTags, isNumber, headed, ends, checks}

@@ -15,10 +15,10 @@ use Rattle.prelude.specs.Cases.{if_then_else_, if-true, if-false, both-true, bo
 use Rattle.prelude.specs.Lists.{listBelow, length-list, get-list}
 use Rattle.prelude.specs.Span.{span, length-span}
 use Rattle.decimal.specs.Decimal.{digits}
-use Rattle.fix_reader.specs.declared.FixFields.{FixFields}
+use Rattle.fix_claims.specs.declared.FixFields.{FixFields}
 use Rattle.fix_words.specs.Lists.{every, isPrint, isNot, after}
 use Rattle.fix_words.specs.Spelling.{Field, field, soh, equals, piece, spellings, printable}
-use Rattle.fix_reader.specs.Reading.{noField, tagOf, placeOf, lengthOf, tabled}
+use Rattle.fix_claims.specs.Reading.{noField, tagOf, placeOf, lengthOf, tabled}
 use Rattle.fix_words.specs.Laws.Lists.{every-append, every-map, after-cut}
 use Rattle.fix_words.specs.Laws.Digits.{digits-not}
 use Rattle.fix_words.specs.Laws.Spelling.{spellings-append}

@@ -18,7 +18,7 @@ use Rattle.fix_words.specs.Message.{valueAt}
 use Rattle.fix_table.specs.Table.{noRow, rowAt}
 use Rattle.fix_words.specs.Laws.Rows.{or-right}
 use Rattle.fix_reader.specs.declared.Taken.{Taken}
-use Rattle.fix_reader.specs.Reading.{noField}
+use Rattle.fix_claims.specs.Reading.{noField}
 use Rattle.fix_reader.specs.Laws.Walk.{Asked, firstValue, walk}
 use Rattle.fix_reader.specs.Laws.Fits.{askedBy}
 

@@ -13,7 +13,7 @@ use lib.ListN.{getD}
 use Rattle.prelude.specs.Cases.{if_then_else_, if-true, if-false, isSome, clash, both-true, both-false, either-true, either-false, none-some, same-some}
 use Rattle.fix_words.specs.Spelling.{Field, field}
 use Rattle.fix_words.specs.Rows.{Row, Values, fieldOf, body, leads, first, rest, valueIn, inRows}
-use Rattle.fix_reader.specs.Reading.{noField}
+use Rattle.fix_claims.specs.Reading.{noField}
 use Rattle.fix_words.specs.Laws.Rows.{apart, allApart, stand, missing, leads-apart, body-same, value-none, or-right}
 use Rattle.fix_words.specs.Laws.Kinds.{mustIn, must-row}
 

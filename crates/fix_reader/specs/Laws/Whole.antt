@@ -1,14 +1,12 @@
 -- Bytes that cannot be cut into fields are no message: a message has at most 29 fields, with tags of at most three digits. Rests on
 -- Checks and Split.
-use Prim.Native.Nat.{ℕ, suc, _+_, _≤_, _<_}
+use Prim.Native.Nat.{ℕ}
 use mathlib.Core.Path.{_≡_, refl, sym, ap, _∙_}
 use mathlib.Core.List.{List, [], _∷_, _++_}
 use mathlib.Core.Bool.{Bool, true, false, _&&_}
 use mathlib.Core.Option.{Option, none, some}
-use native.Mathlib.Omega.{arith}
-use borrow.Author.Tests.{ltb-true, leb-true}
+use borrow.Author.Tests.{ltb-true}
 use lib.Dec.{ltb, leb}
-use lib.ListN.{length, length-append}
 use Rattle.prelude.specs.Cases.{if_then_else_, split-if, both-true, both-hold}
 use Rattle.format.specs.Codes.{within}
 use Rattle.fix_words.specs.Lists.{every, isPrint, same}
@@ -19,6 +17,7 @@ use Rattle.fix_words.specs.Message.{Writing, stamp, inner, front, trailer, fram
 use Rattle.fix_words.specs.Laws.Lists.{same-true}
 use Rattle.fix_words.specs.Laws.Kinds.{by-kind}
 use Rattle.fix_words.specs.Laws.Trip.{fields-print}
+use Rattle.fix_claims.specs.Laws.Table.{fields-few}
 use Rattle.fix_reader.specs.Laws.Pieces.{Plain}
 use Rattle.fix_reader.specs.Laws.Split.{Plains, NoFields}
 
@@ -56,47 +55,24 @@ plains-of (f ∷ fs) a b =
     let p = both-true (every isPrint (f .value)) (printable fs) b in
     (record { some = ltb-true 0 (f .tag) (t .0); small = ltb-true (f .tag) 1000 (t .1); prints = p .0 }, plains-of fs (h .1) (p .1))
 
--- ---- how many
+-- ---- the fields of a writing
 
-body-long : (vs : Values) (fs : List Field) (rows : List Row) → length (body rows vs fs) ≤ length rows + length fs
-unfolding body
-body-long vs fs [] = omega arith
-body-long vs fs (r ∷ rows) = go (vs (r .bit)) (body-long vs fs rows)
-  where
-    go : (o : Option (List ℕ)) → length (body rows vs fs) ≤ length rows + length fs → length (fieldOf (r .tag) o (body rows vs fs)) ≤ suc (length rows) + length fs
-    go none h = omega arith
-    go (some v) h = omega arith
-
-rows-right : (k : ℕ) → within 16 20 k ≡ true → (rowsTagged (rows k) && leb (length (rows k)) 20) ≡ true
+rows-tagged : (k : ℕ) → within 16 20 k ≡ true → rowsTagged (rows k) ≡ true
 unfolding rows tables
-rows-right = by-kind (λ k. (rowsTagged (rows k) && leb (length (rows k)) 20) ≡ true) refl refl refl refl refl
+rows-tagged = by-kind (λ k. rowsTagged (rows k) ≡ true) refl refl refl refl refl
 
 module _ (w : Writing) (is : isWriting w ≡ true) where
   kind : within 16 20 (w .kind) ≡ true
   unfolding isWriting shaped
   kind = both-true (within 16 20 (w .kind)) _ (both-true (shaped (w .kind) (w .at)) _ (both-true (typed w) _ is .1) .0) .0
 
-  right : (rowsTagged (rows (w .kind)) ≡ true) × (leb (length (rows (w .kind))) 20 ≡ true)
-  right = both-true (rowsTagged (rows (w .kind))) (leb (length (rows (w .kind))) 20) (rows-right (w .kind) kind)
-
   fields-tagged : allTagged (fieldsOf w) ≡ true
   unfolding fieldsOf framed front inner
   fields-tagged =
       tagged-append (front (inner w)) (trailer (spellings (front (inner w))) ∷ [])
-      (body-tagged (valueOf (w .kind) (w .at)) (stamp (w .kind) (w .time) []) (rows (w .kind)) (right .0)
+      (body-tagged (valueOf (w .kind) (w .at)) (stamp (w .kind) (w .time) []) (rows (w .kind)) (rows-tagged (w .kind) kind)
       (split-if (λ (fs : List Field). allTagged fs ≡ true) (leb 18 (w .kind)) (λ e. refl) (λ e. refl)))
       refl
-
-  pub fields-few : length (fieldsOf w) ≤ 32
-  unfolding fieldsOf framed front inner
-  fields-few =
-      let s : length (stamp (w .kind) (w .time) []) ≤ 1 = split-if (λ (fs : List Field). length fs ≤ 1) (leb 18 (w .kind)) (λ e. omega arith) (λ e. omega arith) in
-      omega (
-        arith,
-        length-append (front (inner w)) (trailer (spellings (front (inner w))) ∷ []),
-        body-long (valueOf (w .kind) (w .at)) (stamp (w .kind) (w .time) []) (rows (w .kind)),
-        leb-true (length (rows (w .kind))) 20 (right .1),
-      )
 
   pub fields-plain : Plains (fieldsOf w)
   fields-plain = plains-of (fieldsOf w) fields-tagged (fields-print w is)

@@ -24,18 +24,18 @@ use Rattle.format.specs.Laws.Trip.{Fits, start-at, content-back}
 use Rattle.records.specs.Parts.{wholeMessage}
 use Rattle.format.specs.Refusal.{messageShaped, ranged as recordRanged, nameIn}
 use Rattle.records.specs.Laws.Reading.{within-most}
-use Rattle.fix_words.specs.Lists.{every}
+use Rattle.fix_words.specs.Lists.{every, same}
 use Rattle.fix_words.specs.Rows.{Values}
-use Rattle.fix_words.specs.Spelling.{Field, field, spellings}
+use Rattle.fix_words.specs.Spelling.{Field, field, spellings, fieldsIn}
 use Rattle.decimal.specs.Decimal.{digits}
 use Rattle.fix_words.specs.Values.{typeOf, orElse, noneWord, over, either, execId, fixedWords, spelling, valueOf, rows}
-use Rattle.fix_words.specs.Message.{Writing, isNameOf, isText, inner, framed, stamp, bytesFor, fieldsOf, shapeAt, rangeAt, textAt, paired, shaped, ranged, texted, typed, isWriting, readOf}
+use Rattle.fix_words.specs.Message.{Writing, isNameOf, isText, inner, framed, stamp, bytesFor, fieldsOf, shapeAt, rangeAt, textAt, paired, shaped, ranged, texted, typed, isWriting, looseOf, isMessage, Read, readOf}
 use Rattle.fix_words.specs.Laws.Held.{every-bytes, shape-long}
 use Rattle.fix_words.specs.Laws.Kinds.{by-kind, row-small}
 use Rattle.fix_words.specs.Laws.Map.{mapUp, map-small, contains-all, bit-one}
 use Rattle.fix_words.specs.Laws.Trip.{read-back, refused-exactly}
 use Rattle.records.specs.Laws.Back.{text-bits}
-use Rattle.fix_words.specs.Laws.Lists.{every-append}
+use Rattle.fix_words.specs.Laws.Lists.{every-append, same-true}
 use Rattle.fix_words.specs.Laws.Rows.{body-same}
 use Rattle.fix_words.specs.Record.{fieldAt, Session, writingOf, writeRefusal, sessionTyped, writeOf, Yields}
 use Rattle.fix_words.specs.Laws.Taken.{paired-joined, name-is, is-writing}
@@ -336,3 +336,20 @@ read-exactly x = (
   λ e s n room y. refused-exactly x .0 e (writingOf s n) (is-writing s n room (y .bytes) (y .session) (y .refusal)) (y .written),
   λ none-yields. refused-exactly x .1 (λ w i q. none-yields (source w i) (session w i) (length (writeOf (source w i) (session w i))) (subst (λ (y : List ℕ). Yields y (source w i) (session w i) (length (writeOf (source w i) (session w i)))) q (writing-yields w i))),
 )
+
+-- what the reader takes, a writing yields
+pub taken-yields : (x : List ℕ) → readOf x .refusal ≡ 0 → (s : List ℕ) × (n : Session) × Yields x s n (length (writeOf s n))
+unfolding readOf isMessage
+taken-yields x e = go (isMessage x) refl
+  where
+    w : Writing
+    w = looseOf (fieldsIn x)
+
+    go : (y : Bool) → isMessage x ≡ y → (s : List ℕ) × (n : Session) × Yields x s n (length (writeOf s n))
+    go true q =
+        let h = both-true (isWriting w) (same (bytesFor w) x) q in
+        let n : ℕ = length (writeOf (source w (h .0)) (session w (h .0))) in
+        (source w (h .0), session w (h .0), subst (λ (y : List ℕ). Yields y (source w (h .0)) (session w (h .0)) n) (same-true (bytesFor w) x (h .1)) (writing-yields w (h .0)))
+    go false q =
+        let z : _≡_ {A = ℕ} 3 0 = sym (ap (λ (r : Read). r .refusal) (if-false (isMessage x) (record { refusal = 0; fields = fieldsIn x }) (record { refusal = 3; fields = [] }) q)) ∙ e in
+        absurd (omega arith)

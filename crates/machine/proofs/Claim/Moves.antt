@@ -25,7 +25,7 @@ use Rattle.machine.specs.Constants.{gatewayKind}
 use Rattle.machine.specs.Messages.{report, cancelReject, toVenue, newOrder, cancelRequest, replaceRequest}
 use Rattle.machine.specs.Changes.{Event, Message, unchanged, refusing, adding, telling, nextDownstream, nextRequest, numberedOrder}
 use Rattle.machine.specs.GatewayCancel.{trySent, sendGatewayCancel}
-use Rattle.machine.specs.Amend.{refuse, statusReport, cancelGoes, replaceGoes, notPending, refusedOrder, refusedAlarm}
+use Rattle.machine.specs.Amend.{refuse, redeliveredReport, cancelGoes, replaceGoes, notPending, refusedOrder, refusedAlarm}
 use Rattle.machine.specs.Report.{accepts, statusTaken, orderedQty, reportedOrder, clientReport}
 use Rattle.records.specs.Answer.{chosen}
 use Rattle.machine.specs.Claim.{lastQty}
@@ -294,8 +294,8 @@ goes-moves p o y q m k h =
     unfold if_then_else_ in record { taken = refl; there = refl; within = g .within; same = g .same; told = g .told; ordered = g .ordered; done = g .done }
 
 module _ (f : Findings) (o : Order) (e : Event) where
-  pub status-moves : Moves 2 (f .place) o (statusReport f o e)
-  unfolding statusReport telling unchanged if_then_else_
+  pub status-moves : Moves 2 (f .place) o (redeliveredReport f o e)
+  unfolding redeliveredReport telling unchanged if_then_else_
   status-moves = left-moves (told-keeps o) (says-hush (quiet-report _ _ _ _ _ _))
 
   pub told-refusal : (responseto : ℕ) (r : Refusal) → Moves 2 (f .place) o (refuse f responseto o e r)

@@ -108,7 +108,7 @@ module _ (name : List ℕ) (e : isMarkName name ≡ true) where
   unfolding isMarkName
   letters k h = all-elim (letterAt name) (length name) (both-true (within 1 16 (length name)) (allBelow (letterAt name) (length name)) e .1) k h
 
-  least : 1 ≤ length name
+  pub least : 1 ≤ length name
   unfolding isMarkName
   least = leb-true 1 (length name) (both-true (leb 1 (length name)) (leb (length name) 16) (both-true (within 1 16 (length name)) (allBelow (letterAt name) (length name)) e .0) .0)
 

@@ -153,7 +153,11 @@ fn order(index: u64, clients: u64, random: &mut Random) -> Order {
         name: Text::new(&name),
         cl_ord_id: any_text(random, 1, 32),
         downstream: none,
-        symbol: if random.chance(50) { Text::new(*random.pick(&SYMBOLS)) } else { any_text(random, 1, 16) },
+        symbol: if random.chance(50) {
+            Text::new(random.pick::<&[u8]>(&SYMBOLS))
+        } else {
+            any_text(random, 1, 16)
+        },
         venue_order_id: any_text(random, 0, 32),
         side: code(SIDES, random),
         ord_type,

@@ -50,16 +50,16 @@ pub struct Mismatch {
 
 /// A library with its book in hand.
 #[derive(Clone)]
-pub(crate) struct Caller<'a> {
+pub struct Caller<'a> {
     entries: &'a Entries,
-    pub(crate) book: Vec<u8>,
+    pub book: Vec<u8>,
     sending: Sending,
     told: Told,
 }
 
 impl<'a> Caller<'a> {
     /// With a book that keeps its rules, and the machine that has it; the nets are told from those that it has.
-    pub(crate) fn on(entries: &'a Entries, book: Vec<u8>) -> (Self, Machine) {
+    pub fn on(entries: &'a Entries, book: Vec<u8>) -> (Self, Machine) {
         let (machine, sending) = mirror::machine(&Book::read(&book));
         let told = Told::since(&machine);
         (Self { entries, book, sending, told }, machine)
@@ -67,7 +67,7 @@ impl<'a> Caller<'a> {
 
     /// Calls `needs`, then `event`, and holds what they give, and every byte that they write, against
     /// the model's outcome and the model's book after it.
-    pub(crate) fn event(
+    pub fn event(
         &mut self,
         item: (&[u8], usize),
         model: &Result<Vec<u8>, u32>,
@@ -208,7 +208,7 @@ pub(crate) fn event_since(
 }
 
 /// A book that `start` has made where other bytes were: empty, with its setting, keeping its rules.
-pub(crate) fn started<'a>(entries: &'a Entries, setting: u32) -> Result<Caller<'a>, String> {
+pub fn started<'a>(entries: &'a Entries, setting: u32) -> Result<Caller<'a>, String> {
     let mut book = vec![0xA5; BOOK_BYTES];
     let (started, checked) = (entries.start(&mut book, setting), entries.check(&book));
     if (started, checked) != (0, 0) {

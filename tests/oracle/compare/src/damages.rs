@@ -417,7 +417,9 @@ fn near_requests(book: &Book, index: usize) -> Vec<Request> {
     let settled = settled.map(|(outcome, answered)| Request { outcome, answered, ..request.clone() });
     let amends = request.orig_cl_ord_id.length > 0;
     let others = book.requests.iter().enumerate().filter(|(at, other)| {
-        amends && other.cl_ord_id.length > 0 && (other.order == request.order || (at + index) % 29 == 0)
+        amends
+            && other.cl_ord_id.length > 0
+            && (other.order == request.order || (at + index).is_multiple_of(29))
     });
     let others = others.map(|(_, other)| Request { orig_cl_ord_id: other.cl_ord_id, ..request.clone() });
     near_kinds(request).into_iter().chain(settled).chain(others).collect()

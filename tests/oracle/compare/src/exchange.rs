@@ -243,7 +243,7 @@ pub fn drawn(seed: u64) -> Vec<Vec<u8>> {
     let profile = profile::any(seed);
     let events = [5, 20, 60, 150, 400][seed as usize / PROFILES.len() % 5];
     let mut drawn = vec![books::reached(profile, seed, events), books::random(&mut Random::new(seed))];
-    if seed % 10 == 0 {
+    if seed.is_multiple_of(10) {
         drawn.push(books::almost_full(seed));
     }
     drawn

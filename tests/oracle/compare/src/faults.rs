@@ -129,6 +129,8 @@ pub enum Fault {
     ThreeAcceptsNothing,
     /// A refusal leaves a 3 out.
     ThreeNotInRefusals,
+    /// A cancel reject leaves a 3 out if the order is filled whole.
+    ThreeNotAtWhole,
     /// A refusal without a status takes the 3 away.
     RefusalEndsThree,
     /// The page's last digit of a quantity is one higher.
@@ -229,7 +231,7 @@ pub enum Fault {
 
 impl Fault {
     /// Faults that the comparison finds.
-    pub const COMPARED: [Self; 95] = [
+    pub const COMPARED: [Self; 96] = [
         Self::AddsLastQty,
         Self::AcknowledgesLater,
         Self::SevenEarly,
@@ -283,6 +285,7 @@ impl Fault {
         Self::FillEndsThree,
         Self::ThreeAcceptsNothing,
         Self::ThreeNotInRefusals,
+        Self::ThreeNotAtWhole,
         Self::RefusalEndsThree,
         Self::PageDigitOff,
         Self::PageLeavesOfDone,
@@ -400,6 +403,7 @@ pub fn event(fault: Fault, machine: &mut Machine, record: &[u8], buffer: usize) 
         | Fault::FillEndsThree
         | Fault::ThreeAcceptsNothing
         | Fault::ThreeNotInRefusals
+        | Fault::ThreeNotAtWhole
         | Fault::RefusalEndsThree
             if outcome.is_ok() =>
         {
@@ -496,6 +500,7 @@ fn taken_for_three(fault: Fault, order: &Order, event: &Record<'_>) -> Option<Ve
     let status = event.maybe(ORD_STATUS, |event| event.code(ORD_STATUS))?;
     let here = order.pending.as_ref().is_some_and(|new| new.downstream == named);
     let refuses = event.kind == CANCEL_REJECT || event.code(EXEC_TYPE) == b'8';
+    let whole = order.cum_qty == order.request.qty;
     let repeats = event.kind == VENUE_REPORT
         && named == order.downstream
         && event.number(CUM_QTY) == qty_count(order.cum_qty)
@@ -510,6 +515,9 @@ fn taken_for_three(fault: Fault, order: &Order, event: &Record<'_>) -> Option<Ve
         }
         (Fault::ThreeAcceptsNothing, CODE) if here && !refuses => other(b'E'),
         (Fault::ThreeNotInRefusals, CODE) if refuses => Some(Draft::of(event).without(ORD_STATUS).bytes()),
+        (Fault::ThreeNotAtWhole, CODE) if event.kind == CANCEL_REJECT && whole => {
+            Some(Draft::of(event).without(ORD_STATUS).bytes())
+        }
         _ => None,
     }
 }

@@ -1,6 +1,7 @@
 //! The comparison of a library with the model, and what the binaries share.
 
 pub mod books;
+pub mod both;
 pub mod chaining;
 pub mod chains;
 pub mod comparison;

@@ -112,8 +112,8 @@ mod tests {
         [format!("{client:>5} ").as_bytes(), &symbol, format!("{size:>17}\n").as_bytes()].concat()
     }
 
-    /// The stored evening: the Rust's page after its records, and its nets below it, is what the
-    /// program must print.
+    /// The stored evening: the Rust's page after its records, and its nets below it under a heading, is
+    /// what the program must print.
     #[test]
     fn the_stored_evening_is_the_rusts() {
         let mut machine = Machine::start(10_000);
@@ -124,6 +124,7 @@ mod tests {
             rest = after;
         }
         let mut right = page(&machine);
+        right.extend_from_slice(b"\nNet position: client, symbol, bought less sold\n");
         right.extend(nets(&machine).iter().flat_map(net_line));
         assert_eq!(right.escape_ascii().to_string(), OUTPUT.escape_ascii().to_string());
     }

@@ -101,6 +101,14 @@ impl Iterator for Reader<'_> {
 
 /// Holds the model against stored answers: lists and events, or the first difference.
 pub fn replay(bytes: &[u8]) -> Result<(u64, u64), String> {
+    replay_by(bytes, |machine, record, buffer| machine.event(record, buffer))
+}
+
+/// The same with another handling of an event.
+pub fn replay_by(
+    bytes: &[u8],
+    event: impl Fn(&mut Machine, &[u8], usize) -> Result<Vec<u8>, u32>,
+) -> Result<(u64, u64), String> {
     let (mut lists, mut events) = (0, 0);
     let mut machine = Machine::start(0);
     for stored in Reader(bytes) {
@@ -113,7 +121,7 @@ pub fn replay(bytes: &[u8]) -> Result<(u64, u64), String> {
             Stored::Digest(_) => return Err(format!("list {lists} leaves another book")),
             Stored::Event(item, stored) => {
                 events += 1;
-                let now = machine.event(&item.record, item.answer_buffer);
+                let now = event(&mut machine, &item.record, item.answer_buffer);
                 if now != stored {
                     let (now, stored) = (show::outcome(&now), show::outcome(&stored));
                     let event = show::event(&item.record);
@@ -132,6 +140,7 @@ mod tests {
     use lists::{PROFILES, list};
 
     use super::*;
+    use crate::faults::{self, Fault};
 
     #[test]
     fn what_is_written_is_read_and_replayed() {
@@ -155,6 +164,30 @@ mod tests {
             let last = bytes.len() - 1;
             bytes[last] ^= 1;
             assert!(replay(&bytes).is_err());
+        }
+    }
+
+    /// What a wrong handling of 3 answers is not what the stored days have.
+    #[test]
+    fn the_stored_days_find_a_wrong_3() {
+        let days = include_bytes!("../../../replay/fixed.bin");
+        assert!(replay(days).is_ok());
+        let wrong = [
+            Fault::ThreeUnlisted,
+            Fault::ThreeIsDone,
+            Fault::ThreeLeaves,
+            Fault::ThreeIsNew,
+            Fault::ThreeIsNeverBehind,
+            Fault::FillEndsThree,
+            Fault::ThreeAcceptsNothing,
+            Fault::ThreeNotInRefusals,
+            Fault::ThreeNotAtWhole,
+            Fault::RefusalEndsThree,
+        ];
+        for fault in wrong {
+            let replayed =
+                replay_by(days, |machine, record, buffer| faults::event(fault, machine, record, buffer));
+            assert!(replayed.is_err(), "{fault:?} is not found");
         }
     }
 }

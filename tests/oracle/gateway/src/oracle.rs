@@ -65,6 +65,13 @@ impl Book {
         id
     }
 
+    /// The book's own booking of an admitted order, and what it puts out.
+    pub fn book_whole(&mut self, client: ClientId, request: OrderRequest, venue: VenueId) -> Vec<Output> {
+        let mut out = Vec::new();
+        self.book_order(client, request, venue, &mut out);
+        out
+    }
+
     /// The blocked mark and the verdict that the next replace brings.
     pub fn judge_next(&mut self, blocked: bool, verdict: Option<RiskReject>) {
         self.blocked.clear();

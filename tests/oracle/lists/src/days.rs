@@ -19,22 +19,34 @@ fn report(downstream: &[u8], exec_type: u8, status: Option<u8>, cum_qty: u64) ->
     events::report(1, downstream, exec_type, status, filled)
 }
 
+/// A report, and then a cancel and a replace to 12 at the venue.
+fn requests_after(before: &Draft) -> Vec<Draft> {
+    let cancel = events::cancel(&named(), b"c", b"a");
+    let replace = events::replace(&named(), b"d", b"a", 12, Some(9));
+    vec![before.clone(), cancel, replace]
+}
+
+/// The order A of 9 filled whole and not done: alone, with a cancel and a replace to 12 at the venue,
+/// with the gateway's cancel.
+fn filled_whole() -> [Vec<Draft>; 3] {
+    let whole = report(b"A", b'F', Some(b'1'), 9);
+    [vec![whole.clone()], requests_after(&whole), vec![whole, events::gateway_cancel(b"A")]]
+}
+
 /// What leads to each state of the order A of 9: PendingNew, New, PartiallyFilled; with a cancel and a
-/// replace to 12 at the venue, pending or not, and with both answered; with the gateway's cancel; done.
-/// Behind it what the order has filled.
+/// replace to 12 at the venue, pending or not, and with both answered; with the gateway's cancel; done;
+/// filled whole and not done. Behind it what the order has filled.
 fn states() -> Vec<(Vec<Draft>, u64)> {
     let new = report(b"A", b'0', Some(b'0'), 0);
     let part = report(b"A", b'F', Some(b'1'), 3);
-    let cancel = events::cancel(&named(), b"c", b"a");
-    let replace = events::replace(&named(), b"d", b"a", 12, Some(9));
-    let requests = |before: &Draft| vec![before.clone(), cancel.clone(), replace.clone()];
+    let requests = requests_after;
     let then = |mut drafts: Vec<Draft>, more: &[Draft]| {
         drafts.extend_from_slice(more);
         drafts
     };
     let refused = events::cancel_reject(1, b"A-1", None, None);
     let accepted = report(b"A-2", b'5', Some(b'1'), 3);
-    vec![
+    let partly = vec![
         (vec![], 0),
         (vec![new.clone()], 0),
         (vec![part.clone()], 3),
@@ -45,7 +57,8 @@ fn states() -> Vec<(Vec<Draft>, u64)> {
         (then(requests(&part), &[refused, accepted]), 3),
         (vec![part.clone(), events::gateway_cancel(b"A")], 3),
         (vec![part, report(b"A", b'4', Some(b'4'), 3)], 3),
-    ]
+    ];
+    partly.into_iter().chain(filled_whole().map(|before| (before, 9))).collect()
 }
 
 /// Every way that a 3 comes: in a report under each request, without and with a rise and below it, and
@@ -54,13 +67,16 @@ fn bringers() -> Vec<Draft> {
     let mut drafts = Vec::new();
     for downstream in DOWNSTREAMS {
         for exec_type in *b"30F85I" {
-            drafts.extend([0, 3, 5, 10, 13].map(|cum| report(downstream, exec_type, Some(b'3'), cum)));
+            drafts.extend([0, 3, 5, 9, 10, 13].map(|cum| report(downstream, exec_type, Some(b'3'), cum)));
         }
-        drafts.extend(
-            [None, Some(1), Some(99)].map(|reason| events::cancel_reject(1, downstream, Some(b'3'), reason)),
-        );
+        drafts.extend(rejects(downstream));
     }
     drafts
+}
+
+/// Refusals of a request with a 3, without a reason and with each that counts for something.
+fn rejects(downstream: &[u8]) -> [Draft; 3] {
+    [None, Some(1), Some(99)].map(|reason| events::cancel_reject(1, downstream, Some(b'3'), reason))
 }
 
 /// What is no venue's status: requests, failed sends and sends again.
@@ -118,9 +134,23 @@ pub fn every_coming() -> Vec<List> {
         .collect()
 }
 
+/// Every refusal that brings a 3 to an order that is filled whole, the same again, and a fill.
+pub fn refused_whole() -> Vec<List> {
+    let refusals = DOWNSTREAMS.into_iter().flat_map(|downstream| {
+        let reports = [0, 9].map(|cum| report(downstream, b'8', Some(b'3'), cum));
+        rejects(downstream).into_iter().chain(reports)
+    });
+    let fill = report(b"A", b'F', Some(b'1'), 9);
+    let lists = refusals.flat_map(|draft| {
+        let after = [draft.clone(), draft, fill.clone()];
+        filled_whole().map(|before| list(&before, &after))
+    });
+    lists.collect()
+}
+
 /// Everything that may come to an order that is 3.
 pub fn every_going() -> Vec<List> {
-    let ended = states().into_iter().enumerate().filter(|(at, _)| [1, 2, 3, 4, 7, 8].contains(at));
+    let ended = states().into_iter().enumerate().filter(|(at, _)| [1, 2, 3, 4, 7, 8, 10, 11].contains(at));
     let lists = ended.flat_map(|(_, (mut before, cum))| {
         let current = if before.len() > 3 { DOWNSTREAMS[2] } else { DOWNSTREAMS[0] };
         before.push(report(current, b'3', Some(b'3'), cum));

@@ -12,6 +12,12 @@ pub const VENUE_1: u16 = 1;
 
 pub struct Day(pub Watched);
 
+impl Default for Day {
+    fn default() -> Self {
+        Self::new()
+    }
+}
+
 impl Day {
     pub fn start(setting: u32) -> Self {
         Self(Watched::start(setting))

@@ -51,6 +51,9 @@ pub fn taken_as(cum_qty: Decimal) -> Status {
     if cum_qty > qty(0) { Status::PartiallyFilled } else { Status::New }
 }
 
+/// Whether the order has what was put.
+type Seen = fn(Status) -> bool;
+
 /// A status that the Rust may set unseen: a 3, or one that an order which is 3 takes.
 pub struct Told {
     order: OrderId,
@@ -58,7 +61,7 @@ pub struct Told {
     /// What is put to the Rust in its place.
     pub status: Status,
     /// How the order's status shows that it was set; none where a 3 comes to a 3.
-    seen: Option<fn(Status) -> bool>,
+    seen: Option<Seen>,
 }
 
 impl Told {
@@ -78,7 +81,7 @@ impl Told {
         }
         let pending = matches!(order.status, Status::PendingCancel | Status::PendingReplace);
         let taken = taken_as(qty(record.number(CUM_QTY)));
-        let (status, seen): (Status, Option<fn(Status) -> bool>) = match () {
+        let (status, seen): (Status, Option<Seen>) = match () {
             () if refusal && order.status == Status::PendingCancel => {
                 (Status::PendingReplace, Some(|left| left == Status::PendingReplace))
             }

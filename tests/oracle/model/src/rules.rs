@@ -10,9 +10,12 @@ use crate::machine::{MOST_ORDERS, MOST_REQUESTS};
 use crate::numbers::{MAX_PRICE, MAX_QTY, price, qty};
 use crate::record::is_order_name;
 
+type BookRule = fn(&Book) -> bool;
+type OrderRule = fn(&Book, &Order) -> bool;
+
 /// The first rule that the book breaks, if any.
 pub fn broken(book: &Book) -> Option<String> {
-    let rules: [(&str, fn(&Book) -> bool); 4] = [
+    let rules: [(&str, BookRule); 4] = [
         ("the tables hold 64 orders and 256 requests", fits),
         ("each request names a booked order", requests_name_orders),
         ("names are distinct", names_distinct),
@@ -49,7 +52,7 @@ fn cl_ord_ids_distinct(book: &Book) -> bool {
 
 /// The first rule that the order and its own requests break.
 fn broken_by(book: &Book, order: &Order) -> Option<String> {
-    let rules: [(&str, fn(&Book, &Order) -> bool); 10] = [
+    let rules: [(&str, OrderRule); 10] = [
         ("every field is in its range", in_range),
         ("the current downstream is the first request or a replace", current_is_own),
         ("the latest cancel is a cancel", latest_is_cancel),

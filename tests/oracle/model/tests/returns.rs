@@ -117,7 +117,7 @@ fn last_qtys_since_and_what_the_image_held_are_cumulative() {
 #[test]
 fn done_means_done_since_the_return() {
     let done = report(b'4', b'4', Filled::default());
-    let day = Returned::new(&[], &[done.clone()], &[nothing()]);
+    let day = Returned::new(&[], std::slice::from_ref(&done), &[nothing()]);
     day.fails(Misread::DoneBeforeStays);
     // A done status of the image stays.
     let filled = filled(40, 40, 10 * UNIT, 10 * UNIT);

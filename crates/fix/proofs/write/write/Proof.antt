@@ -11,7 +11,7 @@ use Rattle.prelude.specs.Cases.{if_then_else_}
 use Rattle.fix_words.specs.Record.{Session, session, writeRefusal}
 use Rattle.fix.proofs.write.write.Statement.{statement}
 use Rattle.fix.proofs.write.write.Tie as tie
-use Rattle.fix.specs.Call.{wrote, writeCall}
+use Rattle.fix_claims.specs.Call.{wrote, writeCall}
 
 abbrev src : tie.Start → List ℕ
 src s = now (s .args .«record»)

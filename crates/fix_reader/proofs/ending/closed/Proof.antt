@@ -10,7 +10,7 @@ use Rattle.decimal.specs.Decimal.{digits}
 use Rattle.fix_words.specs.Lists.{same}
 use Rattle.fix_words.specs.Spelling.{Field, fieldsIn, spellings}
 use Rattle.fix_words.specs.Message.{stamp, valueAt}
-use Rattle.fix_reader.specs.Reading.{tagOf}
+use Rattle.fix_claims.specs.Reading.{tagOf}
 use Rattle.fix_reader.specs.Laws.Checks.{init, sameFields, kindIn, closed}
 use Rattle.fix_reader.specs.Laws.Ending.{last, last-tag}
 use Rattle.fix_reader.proofs.ending.closed.Statement.{statement}

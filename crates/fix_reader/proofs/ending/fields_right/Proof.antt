@@ -11,7 +11,7 @@ use lib.ListN.{length, drop}
 use Rattle.fix_words.specs.Lists.{same}
 use Rattle.fix_words.specs.Spelling.{Field, fieldsIn}
 use Rattle.fix_words.specs.Message.{stamp, valueAt}
-use Rattle.fix_reader.specs.Reading.{tagOf}
+use Rattle.fix_claims.specs.Reading.{tagOf}
 use Rattle.fix_reader.specs.Laws.Checks.{sameFields}
 use Rattle.fix_reader.specs.Laws.Ending.{last, stamp-none, stamp-past, stamp-here}
 use native.Mathlib.Omega.{arith}

@@ -10,7 +10,7 @@ use Rattle.decimal.specs.Decimal.{decimal, digits}
 use Rattle.fix_words.specs.Lists.{same}
 use Rattle.fix_words.specs.Spelling.{Field, fieldsIn, spellings}
 use Rattle.fix_words.specs.Message.{valueAt}
-use Rattle.fix_reader.specs.Reading.{placeOf}
+use Rattle.fix_claims.specs.Reading.{placeOf}
 use Rattle.fix_reader.specs.Laws.Checks.{init}
 use Rattle.fix_reader.specs.Laws.Cut.{part-within, part-value}
 use Rattle.fix_reader.specs.Laws.Ending.{three-more, length-between, places-order, same-turned}

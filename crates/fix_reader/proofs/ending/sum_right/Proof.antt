@@ -8,7 +8,7 @@ use native.Mathlib.Decide.{decLt}
 use lib.ListN.{length, getD, take}
 use Rattle.fix_words.specs.Lists.{same}
 use Rattle.fix_words.specs.Spelling.{Field, fieldsIn}
-use Rattle.fix_reader.specs.Reading.{tagOf, placeOf}
+use Rattle.fix_claims.specs.Reading.{tagOf, placeOf}
 use Rattle.fix_reader.specs.Laws.Cut.{part-within, part-value}
 use Rattle.fix_reader.specs.Laws.Ending.{sumDigits, place-10, sum-past, sum-early, sum-tag, sum-here}
 use native.Mathlib.Omega.{arith}

@@ -2,7 +2,7 @@
 use mathlib.Core.Path.{refl}
 use Rattle.prelude.specs.Cases.{if_then_else_}
 use Rattle.prelude.specs.Lists.{listBelow}
-use Rattle.fix_reader.specs.Reading.{placeOf, tabled}
+use Rattle.fix_claims.specs.Reading.{placeOf, tabled}
 use Rattle.fix_reader.proofs.pieces.nothing.Statement.{statement}
 use Rattle.fix_reader.proofs.pieces.nothing.Tie as tie
 

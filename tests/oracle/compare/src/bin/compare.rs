@@ -134,7 +134,8 @@ fn find_faults(lists: u64) -> ExitCode {
             exhaustive::every_quotient().into_iter().map(|list| ("a list of quotients".into(), list));
         let filled = [("a refusal with Filled".into(), exhaustive::refused_filled())];
         let chains = chains::all().into_iter().map(|list| ("a list about chains".into(), list));
-        let fixed = about.chain(chains).chain(halves).chain(filled);
+        let whole = days::refused_whole().into_iter().map(|list| ("a refusal with 3".into(), list));
+        let fixed = about.chain(chains).chain(halves).chain(filled).chain(whole);
         let days = (1..=DAYS.len() as u64).map(|seed| {
             (format!("a day with 3, seed {seed}"), list(&DAYS[seed as usize % DAYS.len()], seed, 400))
         });

@@ -301,7 +301,7 @@ impl<'a> User<'a> {
         let fill = self.random.next() as u8;
         let (mut record_lent, mut answer) = (Buffer::new(record), Buffer::new(&vec![fill; buffer]));
         let right = lent.event(record, buffer)?;
-        if buffer >= ANSWER_BYTES && self.calls % NEEDS == 0 {
+        if buffer >= ANSWER_BYTES && self.calls.is_multiple_of(NEEDS) {
             let needed = self.entries.needs(book.lend(), record_lent.lend());
             self.calls += 1;
             needs::holds(needed, needs::right(&right, &lent.bytes))?;

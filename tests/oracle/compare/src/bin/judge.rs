@@ -5,7 +5,7 @@
 use std::collections::BTreeMap;
 use std::process::ExitCode;
 
-use compare::fix::{Objection, objections};
+use compare::fix::{Judge, LISTED, Objection};
 use compare::{minimize::minimize, show};
 use lists::{List, list, profile};
 use model::Machine;
@@ -16,25 +16,6 @@ const FIRST_SEED: u64 = 500_000;
 const EVENTS: usize = 60;
 /// A class's smallest list is sought in that many lists that show it.
 const LOOKED_AT: u64 = 12;
-
-/// The classes that docs/DIFFERENCES.md lists.
-const LISTED: [Objection; 15] = [
-    Objection::PartiallyFilledNone,
-    Objection::PartiallyFilledWhole,
-    Objection::RejectedWithFills,
-    Objection::TradeWithoutFill,
-    Objection::PriceWithoutFill,
-    Objection::FillWithoutPrice,
-    Objection::AverageWithoutFills,
-    Objection::FillsWithoutAverage,
-    Objection::ExecTypeAgainstStatus,
-    Objection::ReasonWithoutReject,
-    Objection::OrdRejReasonUnlisted,
-    Objection::CxlRejReasonUnlisted,
-    Objection::UnknownOrderWithLiveStatus,
-    Objection::ReplacedWithoutOrig,
-    Objection::QtyZero,
-];
 
 fn main() -> ExitCode {
     let lists = std::env::args().nth(1).map_or(500, |arg| arg.parse().expect("a number"));
@@ -72,12 +53,12 @@ fn main() -> ExitCode {
 /// How often each class of objection comes in the list's messages, and how many messages it has.
 fn judge(list: &List) -> (BTreeMap<Objection, u64>, u64) {
     let (mut counts, mut judged) = (BTreeMap::new(), 0);
-    let mut machine = Machine::start(list.setting);
+    let (mut machine, mut judge) = (Machine::start(list.setting), Judge::default());
     for item in &list.items {
         let Ok(answer) = machine.event(&item.record, item.answer_buffer) else { continue };
         for message in messages(&answer) {
             judged += 1;
-            for objection in objections(&message) {
+            for objection in judge.hear(&message) {
                 *counts.entry(objection).or_default() += 1;
             }
         }

@@ -253,7 +253,7 @@ fn near_half_wide(random: &mut Random) -> Fill {
 }
 
 fn half_of(random: &mut Random, rise: u64) -> u64 {
-    if rise % 2 == 0 { rise / 2 - 1 + random.below(3) } else { rise / 2 + random.below(2) }
+    if rise.is_multiple_of(2) { rise / 2 - 1 + random.below(3) } else { rise / 2 + random.below(2) }
 }
 
 /// The lowest average from `low` on for which (new amount less old) leaves `rest` by `rise`.

@@ -6,12 +6,17 @@ use std::process::ExitCode;
 
 use compare::coverage::choose;
 use compare::stored::{replay, write};
-use lists::{List, PROFILES, exhaustive, list};
+use lists::{DAYS, List, PROFILES, days, exhaustive, list};
 
 /// Short lists that the fixed list is chosen from, their seeds, and the most events to choose.
 const CHOICE: u64 = 1_500;
 const FIRST_SEED: u64 = 100_000;
 const EVENTS: usize = 8_000;
+
+/// The same of the days on which venues send OrdStatus 3.
+const DAY_CHOICE: u64 = 700;
+const FIRST_DAY: u64 = 200_000;
+const DAY_EVENTS: usize = 4_000;
 
 fn main() -> ExitCode {
     let args: Vec<String> = std::env::args().skip(1).collect();
@@ -44,7 +49,8 @@ fn replay_files(files: &[&str]) -> ExitCode {
 }
 
 /// Short lists of every profile and the pairs, chosen for coverage; one list with both tables
-/// full, one whose full table refuses a short Filled; each cut and each bit of the head of each kind of record; fields at and past their ranges.
+/// full, one whose full table refuses a short Filled; each cut and each bit of the head of each kind of record; fields at and past their ranges;
+/// the days with 3.
 fn fixed() -> Vec<List> {
     let profile = |seed: u64| &PROFILES[seed as usize % PROFILES.len()];
     let short =
@@ -55,6 +61,18 @@ fn fixed() -> Vec<List> {
     lists.push(exhaustive::full());
     lists.push(exhaustive::every_head());
     lists.push(exhaustive::every_range());
+    lists.extend(ended());
+    lists
+}
+
+/// Short lists of the profiles with 3 and the lists about it, chosen for coverage; every refusal that
+/// brings a 3 to an order that is filled whole.
+fn ended() -> Vec<List> {
+    let profile = |seed: u64| &DAYS[seed as usize % DAYS.len()];
+    let short =
+        (FIRST_DAY..FIRST_DAY + DAY_CHOICE).map(|seed| list(profile(seed), seed, 20 + (seed % 60) as usize));
+    let mut lists = choose(short.chain(days::all()).collect(), DAY_EVENTS);
+    lists.extend(days::refused_whole());
     lists
 }
 

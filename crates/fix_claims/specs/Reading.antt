@@ -1,17 +1,15 @@
 -- What the reader gives a host: for each field its tag, where its value stands in the message, and its length; zeros behind them.
 -- Rests on Message.
-use Prim.Native.Nat.{ℕ, _+_, _≤_, _<_}
-use mathlib.Core.Path.{_≡_}
+use Prim.Native.Nat.{ℕ, _+_}
 use mathlib.Core.List.{List, []}
 use lib.Dec.{ltb}
 use lib.ListN.{length, getD, take}
 use Rattle.prelude.specs.Cases.{if_then_else_}
 use Rattle.prelude.specs.Lists.{listBelow}
-use Rattle.prelude.specs.Span.{span}
 use Rattle.decimal.specs.Decimal.{digits}
-use Rattle.fix_reader.specs.declared.FixFields.{FixFields}
+use Rattle.fix_claims.specs.declared.FixFields.{FixFields}
 use Rattle.fix_words.specs.Spelling.{Field, field, spellings}
-use Rattle.fix_words.specs.Message.{Writing, fieldsOf, bytesFor, readOf}
+use Rattle.fix_words.specs.Message.{readOf}
 
 abbrev pub noField : Field
 noField = field 0 []
@@ -39,9 +37,3 @@ tabled refusal fs = record {
 -- THE READER'S ANSWER: 3 for bytes that no writing yields; else every field of the message, header and trailer among them
 unfoldable pub fieldsRead : List ℕ → FixFields
 fieldsRead s = tabled (readOf s .refusal) (readOf s .fields)
-
--- the message of a writing is read as the table of its fields, all of them, and each value stands where the table says
-pub record TableOf (w : Writing) : Type 0 where
-  pub read : fieldsRead (bytesFor w) ≡ tabled 0 (fieldsOf w)
-  pub few : length (fieldsOf w) ≤ 32
-  pub values : (i : ℕ) → i < length (fieldsOf w) → span (bytesFor w) (placeOf (fieldsOf w) i) (lengthOf (fieldsOf w) i) ≡ getD (fieldsOf w) i noField .value

@@ -5,7 +5,7 @@ use lib.Dec.{eqb}
 use lib.ListN.{length}
 use Rattle.prelude.specs.Cases.{if_then_else_}
 use Rattle.prelude.specs.Span.{splice}
-use Rattle.fix.specs.declared.Written.{Written}
+use Rattle.fix_claims.specs.declared.Written.{Written}
 use Rattle.fix_words.specs.Record.{Session, writeRefusal, writeOf}
 
 -- what the call returns, and what the lent buffer is then

@@ -1,0 +1,5 @@
+pub mod Reading
+pub mod Call
+pub mod Claims
+pub mod Sample
+pub mod Laws
