@@ -16,3 +16,5 @@ pub mod Outcomes
 pub mod Chains
 pub mod Swept
 pub mod SweptSteps
+pub mod Edges
+pub mod SweptParts

@@ -18,7 +18,7 @@ use Rattle.store.specs.Orders.{noPending, noGateway}
 use Rattle.text.specs.Words.{noText}
 use Rattle.machine.specs.Changes.{Message}
 use Rattle.machine.specs.Machine.{stepOf}
-use Rattle.facts.specs.Play.{Field, number, spelled, mark, bytes, shares, money, X, X-, C, D, E, W, cancelOf, replaceOf, reportOf, fills, turns, unknownToVenue, rejectOf, rejects, sendFails, sendsAgain, called, Line, lineOf, terms, state, links, orderX, standing, cancelling, request, first, reported, refused, toVenue′}
+use Rattle.facts.specs.Play.{Field, number, spelled, mark, bytes, shares, money, X, X-, C, D, E, W, cancelOf, replaceOf, reportOf, fills, turns, unknownToVenue, rejectOf, rejects, sendFails, sendsAgain, gatewayCancels, called, Line, lineOf, terms, state, links, orderX, standing, cancelling, request, first, reported, refused, toVenue′}
 
 -- ---- the words of the tables
 
@@ -36,7 +36,7 @@ line messages alarm b = record { refusal = 0; messages = messages; alarm = alarm
 abbrev silent : Book → Line
 silent b = line [] 0 b
 
--- booked, New, Canceled, and 40 filled
+-- booked, New, and Canceled
 abbrev booked : Book
 booked = bookX (standing 65 0 0 0) (first ∷ [])
 
@@ -49,6 +49,13 @@ done = bookX (standing 52 0 0 2) (first ∷ [])
 -- a venue that is not the order's: its report, its unknown at venue, its failed send, its send again
 abbrev atVenue4 : (kind : ℕ) → List Field → List ℕ
 atVenue4 kind more = bytes kind (number 1 2 4 ∷ spelled 5 X ∷ more)
+
+-- a replace is out, at that status, with its terms waiting or not
+abbrev hundred : Pending
+hundred = record { request = 2; qty = shares 100; price = money 10; ordtype = 50; timeinforce = 0 }
+
+abbrev replacing : (status cum : ℕ) → Pending → (answered : ℕ) → Book
+replacing status cum p answered = bookX (orderX (state status cum 0 1) (links 1 1 0) p noGateway) (first ∷ request 2 answered D C (X- 1) ∷ [])
 
 -- a name that no order and no request has
 abbrev Z : List ℕ
@@ -86,20 +93,28 @@ trying g answered = bookX (orderX (state 48 0 0 1) (links 2 1 3) noPending g) (s
 abbrev doneCancel : (answered : ℕ) → Book
 doneCancel answered = bookX (orderX (state 52 0 0 2) (links 1 1 2) noPending noGateway) (first ∷ request 3 answered [] [] (X- 1) ∷ [])
 
+-- the client's cancel is out
+abbrev cancelOut : GatewayCancel → Book
+cancelOut g = bookX (orderX (state 48 0 0 1) (links 1 1 2) noPending g) (first ∷ request 1 0 D C (X- 1) ∷ [])
+
 record Sends : Type 0 where
   -- the first send fails while it is PendingNew, and of its own venue alone
   fails : comes booked (sendFails X) ≡ line (notSent ∷ []) 0 (bookX (standing 56 0 0 1) (request 0 1 C [] X ∷ []))
-  fails-late : comes live (sendFails X) ≡ silent live
-  fails-elsewhere : comes booked (atVenue4 7 (spelled 20 (78 ∷ []) ∷ [])) ≡ silent booked
+  fails-late : comes (replacing 48 0 hundred 0) (sendFails X) ≡ silent (replacing 48 0 hundred 0)
+  fails-elsewhere : comes (replacing 65 0 hundred 0) (atVenue4 7 (spelled 20 (78 ∷ []) ∷ [])) ≡ silent (replacing 65 0 hundred 0)
   -- it is sent again while it is PendingNew, and of its own venue alone
-  again-late : comes live (sendsAgain X) ≡ silent live
-  again-elsewhere : comes booked (atVenue4 8 []) ≡ silent booked
+  again-late : comes (replacing 48 0 hundred 0) (sendsAgain X) ≡ silent (replacing 48 0 hundred 0)
+  again-elsewhere : comes (replacing 65 0 hundred 0) (atVenue4 8 []) ≡ silent (replacing 65 0 hundred 0)
   -- the gateway's second try is not sent: one try is left
   try : comes (trying (cancelling 2 false) 0) (sendFails (X- 2)) ≡ silent (trying (waits 1 1) 1)
   -- told twice it counts once
   try-twice : comes (trying (waits 1 1) 1) (sendFails (X- 2)) ≡ silent (trying (waits 1 1) 1)
   -- of a done order it is answered, and the order has no gateway cancel
   try-done : comes (doneCancel 0) (sendFails (X- 1)) ≡ silent (doneCancel 1)
+  -- the gateway's cancel is asked for: of a done order, while one is in flight, and behind the client's, where it waits
+  asked-done : comes (doneCancel 1) gatewayCancels ≡ silent (doneCancel 1)
+  asked-twice : comes (trying (cancelling 2 false) 0) gatewayCancels ≡ silent (trying (cancelling 2 false) 0)
+  asked-behind : comes (cancelOut noGateway) gatewayCancels ≡ silent (cancelOut (waits 0 0))
 
 sends : Sends
 unfolding called
@@ -112,6 +127,9 @@ sends = record {
   try = refl;
   try-twice = refl;
   try-done = refl;
+  asked-done = refl;
+  asked-twice = refl;
+  asked-behind = refl;
 }
 
 -- ---- what the book does not know, and what the venue does not
@@ -140,9 +158,9 @@ record Unknown : Type 0 where
   again : comes live (sendsAgain Z) ≡ silent live
   name : comes live (bytes 9 (spelled 2 Z ∷ [])) ≡ silent live
   -- the venue does not know a live order: alarm 4, of its own venue and under its current ClOrdID alone
-  live-order : comes live (unknownToVenue X) ≡ line [] 4 live
-  done-order : comes done (unknownToVenue X) ≡ silent done
-  another-venue : comes live (atVenue4 5 []) ≡ silent live
+  live-order : comes (superseded 48) (unknownToVenue (X- 1)) ≡ line [] 4 (superseded 48)
+  done-order : comes (superseded 52) (unknownToVenue (X- 1)) ≡ silent (superseded 52)
+  another-venue : comes (replacing 48 0 hundred 0) (atVenue4 5 []) ≡ silent (replacing 48 0 hundred 0)
   old-name : comes (superseded 48) (unknownToVenue X) ≡ silent (superseded 48)
   -- a status report says so by Rejected and reason 5; without a reason, and as another ExecType, it is a rejection
   by-reason : comes live (reportOf X 73 56 0 0 0 0 (number 19 4 5 ∷ [])) ≡ line [] 4 live
@@ -206,18 +224,32 @@ refuses bits name clordid origclordid status responseto reason text = record {
   text = record { bytes = replicate 64 0; len = 0 };
 }
 
--- a replace is out, at that status, with its terms waiting or not
-abbrev hundred : Pending
-hundred = record { request = 2; qty = shares 100; price = money 10; ordtype = 50; timeinforce = 0 }
+-- with time in force 1 and verdict 3
+abbrev replacesAt : (price qty : ℕ) → List ℕ
+replacesAt price qty =
+    bytes 3
+    (number 0 2 7 ∷ spelled 3 D ∷ spelled 4 C ∷ spelled 6 W ∷ number 7 1 49 ∷ number 9 8 (shares qty) ∷ number 10 8 (money price) ∷ number 11 1 49 ∷ number 23 1 3 ∷ [])
 
-abbrev replacing : (status cum : ℕ) → Pending → (answered : ℕ) → Book
-replacing status cum p answered = bookX (orderX (state status cum 0 1) (links 1 1 0) p noGateway) (first ∷ request 2 answered D C (X- 1) ∷ [])
+-- New, a limit at 0
+abbrev freeOrder : Order
+freeOrder = record {
+  client = 7;
+  venue = 3;
+  names = record { name = textOf X; clordid = textOf C; downstream = textOf X; symbol = textOf W; venueorderid = noText };
+  terms = record { side = 49; ordtype = 50; timeinforce = 0; qty = shares 100; price = 0 };
+  state = state 48 0 0 1;
+  links = links 0 1 0;
+  pending = noPending;
+  gateway = noGateway;
+}
 
 record Requests : Type 0 where
   -- redelivered, it was taken where its ClOrdID was used for this very order: not for another, nor for none
   of-another : comes two (cancelOf Z W 49 (mark 21 ∷ [])) ≡ line (refuses (2 ∷ []) X Z C 48 1 6 5 ∷ []) 0 two
   of-none : comes live (bytes 2 (number 0 2 7 ∷ spelled 3 D ∷ spelled 4 E ∷ spelled 6 W ∷ number 7 1 49 ∷ mark 21 ∷ []))
       ≡ line (refuses [] [] D E 56 1 1 6 ∷ []) 0 live
+  of-earlier : comes two (bytes 2 (number 0 2 7 ∷ spelled 3 C ∷ spelled 4 Z ∷ spelled 6 W ∷ number 7 1 49 ∷ mark 21 ∷ []))
+      ≡ line (refuses (2 ∷ []) Z C Z 48 1 6 5 ∷ []) 0 two
   -- not redelivered it is a duplicate
   duplicate : comes live (cancelOf C W 49 []) ≡ line (refuses (2 ∷ []) X C C 48 1 6 5 ∷ []) 0 live
   -- a block refuses a rise alone
@@ -228,6 +260,19 @@ record Requests : Type 0 where
   -- and another status stays
   stays : comes (replacing 65 0 hundred 0) (rejectOf (X- 1) []) ≡ line (refused 65 2 99 10 ∷ []) 0 (replacing 65 0 noPending 1)
   -- a replace whose terms no longer wait is not sent again
+  -- a reject of another venue, of a request that was answered, and of the order itself
+  elsewhere : comes (cancelOut noGateway) (bytes 6 (number 1 2 4 ∷ spelled 5 (X- 1) ∷ [])) ≡ silent (cancelOut noGateway)
+  answered : comes (superseded 48) (rejects (X- 1) 1) ≡ silent (superseded 48)
+  of-order : comes (cancelOut noGateway) (rejects X 1) ≡ silent (cancelOut noGateway)
+  -- a verdict is passed over where neither the price nor, upwards, the quantity is another; a time in force counts for nothing
+  at-10 : stepOf live (eventIn (replacesAt 10 100)) .requests .added ≡ 1
+  at-10-less : stepOf live (eventIn (replacesAt 10 99)) .requests .added ≡ 1
+  at-11 : comes live (replacesAt 11 100) ≡ line (refused 48 2 99 14 ∷ []) 0 live
+  at-9 : comes live (replacesAt 9 99) ≡ line (refused 48 2 99 14 ∷ []) 0 live
+  more : comes live (replacesAt 10 101) ≡ line (refused 48 2 99 14 ∷ []) 0 live
+  -- a limit at 0 and no price are not the same: the verdict is asked for
+  no-price : comes (bookX freeOrder (first ∷ [])) (bytes 3 (number 0 2 7 ∷ spelled 3 D ∷ spelled 4 C ∷ spelled 6 W ∷ number 7 1 49 ∷ number 9 8 (shares 100) ∷ number 23 1 3 ∷ []))
+      ≡ line (refused 48 2 99 14 ∷ []) 0 (bookX freeOrder (first ∷ []))
   not-waiting : comes (replacing 48 0 noPending 0) (sendsAgain (X- 1)) ≡ line (refused 48 2 99 11 ∷ []) 0 (replacing 48 0 noPending 1)
 
 requests : Requests
@@ -235,11 +280,21 @@ unfolding called
 requests = record {
   of-another = refl;
   of-none = refl;
+  of-earlier = refl;
   duplicate = refl;
   blocked-same = refl;
   back-to-new = refl;
   back-to-partial = refl;
   stays = refl;
+  elsewhere = refl;
+  answered = refl;
+  of-order = refl;
+  at-10 = refl;
+  at-10-less = refl;
+  at-11 = refl;
+  at-9 = refl;
+  more = refl;
+  no-price = refl;
   not-waiting = refl;
 }
 
@@ -262,22 +317,28 @@ known status sequence venueorderid = record {
 }
 
 -- a report without a status
-abbrev unsaid : (downstream : List ℕ) (exectype last cum avg : ℕ) → List ℕ
-unsaid downstream exectype last cum avg =
-    bytes 4 (number 1 2 3 ∷ spelled 5 downstream ∷ number 12 1 exectype ∷ number 14 8 (shares last) ∷ number 15 8 avg ∷ number 16 8 (shares cum) ∷ number 17 8 avg ∷ [])
+abbrev unsaid : (exectype last cum avg : ℕ) → List Field → List ℕ
+unsaid exectype last cum avg more =
+    bytes 4 (number 1 2 3 ∷ spelled 5 X ∷ number 12 1 exectype ∷ number 14 8 (shares last) ∷ number 15 8 avg ∷ number 16 8 (shares cum) ∷ number 17 8 avg ∷ more)
 
 record Reports : Type 0 where
   -- PendingNew above a cumulative of 0 is PartiallyFilled; so is no status
   pending-new : comes booked (reportOf X 70 65 40 (money 10) 40 (money 10) [])
       ≡ line (reported (standing 49 40 (money 10) 1) 70 40 60 (money 10) 1 ∷ []) 0 (bookX (standing 49 40 (money 10) 1) (first ∷ []))
-  no-status : comes booked (unsaid X 70 40 40 (money 10))
+  no-status : comes booked (unsaid 70 40 40 (money 10) [])
       ≡ line (reported (standing 49 40 (money 10) 1) 70 40 60 (money 10) 1 ∷ []) 0 (bookX (standing 49 40 (money 10) 1) (first ∷ []))
-  -- ExecType 8 without a status rejects nothing, and does not accept a replace
-  not-rejected : comes live (unsaid X 56 0 0 0) ≡ line (reported (standing 48 0 0 2) 56 0 100 0 3 ∷ []) 0 (bookX (standing 48 0 0 2) (first ∷ []))
+  -- ExecType 8 without a status rejects nothing, so that its reason is not told
+  not-rejected : comes live (unsaid 56 0 0 0 (number 19 4 99 ∷ [])) ≡ line (reported (standing 48 0 0 2) 56 0 100 0 3 ∷ []) 0 (bookX (standing 48 0 0 2) (first ∷ []))
   -- what repeats the order may bring the venue's OrderID, the first and not NONE; it is not told
   brings : comes live (reportOf X 48 48 0 0 0 0 (spelled 18 E ∷ [])) ≡ silent (bookX (known 48 1 E) (first ∷ []))
   brings-none : comes live (reportOf X 48 48 0 0 0 0 (spelled 18 N ∷ [])) ≡ silent live
   brings-second : comes (bookX (known 48 1 E) (first ∷ [])) (reportOf X 48 48 0 0 0 0 (spelled 18 D ∷ [])) ≡ silent (bookX (known 48 1 E) (first ∷ []))
+  brings-pending : comes booked (reportOf X 65 65 0 0 0 0 (spelled 18 E ∷ [])) ≡ silent (bookX (known 65 0 E) (first ∷ []))
+  repeats : comes (superseded 48) (turns (X- 1) 48 48) ≡ silent (superseded 48)
+  -- another venue's, and an overfill, leave the book
+  elsewhere : comes (replacing 48 0 hundred 0) (atVenue4 4 (number 12 1 52 ∷ number 13 1 52 ∷ number 14 8 0 ∷ number 15 8 0 ∷ number 16 8 0 ∷ number 17 8 0 ∷ []))
+      ≡ silent (replacing 48 0 hundred 0)
+  overfill : comes (replacing 48 0 hundred 0) (fills 101 101 (money 10) (money 10)) ≡ line [] 2 (replacing 48 0 hundred 0)
   -- and one that is stale does not
   stale : comes done (reportOf X 48 48 0 0 0 0 (spelled 18 E ∷ [])) ≡ silent done
   -- PendingReplace under a replace that was accepted is behind
@@ -294,6 +355,10 @@ reports = record {
   brings = refl;
   brings-none = refl;
   brings-second = refl;
+  brings-pending = refl;
+  repeats = refl;
+  elsewhere = refl;
+  overfill = refl;
   stale = refl;
   settled = refl;
   held = refl;
