@@ -7,6 +7,13 @@ use jubafiye::BadAnswer;
 use rusqlite::ErrorCode;
 
 /// Why a journal was not made, not opened or not written.
+/// ```
+/// use desk::{Error, Journal};
+///
+/// let why = Journal::open("no/such.journal").err().unwrap();
+/// assert!(matches!(why, Error::NotThere(_)));
+/// assert_eq!(why.to_string(), "no/such.journal is not there");
+/// ```
 #[derive(Debug)]
 #[non_exhaustive]
 pub enum Error {

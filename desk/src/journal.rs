@@ -27,6 +27,7 @@ const TABLES: &str = "
 ";
 
 /// A message that is to be handed to a session.
+/// [`Journal::outbox`] has an example.
 #[derive(Debug, Clone, PartialEq, Eq)]
 #[non_exhaustive]
 pub struct Outgoing {
@@ -43,6 +44,7 @@ pub struct Outgoing {
 }
 
 /// An event that is on the disk.
+/// [`Journal::take`] has an example.
 #[must_use]
 #[derive(Debug, Clone, PartialEq, Eq)]
 #[non_exhaustive]
@@ -54,6 +56,7 @@ pub struct Taken {
 }
 
 /// An event as the journal keeps it.
+/// [`Journal::events`] has an example.
 #[derive(Debug, Clone, PartialEq, Eq)]
 #[non_exhaustive]
 pub struct Kept {
@@ -69,6 +72,7 @@ pub struct Kept {
 ///
 /// An event, its answer and its messages go to the disk in one transaction (`synchronous=FULL`) before [`Journal::take`] returns.
 /// A booking's own message to its venue, which the book leaves to the host, is among them.
+/// The [crate](crate) has an example of its use.
 pub struct Journal {
     db: Connection,
     now: Now,
@@ -88,8 +92,9 @@ struct Now {
 }
 
 impl Journal {
-    /// A new journal with an empty book; `setting`: the most ClOrdIDs that a client may use. A crash in the middle of it may leave a
-    /// file that is no journal, in which nothing was ever taken.
+    /// A new journal with an empty book; `setting`: the most ClOrdIDs that a client may use. It is made in one transaction: after a
+    /// crash in the middle of it either the journal is there, whole, and is opened, or it is made by calling this again, which takes
+    /// an empty file over.
     ///
     /// ```
     /// use desk::{Error, Journal};
@@ -102,12 +107,19 @@ impl Journal {
     /// ```
     pub fn create(path: impl AsRef<Path>, setting: u32) -> Result<Self, Error> {
         let path = path.as_ref();
-        if path.exists() {
+        if path.exists() && !may_be_unmade(path) {
             return Err(Error::AlreadyThere(path.into()));
         }
-        let mut db = connect(path, OpenFlags::SQLITE_OPEN_CREATE)?;
+        let there =
+            |why| if matches!(why, Error::NotAJournal) { Error::AlreadyThere(path.into()) } else { why };
+        let mut db = connect_unlocked(path, OpenFlags::SQLITE_OPEN_CREATE).map_err(there)?;
         let book = Book::new(setting);
-        let all = db.transaction_with_behavior(rusqlite::TransactionBehavior::Exclusive)?;
+        let behavior = rusqlite::TransactionBehavior::Exclusive;
+        let all = db.transaction_with_behavior(behavior).map_err(|why| there(why.into()))?;
+        // Asked with the lock held, and after SQLite has taken back what a crash cut.
+        if !is_empty(&all)? {
+            return Err(Error::AlreadyThere(path.into()));
+        }
         all.pragma_update(None, "application_id", APPLICATION)?;
         all.pragma_update(None, "user_version", VERSION)?;
         all.execute_batch(TABLES)?;
@@ -174,11 +186,26 @@ impl Journal {
     }
 
     /// The book as it is after the last event.
+    /// ```
+    /// use desk::Journal;
+    ///
+    /// # let journal = Journal::create(desk::doc_folder("book").join("journal"), 10_000)?;
+    /// assert_eq!(journal.book().orders().count(), 0);
+    /// # Ok::<(), desk::Error>(())
+    /// ```
     pub fn book(&self) -> &Book {
         &self.now.book
     }
 
     /// The number of the last event.
+    /// ```
+    /// use desk::Journal;
+    ///
+    /// # let mut journal = Journal::create(desk::doc_folder("seq").join("journal"), 10_000)?;
+    /// let taken = journal.take(b"no record")?;
+    /// assert_eq!(journal.seq(), taken.seq);
+    /// # Ok::<(), desk::Error>(())
+    /// ```
     pub fn seq(&self) -> u64 {
         self.now.seq
     }
@@ -257,6 +284,19 @@ impl Journal {
 
     /// Hands each message of the outbox to `send`, in order, and notes those that it took. Where it fails, those before are noted and
     /// the rest stays. Gives how many were handed over.
+    /// ```
+    /// use desk::{Error, Journal};
+    /// use jubafiye::text::from_text;
+    ///
+    /// # let mut journal = Journal::create(desk::doc_folder("hand_over").join("journal"), 10_000)?;
+    /// let booking = "book client=7 venue=3 name=G1 clordid=C1 symbol=W side=buy ordtype=market qty=100";
+    /// drop(journal.take(&from_text(booking).unwrap())?);
+    /// // a session that is down takes nothing: the message stays
+    /// assert!(matches!(journal.hand_over(|_| Err("session down")), Err(Error::Session(_))));
+    /// assert_eq!(journal.hand_over(|_| Ok::<(), &str>(()))?, 1);
+    /// assert!(journal.outbox()?.is_empty());
+    /// # Ok::<(), desk::Error>(())
+    /// ```
     pub fn hand_over<E: Display>(
         &mut self,
         mut send: impl FnMut(&Outgoing) -> Result<(), E>,
@@ -305,6 +345,13 @@ impl Journal {
     }
 
     /// The setting of the journal's first book.
+    /// ```
+    /// use desk::Journal;
+    ///
+    /// # let journal = Journal::create(desk::doc_folder("setting").join("journal"), 10_000)?;
+    /// assert_eq!(journal.setting(), 10_000);
+    /// # Ok::<(), desk::Error>(())
+    /// ```
     pub fn setting(&self) -> u32 {
         self.now.book.setting()
     }
@@ -456,8 +503,32 @@ impl Step<'_> {
     }
 }
 
+/// Whether a file may be what a crash left of a journal that was being made: it is empty, or SQLite's own journal stands beside it, by
+/// which SQLite takes it back.
+fn may_be_unmade(path: &Path) -> bool {
+    let length = |path: &Path| path.metadata().ok().filter(|file| file.is_file()).map(|file| file.len());
+    let mut beside = path.as_os_str().to_os_string();
+    beside.push("-journal");
+    length(path).is_some_and(|bytes| bytes == 0 || length(Path::new(&beside)).is_some_and(|bytes| bytes > 0))
+}
+
+/// Whether nothing was ever written into a database.
+fn is_empty(db: &Connection) -> Result<bool, Error> {
+    let tables: i64 = db.query_row("SELECT count(*) FROM sqlite_master", [], |row| row.get(0))?;
+    let application: i64 = db.pragma_query_value(None, "application_id", |row| row.get(0))?;
+    Ok((tables, application) == (0, 0))
+}
+
 /// A connection that no other process shares.
 fn connect(path: &Path, more: OpenFlags) -> Result<Connection, Error> {
+    let db = connect_unlocked(path, more)?;
+    // Takes the lock, which is kept until the connection is closed. A COMMIT would write a page into an empty file.
+    db.execute_batch("BEGIN EXCLUSIVE; ROLLBACK")?;
+    Ok(db)
+}
+
+/// A connection that keeps each lock that it takes.
+fn connect_unlocked(path: &Path, more: OpenFlags) -> Result<Connection, Error> {
     let flags = OpenFlags::SQLITE_OPEN_READ_WRITE | OpenFlags::SQLITE_OPEN_NO_MUTEX | more;
     let db = Connection::open_with_flags(path, flags)?;
     db.busy_timeout(std::time::Duration::ZERO)?;
@@ -465,8 +536,6 @@ fn connect(path: &Path, more: OpenFlags) -> Result<Connection, Error> {
     // Commits stand in the file itself: a journal that was cut or flipped beside it loses nothing silently.
     db.query_row("PRAGMA journal_mode = TRUNCATE", [], |_| Ok(()))?;
     db.pragma_update(None, "synchronous", "FULL")?;
-    // Takes the lock, which is kept until the connection is closed.
-    db.execute_batch("BEGIN EXCLUSIVE; COMMIT")?;
     Ok(db)
 }
 

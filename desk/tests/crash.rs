@@ -14,8 +14,8 @@ use std::process::Command;
 use std::time::{Duration, Instant};
 
 use common::Numbers;
-use desk::{Journal, Outgoing};
-use jubafiye::{Answer, Book, Message};
+use desk::{Error, Journal, Outgoing};
+use jubafiye::{Answer, Book, Event, Message, Outcome};
 
 fn main() {
     if let Some(folder) = std::env::var_os("DESK_WORKER") {
@@ -81,7 +81,7 @@ fn worker(folder: &Path) {
     let (seed, events) = (number("DESK_SEED"), number("DESK_EVENTS"));
     let path = file(folder, "journal");
     let made = file(folder, "made").exists();
-    let mut journal = if made { Journal::open(&path) } else { Journal::create(&path, 10_000) }.unwrap();
+    let mut journal = if made { Journal::open(&path) } else { made_now(&path) }.unwrap();
     append(&file(folder, "made"));
     let (mut acked, mut wire) = (append(&file(folder, "acked")), append(&file(folder, "wire")));
     let mut numbers = Numbers(seed);
@@ -106,6 +106,18 @@ fn worker(folder: &Path) {
             journal.hand_over(send).unwrap();
         }
         taken += count as u64;
+    }
+}
+
+/// A journal that is made, or was made whole by a process that was killed before it could tell.
+fn made_now(path: &Path) -> Result<Journal, Error> {
+    match Journal::create(path, 10_000) {
+        Err(Error::AlreadyThere(_)) => {
+            let journal = Journal::open(path)?;
+            assert_eq!((journal.seq(), journal.setting()), (0, 10_000));
+            Ok(journal)
+        }
+        made => made,
     }
 }
 
@@ -178,11 +190,8 @@ impl Crashes {
             count.kills += 1;
             count.at_writes += 1;
             count.power += usize::from(how == "power");
-            // Killed while the journal was made: it is made anew.
-            if !file(&folder, "made").exists() {
-                let _ = fs::remove_file(file(&folder, "journal"));
-                let _ = fs::remove_file(file(&folder, "journal-journal"));
-            } else {
+            // Killed while the journal was made: the next worker makes it, or finds it whole.
+            if file(&folder, "made").exists() {
                 verify(&folder, count);
                 // And once more while it is opened and goes on.
                 if self.stopped_at(&folder, seed + 1, how, 1 + at % 13) {
@@ -227,6 +236,11 @@ fn killed(status: std::process::ExitStatus) -> bool {
     status.signal() == Some(9)
 }
 
+/// A request to a venue, by its downstream ClOrdID.
+fn request(downstream: &[u8]) -> String {
+    format!("request {}", String::from_utf8_lossy(downstream))
+}
+
 /// A message by what the receiver tells it by: an ExecID, a refusal's ClOrdIDs or a request's downstream ClOrdID.
 fn told_by(message: &Message) -> String {
     let text = |bytes: &[u8]| String::from_utf8_lossy(bytes).into_owned();
@@ -236,7 +250,7 @@ fn told_by(message: &Message) -> String {
             format!("reject {} {}", text(&reject.cl_ord_id), text(&reject.orig_cl_ord_id))
         }
         Message::NewOrder(request) | Message::Cancel(request) | Message::Replace(request) => {
-            format!("request {}", text(&request.downstream))
+            self::request(&request.downstream)
         }
         other => panic!("{other:?}"),
     }
@@ -274,7 +288,7 @@ fn verify(folder: &Path, count: &mut Count) {
     assert!(events.len() as u64 >= last, "event {last} was acknowledged, and {} are there", events.len());
     assert!(book.as_bytes() == journal.book().as_bytes(), "the book is that of the events");
     count.now = [acked.len(), 0, 0];
-    sent(folder, &journal, &events, count);
+    sent(folder, &journal, &events, &acked, count);
 }
 
 /// Whether an event that was never told belongs to a step of at most four that was committed as its process was killed.
@@ -284,7 +298,13 @@ fn is_untold(events: &[desk::Kept], acked: &BTreeMap<u64, Vec<u8>>, seq: u64) ->
 }
 
 /// What went out: nothing told otherwise under the same name, nothing twice unmarked, nothing that the book does not have, nothing lost.
-fn sent(folder: &Path, journal: &Journal, events: &[desk::Kept], count: &mut Count) {
+fn sent(
+    folder: &Path,
+    journal: &Journal,
+    events: &[desk::Kept],
+    acked: &BTreeMap<u64, Vec<u8>>,
+    count: &mut Count,
+) {
     let wire = fs::read_to_string(file(folder, "wire")).unwrap_or_default();
     let (mut contents, mut unmarked, mut known) = (BTreeMap::new(), BTreeSet::new(), BTreeSet::new());
     for line in wire.lines() {
@@ -302,39 +322,57 @@ fn sent(folder: &Path, journal: &Journal, events: &[desk::Kept], count: &mut Cou
         count.now[1] += 1;
         known.insert(name);
     }
-    let requests: BTreeSet<String> = journal
-        .book()
-        .requests()
-        .map(|request| format!("request {}", String::from_utf8_lossy(request.downstream)))
-        .collect();
+    let requests: BTreeSet<String> = journal.book().requests().map(|one| request(one.downstream)).collect();
     for name in known.iter().filter(|name| name.starts_with("request")) {
         assert!(requests.contains(name), "{name} went out, and the book has it not");
     }
     known.extend(journal.outbox().unwrap().iter().map(|outgoing| told_by(&outgoing.message)));
-    let settled: BTreeSet<String> = journal
-        .book()
-        .requests()
-        .filter(|request| request.answered)
-        .map(|request| format!("request {}", String::from_utf8_lossy(request.downstream)))
-        .collect();
-    for answer in events.iter().filter_map(|event| event.answer.as_ref().ok()) {
-        for message in Answer::read(answer).unwrap().messages {
-            let name = told_by(&message);
-            let moot = name.starts_with("request");
+    let settled = settled(events, acked);
+    for event in events {
+        for name in put_out(event) {
             assert!(
-                known.contains(&name) || (moot && (settled.contains(&name) || done(journal, &message))),
-                "{name} was lost"
+                known.contains(&name) || settled.contains(&name),
+                "{name} of event {} was lost",
+                event.seq
             );
         }
     }
 }
 
-/// Whether the order of a request is past it, so that a restart does not send it again: the venue knows it, or it is done.
-fn done(journal: &Journal, message: &Message) -> bool {
-    let (Message::NewOrder(request) | Message::Cancel(request) | Message::Replace(request)) = message else {
-        return false;
-    };
-    let of = journal.book().requests().find(|known| known.downstream == request.downstream).unwrap();
-    let order = journal.book().orders().nth(of.order).unwrap();
-    order.status != jubafiye::OrdStatus::PendingNew
+/// The messages that an event puts out, by what the receiver tells them by: those of its answer, and a booking's own order.
+fn put_out(event: &desk::Kept) -> Vec<String> {
+    let Ok(answer) = &event.answer else { return Vec::new() };
+    let mut names: Vec<String> = Answer::read(answer).unwrap().messages.iter().map(told_by).collect();
+    if let Ok(Event::Book(booking)) = Event::read(&event.record) {
+        names.push(request(booking.name));
+    }
+    names
+}
+
+/// The requests that may be neither on the wire nor in the outbox: those that a restart put as event 8 and the book did not send again.
+/// Either event 8 settled such a request as not sent, or there was nothing left to send: the venue had settled it (a request of the
+/// drawn days may be answered before it is sent), or the venue knew its order. A request that is put out later is none of them.
+fn settled(events: &[desk::Kept], acked: &BTreeMap<u64, Vec<u8>>) -> BTreeSet<String> {
+    let (mut book, mut settled) = (Book::new(10_000), BTreeSet::new());
+    for event in events {
+        let waits =
+            |book: &Book, venue, name: &[u8]| book.unanswered(venue).any(|one| one.downstream == name);
+        let again = match Event::read(&event.record) {
+            // What a worker put itself was acknowledged.
+            Ok(Event::SendAgain { venue, downstream }) if !acked.contains_key(&event.seq) => {
+                Some((downstream, waits(&book, venue, downstream)))
+            }
+            _ => None,
+        };
+        drop(book.take_record(&event.record));
+        if let Some((downstream, waited)) = again {
+            let of = book.requests().find(|one| one.downstream == downstream);
+            let not_sent = of.is_some_and(|one| one.outcome == Outcome::FailedToSend);
+            if !waited || not_sent {
+                settled.insert(request(downstream));
+            }
+        }
+        settled.retain(|name| !put_out(event).contains(name));
+    }
+    settled
 }

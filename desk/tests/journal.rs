@@ -6,7 +6,8 @@ mod common;
 
 use std::fs;
 use std::path::{Path, PathBuf};
-use std::process::Command;
+use std::process::{Command, Output};
+use std::sync::OnceLock;
 
 use common::Numbers;
 use desk::{recipes, Error, Journal, Outgoing, SNAPSHOT_EVERY};
@@ -281,6 +282,57 @@ fn a_file_that_is_there_is_not_overwritten() {
     assert!(!path.with_file_name("other").exists());
 }
 
+/// At every write of its making, with and without what was not synced: the journal is there whole, or making it again makes it.
+#[test]
+fn a_journal_whose_making_was_killed() {
+    let (mut anew, mut whole) = (0, 0);
+    for how in ["kill", "power"] {
+        for at in 1.. {
+            let path = folder("unmade").join("journal");
+            if run(&path, how, at, "create").status.success() {
+                break;
+            }
+            // To look at it, or to try to open it, changes nothing of that.
+            if at % 2 == 0 {
+                assert!(matches!(Journal::open(&path), Ok(_) | Err(Error::NotAJournal | Error::NotThere(_))));
+            }
+            let mut journal = match Journal::create(&path, 10_000) {
+                Err(Error::AlreadyThere(_)) => {
+                    whole += 1;
+                    Journal::open(&path).unwrap()
+                }
+                made => {
+                    anew += 1;
+                    made.unwrap_or_else(|why| panic!("{how} at {at}: {why}"))
+                }
+            };
+            assert_eq!((journal.seq(), journal.setting()), (0, 10_000));
+            take(&mut journal, BOOKED);
+            drop(journal);
+            assert_eq!(Journal::read(&path).unwrap().seq(), 1);
+        }
+    }
+    assert!(anew > 10 && whole > 0, "{anew} made anew, {whole} whole");
+}
+
+#[test]
+fn an_empty_file_is_made_a_journal_and_no_other() {
+    let path = folder("empty").join("journal");
+    fs::write(&path, b"").unwrap();
+    assert!(matches!(Journal::open(&path), Err(Error::NotAJournal)));
+    assert_eq!(fs::read(&path).unwrap(), b"");
+    drop(Journal::create(&path, 10_000).unwrap());
+    assert!(matches!(Journal::create(&path, 10_000), Err(Error::AlreadyThere(_))));
+    // A file beside which SQLite's own journal seems to stand is not overwritten either.
+    for content in [&b"a letter"[..], &fs::read(&path).unwrap()] {
+        let other = path.with_file_name("other");
+        fs::write(&other, content).unwrap();
+        fs::write(path.with_file_name("other-journal"), b"some bytes").unwrap();
+        assert!(matches!(Journal::create(&other, 10_000), Err(Error::AlreadyThere(_))));
+        assert_eq!(fs::read(&other).unwrap(), content);
+    }
+}
+
 #[test]
 fn a_second_process_is_turned_away() {
     let (path, mut journal) = journal("second");
@@ -380,22 +432,29 @@ fn an_event_that_was_changed() {
     assert!(matches!(Journal::open(&path), Err(Error::Damaged(_))));
 }
 
-/// What the command says when it takes a booking with the shim under it.
+/// The shim, built once.
+fn shim() -> &'static Path {
+    static SHIM: OnceLock<PathBuf> = OnceLock::new();
+    SHIM.get_or_init(|| {
+        let shim = Path::new(env!("CARGO_TARGET_TMPDIR")).join(format!("shim-{}.so", std::process::id()));
+        let source = Path::new(env!("CARGO_MANIFEST_DIR")).join("tests/shim.c");
+        let built =
+            Command::new("cc").args(["-shared", "-fPIC", "-o"]).arg(&shim).arg(source).arg("-ldl").status();
+        assert!(built.unwrap().success(), "the shim is built with cc");
+        shim
+    })
+}
+
+/// What the command says with the shim under it.
 fn stopped(path: &Path, how: &str, at: u64, command: &str) -> String {
-    let shim = Path::new(env!("CARGO_TARGET_TMPDIR"))
-        .join(format!("shim-{}.so", path.parent().unwrap().file_name().unwrap().to_string_lossy()));
-    let source = Path::new(env!("CARGO_MANIFEST_DIR")).join("tests/shim.c");
-    assert!(Command::new("cc")
-        .args(["-shared", "-fPIC", "-o"])
-        .arg(&shim)
-        .arg(source)
-        .arg("-ldl")
-        .status()
-        .unwrap()
-        .success());
+    let output = run(path, how, at, command);
+    String::from_utf8_lossy(&[output.stdout, output.stderr].concat()).into_owned()
+}
+
+/// Runs the command with the shim under it; `take` takes an event that the book refuses.
+fn run(path: &Path, how: &str, at: u64, command: &str) -> Output {
     let mut desk = Command::new(env!("CARGO_BIN_EXE_desk"));
     desk.arg(command).arg(path).args(["gateway-cancel", "name=NOBODY"].iter().filter(|_| command == "take"));
-    desk.env("LD_PRELOAD", &shim).env("SHIM_DO", how).env("SHIM_AT", at.to_string()).env("SHIM_PATH", path);
-    let output = desk.output().unwrap();
-    String::from_utf8_lossy(&[output.stdout, output.stderr].concat()).into_owned()
+    desk.env("LD_PRELOAD", shim()).env("SHIM_DO", how).env("SHIM_AT", at.to_string()).env("SHIM_PATH", path);
+    desk.output().unwrap()
 }

@@ -58,6 +58,10 @@ pub struct Book {
 
 impl Book {
     /// An empty book. `setting`: the most ClOrdIDs that a client may use, the reserve included.
+    /// ```
+    /// let book = jubafiye::Book::new(10_000);
+    /// assert_eq!((book.setting(), book.orders().count()), (10_000, 0));
+    /// ```
     pub fn new(setting: u32) -> Self {
         let mut bytes = Box::new([0; BOOK_BYTES]);
         // `start` refuses only another length, which the type rules out; a library with other books would refuse each event.
@@ -84,11 +88,22 @@ impl Book {
     }
 
     /// The book's bytes, by docs/LAYOUT.md.
+    /// ```
+    /// let book = jubafiye::Book::new(10_000);
+    /// assert_eq!(book.as_bytes().len(), jubafiye::BOOK_BYTES);
+    /// ```
     pub fn as_bytes(&self) -> &[u8] {
         &self.bytes[..]
     }
 
     /// The book's bytes, for a store.
+    /// ```
+    /// use jubafiye::Book;
+    ///
+    /// let stored = Book::new(10_000).into_bytes();
+    /// assert_eq!(Book::from_bytes(&stored)?.setting(), 10_000);
+    /// # Ok::<(), jubafiye::Refusal>(())
+    /// ```
     pub fn into_bytes(self) -> Vec<u8> {
         let bytes: Box<[u8]> = self.bytes;
         bytes.into_vec()

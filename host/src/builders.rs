@@ -35,18 +35,21 @@ impl<'a> Booking<'a> {
     }
 
     /// Under this name of ours and this ClOrdID of the client's.
+    /// [`Booking::new`] has an example.
     #[must_use]
     pub const fn named(self, name: &'a [u8], cl_ord_id: &'a [u8]) -> Self {
         Self { name, cl_ord_id, ..self }
     }
 
     /// As a limit order at this price.
+    /// [`Booking::new`] has an example.
     #[must_use]
     pub const fn limit(self, price: Price) -> Self {
         Self { ord_type: OrdType::Limit, price: Some(price), ..self }
     }
 
     /// With this time in force.
+    /// [`Booking::new`] has an example.
     #[must_use]
     pub const fn time_in_force(self, time_in_force: TimeInForce) -> Self {
         Self { time_in_force: Some(time_in_force), ..self }
@@ -73,6 +76,7 @@ impl<'a> Amend<'a> {
     }
 
     /// Marked as one that may have been sent before.
+    /// [`Amend::new`] has an example.
     #[must_use]
     pub const fn redelivered(self) -> Self {
         Self { redelivered: true, ..self }
@@ -94,24 +98,40 @@ impl<'a> Replace<'a> {
     }
 
     /// To a limit order at this price.
+    /// [`Replace::new`] has an example.
     #[must_use]
     pub const fn limit(self, price: Price) -> Self {
         Self { ord_type: Some(OrdType::Limit), price: Some(price), ..self }
     }
 
     /// To a market order.
+    /// ```
+    /// use jubafiye::{Amend, OrdType, Qty, Replace, Side};
+    ///
+    /// let amend = Amend::new(7, b"C2", b"C1", b"WHEATH27", Side::Buy);
+    /// let replace = Replace::new(amend, Qty::units(80), Ok(())).market();
+    /// assert_eq!((replace.ord_type, replace.price), (Some(OrdType::Market), None));
+    /// ```
     #[must_use]
     pub const fn market(self) -> Self {
         Self { ord_type: Some(OrdType::Market), price: None, ..self }
     }
 
     /// To this time in force.
+    /// ```
+    /// use jubafiye::{Amend, Qty, Replace, Side, TimeInForce};
+    ///
+    /// let amend = Amend::new(7, b"C2", b"C1", b"WHEATH27", Side::Buy);
+    /// let replace = Replace::new(amend, Qty::units(80), Ok(())).time_in_force(TimeInForce::Gtc);
+    /// assert_eq!(replace.time_in_force, Some(TimeInForce::Gtc));
+    /// ```
     #[must_use]
     pub const fn time_in_force(self, time_in_force: TimeInForce) -> Self {
         Self { time_in_force: Some(time_in_force), ..self }
     }
 
     /// Of a client that an operator blocked.
+    /// [`Replace::new`] has an example.
     #[must_use]
     pub const fn blocked(self) -> Self {
         Self { blocked: true, ..self }
@@ -153,6 +173,7 @@ impl<'a> VenueReport<'a> {
     }
 
     /// With this fill: LastQty and LastPx.
+    /// [`VenueReport::new`] has an example.
     #[must_use]
     pub const fn last(self, last_qty: Qty, last_px: Price) -> Self {
         Self { last_qty, last_px, ..self }

@@ -107,6 +107,12 @@ macro_rules! counted {
 }
 
 /// Why a text is no quantity or no price.
+/// ```
+/// use jubafiye::{DecimalError, Qty};
+///
+/// assert_eq!("".parse::<Qty>(), Err(DecimalError::NoDigit));
+/// assert!("1.00005".parse::<Qty>().is_err() && "1.00000".parse::<Qty>().is_ok());
+/// ```
 #[derive(Debug, Clone, Copy, PartialEq, Eq, Hash)]
 #[non_exhaustive]
 pub enum DecimalError {
@@ -200,6 +206,11 @@ impl Price {
     }
 
     /// Whole units of money.
+    /// ```
+    /// # use jubafiye::Price;
+    /// assert_eq!(Price::units(10), "10".parse()?);
+    /// # Ok::<(), jubafiye::DecimalError>(())
+    /// ```
     #[allow(clippy::as_conversions)] // to a wider type, where `from` is not const
     pub const fn units(units: u64) -> Self {
         Self((units as u128).saturating_mul(100_000_000))
@@ -207,7 +218,7 @@ impl Price {
 }
 
 /// A decimal number as FIX writes it, without a sign: `100`, `0.5`, also `007.50`, `7.` and `.5`. Nothing is rounded: more
-/// than 4 decimals are refused, zeros too, and so is what lies above [`Qty::MAX`].
+/// than 4 decimals are refused, zeros at the end aside, and so is what lies above [`Qty::MAX`].
 impl FromStr for Qty {
     type Err = DecimalError;
 

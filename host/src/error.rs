@@ -56,6 +56,9 @@ pub enum Refusal {
 
 impl Refusal {
     /// The number that the library returns, never 0.
+    /// ```
+    /// assert_eq!(jubafiye::Refusal::Full.number(), 7);
+    /// ```
     pub const fn number(self) -> u32 {
         match self {
             Self::Book => 1,
@@ -212,16 +215,22 @@ impl BadAnswer {
     }
 
     /// All bytes that were to be read: of an event that was taken, the whole answer buffer as the library left it.
+    /// [`BadAnswer`] has an example.
     pub fn bytes(&self) -> &[u8] {
         &self.bytes
     }
 
     /// The same, for whoever keeps them.
+    /// ```
+    /// let bad = jubafiye::Answer::read(b"none").unwrap_err();
+    /// assert_eq!(bad.into_bytes(), b"none");
+    /// ```
     pub fn into_bytes(self) -> Vec<u8> {
         self.bytes
     }
 
     /// The first thing that is wrong with them.
+    /// [`BadAnswer`] has an example.
     pub fn fault(&self) -> Fault {
         self.fault
     }
@@ -262,6 +271,10 @@ impl Error {
     }
 
     /// The refusal, where the event was not taken.
+    /// ```
+    /// # use jubafiye::{Error, Refusal};
+    /// assert_eq!(Error::Refused(Refusal::Full).refusal(), Some(Refusal::Full));
+    /// ```
     pub fn refusal(&self) -> Option<Refusal> {
         match self {
             Self::Refused(refusal) => Some(*refusal),

@@ -73,12 +73,22 @@ listed! {
 
 impl OrdStatus {
     /// Whether an order with it has ended: the book keeps such a status.
+    /// ```
+    /// use jubafiye::OrdStatus;
+    ///
+    /// assert!(OrdStatus::Filled.is_done() && !OrdStatus::DoneForDay.is_done());
+    /// ```
     pub const fn is_done(self) -> bool {
         matches!(self, Self::Filled | Self::Canceled | Self::Expired | Self::Rejected)
     }
 
     /// Whether an order with it has a LeavesQty of 0, whatever was filled: done, or done for the day. The latter is live all
     /// the same: it may be cancelled and replaced, fills count, and a later report may set another status.
+    /// ```
+    /// use jubafiye::OrdStatus;
+    ///
+    /// assert!(OrdStatus::DoneForDay.leaves_nothing() && !OrdStatus::PartiallyFilled.leaves_nothing());
+    /// ```
     pub const fn leaves_nothing(self) -> bool {
         self.is_done() || matches!(self, Self::DoneForDay)
     }

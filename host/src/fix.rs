@@ -43,6 +43,12 @@ pub use send::{clean, outgoing, with_clean_text, with_extras, Extra, Outgoing, P
 pub use read::{read, Body, Cancel, CancelReject, Fields, Message, NewOrder, Replace, Report};
 
 /// What the session gives to a message. The three texts are not empty and have no byte below 32.
+/// ```
+/// use jubafiye::fix::Header;
+///
+/// let header = Header { sender: b"US", target: b"THEM", sequence: 7, time: b"20261116-12:34:56" };
+/// assert_eq!(Header { sequence: 8, ..header }.sender, b"US");
+/// ```
 #[derive(Debug, Clone, Copy, PartialEq, Eq, Hash)]
 pub struct Header<'a> {
     /// SenderCompID(49).
@@ -96,6 +102,16 @@ pub fn write<'a>(record: &[u8], header: &Header<'_>, out: &'a mut [u8]) -> Resul
 }
 
 /// The same, into bytes of its own.
+/// ```
+/// use jubafiye::fix;
+///
+/// // A new order for venue 3: G1, WHEAT, buy, market, 100.
+/// let record = b"\x12\xe2\x03\0\0\x03\0\x02G1\x05WHEAT11\x40\x42\x0f\0\0\0\0\0";
+/// let header = fix::Header { sender: b"US", target: b"THEM", sequence: 7, time: b"20261116-12:34:56" };
+/// let message = fix::to_vec(record, &header)?;
+/// assert_eq!(message, fix::write(record, &header, &mut [0; 600])?);
+/// # Ok::<(), jubafiye::Refusal>(())
+/// ```
 pub fn to_vec(record: &[u8], header: &Header<'_>) -> Result<Vec<u8>, Refusal> {
     let mut message = vec![0; header.room()];
     let length = entries::write(record, header, &mut message)?;

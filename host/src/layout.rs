@@ -1,5 +1,5 @@
 //! The book's bytes (docs/LAYOUT.md): where each field stands, under its name there. The numbers stand here and nowhere else in the
-//! crate; `tests/view.rs` and `tests/explain.rs` hold them against the library. Rests on nothing.
+//! crate; `tests/layout.rs` and `tests/explain.rs` hold them against the library. Rests on nothing.
 
 /// The bytes of a book.
 pub const BOOK_BYTES: usize = 65_536;
@@ -217,4 +217,30 @@ pub(crate) fn requests_in_use(book: &BookBytes) -> usize {
 pub(crate) fn write(book: &mut BookBytes, at: usize, spot: Spot, value: u64) {
     let field = book.get_mut(at..).unwrap_or_default().iter_mut().take(spot.bytes);
     field.zip(value.to_le_bytes()).for_each(|(to, from)| *to = from);
+}
+
+#[cfg(test)]
+mod tests {
+    use super::*;
+
+    /// The rows of the document's table under a heading: place, bytes and name; spare bytes aside.
+    fn rows(heading: &str) -> Vec<(usize, usize, &'static str)> {
+        let document = include_str!("../../docs/LAYOUT.md");
+        let section =
+            document.split("\n## ").find(|section| section.lines().next() == Some(heading)).unwrap();
+        let cells = section.lines().map(|line| line.split('|').map(str::trim).collect::<Vec<_>>());
+        let row = |cells: Vec<&'static str>| {
+            let name = cells.get(3)?.split([';', ':']).next()?;
+            Some((cells.get(1)?.parse().ok()?, cells.get(2)?.parse().ok()?, name))
+        };
+        cells.filter_map(row).filter(|row| row.2 != "spare" && row.2 != "not used").collect()
+    }
+
+    #[test]
+    fn every_field_stands_where_the_document_has_it() {
+        for (heading, all) in [("Header", header::ALL), ("Order", order::ALL), ("Request", request::ALL)] {
+            let here: Vec<_> = all.iter().map(|spot| (spot.at, spot.bytes, spot.name)).collect();
+            assert_eq!(here, rows(heading), "{heading}");
+        }
+    }
 }

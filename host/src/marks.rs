@@ -45,6 +45,10 @@ pub struct Marks<B = Vec<u8>> {
 
 impl Marks {
     /// So many places, all free, in a buffer of its own.
+    /// ```
+    /// let marks = jubafiye::Marks::new(2);
+    /// assert_eq!((marks.places(), marks.free(), marks.names().len()), (2, 2, 0));
+    /// ```
     pub fn new(places: usize) -> Self {
         Self { buffer: vec![0; places.saturating_mul(PLACE_BYTES)] }
     }
@@ -69,6 +73,11 @@ impl<B> Marks<B> {
     }
 
     /// The buffer.
+    /// ```
+    /// use jubafiye::{Marks, PLACE_BYTES};
+    ///
+    /// assert_eq!(Marks::new(2).into_inner(), vec![0; 2 * PLACE_BYTES]);
+    /// ```
     pub fn into_inner(self) -> B {
         self.buffer
     }
@@ -76,22 +85,40 @@ impl<B> Marks<B> {
 
 impl<B: AsRef<[u8]>> Marks<B> {
     /// The buffer's bytes, for a store (docs/LAYOUT.md, A place).
+    /// ```
+    /// use jubafiye::{Book, Marks};
+    ///
+    /// let mut marks = Marks::new(1);
+    /// marks.set(&Book::new(10_000), "A")?;
+    /// assert_eq!(Marks::over(marks.as_bytes()).names(), ["A"]);
+    /// # Ok::<(), jubafiye::Refusal>(())
+    /// ```
     pub fn as_bytes(&self) -> &[u8] {
         self.buffer.as_ref()
     }
 
     /// How many places there are.
+    /// [`Marks::new`] has an example.
     pub fn places(&self) -> usize {
         self.as_bytes().chunks_exact(PLACE_BYTES).count()
     }
 
     /// How many of them are free.
+    /// ```
+    /// use jubafiye::{Book, Marks};
+    ///
+    /// let mut marks = Marks::new(2);
+    /// marks.set(&Book::new(10_000), "A")?;
+    /// assert_eq!(marks.free(), 1);
+    /// # Ok::<(), jubafiye::Refusal>(())
+    /// ```
     pub fn free(&self) -> usize {
         self.as_bytes().chunks_exact(PLACE_BYTES).filter(|place| name(place) == Some("")).count()
     }
 
     /// The names that places have, each once, by the first of its places. Whether an image of that name keeps the book's rules
     /// is decided by the return.
+    /// [`Marks`] has an example.
     pub fn names(&self) -> Vec<&str> {
         let mut names = Vec::new();
         for name in self.as_bytes().chunks_exact(PLACE_BYTES).filter_map(name) {
@@ -145,6 +172,7 @@ impl<B: AsRef<[u8]> + AsMut<[u8]>> Marks<B> {
     /// Sets a mark: the book's image goes to the first place of that name, in the place of what it held, else to the first free
     /// one. A name that is not 1 to 16 letters or digits is refused with [`Refusal::MarkName`], a new one where no place is free
     /// with [`Refusal::NoPlace`]; the buffer is then as it was.
+    /// [`Marks`] has an example.
     pub fn set(&mut self, book: &Book, name: impl AsRef<[u8]>) -> Result<(), Refusal> {
         entries::set_mark(book.bytes(), name.as_ref(), self.buffer.as_mut())
     }

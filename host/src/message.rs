@@ -163,6 +163,12 @@ pub enum Message {
 
 impl Message {
     /// The number of its kind in a record, 16 to 20.
+    /// ```
+    /// // An answer with a new order for venue 3: G1, WHEAT, buy, market, 100.
+    /// let answer = b"\x1f\0\x01\0\0\x12\xe2\x03\0\0\x03\0\x02G1\x05WHEAT11\x40\x42\x0f\0\0\0\0\0";
+    /// assert_eq!(jubafiye::Answer::read(answer)?.messages[0].kind(), 18);
+    /// # Ok::<(), jubafiye::BadAnswer>(())
+    /// ```
     pub const fn kind(&self) -> u8 {
         match self {
             Self::Report(_) => 16,

@@ -22,22 +22,58 @@ pub struct Page {
 
 impl Page {
     /// The bytes, as the library printed them.
+    /// ```
+    /// # use jubafiye::{Book, Booking, Event, Qty, Side};
+    /// # let mut book = Book::new(10_000);
+    /// # let booking = Booking::new(7, 3, Side::Buy, Qty::units(100), b"WHEATH27").named(b"G1", b"C1");
+    /// # drop(book.take(&Event::Book(booking))?);
+    /// // G1 is booked
+    /// assert_eq!(book.page().as_bytes().len(), 81);
+    /// # Ok::<(), jubafiye::Error>(())
+    /// ```
     pub fn as_bytes(&self) -> &[u8] {
         &self.bytes
     }
 
     /// The same, for whoever keeps them.
+    /// ```
+    /// # use jubafiye::{Book, Booking, Event, Qty, Side};
+    /// # let mut book = Book::new(10_000);
+    /// # let booking = Booking::new(7, 3, Side::Buy, Qty::units(100), b"WHEATH27").named(b"G1", b"C1");
+    /// # drop(book.take(&Event::Book(booking))?);
+    /// // G1 is booked
+    /// assert!(book.page().into_bytes().ends_with(b"\n"));
+    /// # Ok::<(), jubafiye::Error>(())
+    /// ```
     pub fn into_bytes(self) -> Vec<u8> {
         self.bytes
     }
 
     /// The page as a text, where its bytes are UTF-8: always if no symbol has a byte above 127, and else only if such bytes
     /// spell characters, of which each takes more columns than one.
+    /// ```
+    /// # use jubafiye::{Book, Booking, Event, Qty, Side};
+    /// # let mut book = Book::new(10_000);
+    /// # let booking = Booking::new(7, 3, Side::Buy, Qty::units(100), b"WHEATH27").named(b"G1", b"C1");
+    /// # drop(book.take(&Event::Book(booking))?);
+    /// // G1 is booked
+    /// assert!(book.page().as_str().is_some_and(|page| page.starts_with("G1 ")));
+    /// # Ok::<(), jubafiye::Error>(())
+    /// ```
     pub fn as_str(&self) -> Option<&str> {
         str::from_utf8(&self.bytes).ok()
     }
 
     /// The lines, each without its line feed.
+    /// ```
+    /// # use jubafiye::{Book, Booking, Event, Qty, Side};
+    /// # let mut book = Book::new(10_000);
+    /// # let booking = Booking::new(7, 3, Side::Buy, Qty::units(100), b"WHEATH27").named(b"G1", b"C1");
+    /// # drop(book.take(&Event::Book(booking))?);
+    /// // G1 is booked
+    /// assert_eq!(book.page().lines().map(<[u8]>::len).collect::<Vec<_>>(), [80]);
+    /// # Ok::<(), jubafiye::Error>(())
+    /// ```
     pub fn lines(&self) -> impl Iterator<Item = &[u8]> {
         self.bytes.chunks(PAGE_LINE).map(|line| line.strip_suffix(b"\n").unwrap_or(line))
     }

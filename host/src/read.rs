@@ -156,6 +156,12 @@ impl fmt::Display for RecordFault {
 
 /// A record that is no event's, with the first thing that is wrong with it in the order of the questions: all that makes it not
 /// read whole (3) comes before a field out of its range (4).
+/// ```
+/// use jubafiye::{explain_record, Event, RecordFault, Refusal};
+///
+/// let bad = explain_record(&Event::GatewayCancel { name: b"G 1" }.record()).unwrap_err();
+/// assert_eq!((bad.fault(), bad.at(), bad.refusal()), (&RecordFault::Name, 5, Refusal::Range));
+/// ```
 #[derive(Debug, Clone, PartialEq, Eq)]
 pub struct BadRecord {
     fault: RecordFault,
@@ -164,16 +170,19 @@ pub struct BadRecord {
 
 impl BadRecord {
     /// What is wrong.
+    /// [`BadRecord`] has an example.
     pub fn fault(&self) -> &RecordFault {
         &self.fault
     }
 
     /// The byte of the record where it is wrong.
+    /// [`BadRecord`] has an example.
     pub fn at(&self) -> usize {
         self.at
     }
 
     /// What the book says to it: [`Refusal::Record`] or [`Refusal::Range`].
+    /// [`BadRecord`] has an example.
     pub fn refusal(&self) -> Refusal {
         match self.fault {
             RecordFault::Length { .. }

@@ -115,12 +115,20 @@ impl OwnedEvent {
     }
 
     /// The event, with its texts in these bytes.
+    /// ```
+    /// use jubafiye::{Event, OwnedEvent};
+    ///
+    /// let event: OwnedEvent = "gateway-cancel name=G1".parse()?;
+    /// assert_eq!(event.event(), Event::GatewayCancel { name: b"G1" });
+    /// # Ok::<(), jubafiye::TextError>(())
+    /// ```
     pub fn event(&self) -> Event<'_> {
         // The record was read when this was made.
         Event::read(&self.record).unwrap_or(Event::GatewayCancel { name: b"" })
     }
 
     /// The event's record.
+    /// [`OwnedEvent::from_record`] has an example.
     pub fn record(&self) -> &[u8] {
         &self.record
     }

@@ -227,6 +227,8 @@ pub struct Request<'a> {
     pub cl_ord_id: Option<&'a [u8]>,
     /// The client's OrigClOrdID(41), of a cancel or replace.
     pub orig_cl_ord_id: Option<&'a [u8]>,
+    /// The index of the request that the OrigClOrdID names.
+    pub origin: Option<usize>,
     /// The ClOrdID(11) that the venue knows it by.
     pub downstream: &'a [u8],
 }
@@ -249,6 +251,7 @@ impl<'a> Request<'a> {
             outcome: Outcome::from_number(raw.byte(request::OUTCOME))?,
             cl_ord_id: given(request::CL_ORD_ID),
             orig_cl_ord_id: given(request::ORIG_CL_ORD_ID),
+            origin: given(request::ORIG_CL_ORD_ID).and_then(|_| raw.link(request::ORIGIN)),
             downstream: raw.text(request::DOWNSTREAM).text,
         })
     }
@@ -410,5 +413,5 @@ shown!(Order<'_> {
 
 shown!(Request<'_> {
     index, order, order_name as text, client, venue, kind, answered, outcome, cl_ord_id as text, orig_cl_ord_id as text,
-    downstream as text,
+    origin, downstream as text,
 });

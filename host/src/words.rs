@@ -108,6 +108,9 @@ pub enum FixedText {
 
 impl FixedText {
     /// Its number, 1 to 18.
+    /// ```
+    /// assert_eq!(jubafiye::FixedText::Done.number(), 7);
+    /// ```
     pub const fn number(self) -> u8 {
         match self {
             Self::GatewayCancelling => 1,
@@ -126,6 +129,12 @@ impl FixedText {
     }
 
     /// The text of a number, 1 to 18.
+    /// ```
+    /// use jubafiye::FixedText;
+    ///
+    /// assert_eq!(FixedText::from_number(7), Some(FixedText::Done));
+    /// assert_eq!(FixedText::from_number(19), None);
+    /// ```
     pub fn from_number(number: u8) -> Option<Self> {
         Some(match number {
             1 => Self::GatewayCancelling,

@@ -1,4 +1,4 @@
-//! Orders and requests as the views show them: every field of docs/LAYOUT.md, set through the library to a value of its own.
+//! Orders and requests as the views show them. `tests/layout.rs` holds where each field stands.
 
 mod common;
 

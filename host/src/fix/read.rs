@@ -157,11 +157,33 @@ pub struct Fields<'a>(Vec<(u32, &'a [u8])>);
 
 impl<'a> Fields<'a> {
     /// The value of a tag, where it stands.
+    /// ```
+    /// use jubafiye::fix;
+    ///
+    /// // A new order for venue 3: G1, WHEAT, buy, market, 100.
+    /// let record = b"\x12\xe2\x03\0\0\x03\0\x02G1\x05WHEAT11\x40\x42\x0f\0\0\0\0\0";
+    /// let header = fix::Header { sender: b"US", target: b"THEM", sequence: 7, time: b"20261116-12:34:56" };
+    /// let message = fix::to_vec(record, &header).unwrap();
+    /// let fields = fix::read(&message)?.fields;
+    /// assert_eq!((fields.get(55), fields.get(97)), (Some(&b"WHEAT"[..]), None));
+    /// # Ok::<(), fix::Error>(())
+    /// ```
     pub fn get(&self, tag: u32) -> Option<&'a [u8]> {
         self.0.iter().find(|field| field.0 == tag).map(|field| field.1)
     }
 
     /// All fields, in their order.
+    /// ```
+    /// use jubafiye::fix;
+    ///
+    /// // A new order for venue 3: G1, WHEAT, buy, market, 100.
+    /// let record = b"\x12\xe2\x03\0\0\x03\0\x02G1\x05WHEAT11\x40\x42\x0f\0\0\0\0\0";
+    /// let header = fix::Header { sender: b"US", target: b"THEM", sequence: 7, time: b"20261116-12:34:56" };
+    /// let message = fix::to_vec(record, &header).unwrap();
+    /// let tags: Vec<u32> = fix::read(&message)?.fields.iter().map(|(tag, _)| tag).collect();
+    /// assert!(tags.starts_with(&[8, 9, 35]) && tags.ends_with(&[10]));
+    /// # Ok::<(), fix::Error>(())
+    /// ```
     pub fn iter(&self) -> impl Iterator<Item = (u32, &'a [u8])> + '_ {
         self.0.iter().copied()
     }

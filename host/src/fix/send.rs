@@ -16,6 +16,14 @@ pub enum Peer {
 
 impl Peer {
     /// The peer that a message is for.
+    /// ```
+    /// use jubafiye::{fix::Peer, Answer};
+    ///
+    /// // An answer with a new order for venue 3: G1, WHEAT, buy, market, 100.
+    /// let answer = b"\x1f\0\x01\0\0\x12\xe2\x03\0\0\x03\0\x02G1\x05WHEAT11\x40\x42\x0f\0\0\0\0\0";
+    /// assert_eq!(Peer::of(&Answer::read(answer)?.messages[0]), Peer::Venue(3));
+    /// # Ok::<(), jubafiye::BadAnswer>(())
+    /// ```
     pub const fn of(message: &Message) -> Self {
         match message {
             Message::Report(report) => Self::Client(report.client),
@@ -40,11 +48,23 @@ pub struct Outgoing<'a> {
 
 impl Outgoing<'_> {
     /// The whole FIX message at the front of `out`: [`write`](super::write) of its record.
+    /// ```
+    /// use jubafiye::fix;
+    ///
+    /// // An answer with a new order for venue 3: G1, WHEAT, buy, market, 100.
+    /// let answer = b"\x1f\0\x01\0\0\x12\xe2\x03\0\0\x03\0\x02G1\x05WHEAT11\x40\x42\x0f\0\0\0\0\0";
+    /// let header = fix::Header { sender: b"US", target: b"THEM", sequence: 7, time: b"20261116-12:34:56" };
+    /// let order = fix::outgoing(answer)?.next().unwrap();
+    /// let mut buffer = vec![0; header.room()];
+    /// assert!(order.write(&header, &mut buffer)?.starts_with(b"8=FIX.4.4\x01"));
+    /// # Ok::<(), jubafiye::Error>(())
+    /// ```
     pub fn write<'a>(&self, header: &Header<'_>, out: &'a mut [u8]) -> Result<&'a [u8], Refusal> {
         write(self.record, header, out)
     }
 
     /// The same, into bytes of its own.
+    /// [`outgoing`] has an example.
     pub fn to_vec(&self, header: &Header<'_>) -> Result<Vec<u8>, Refusal> {
         to_vec(self.record, header)
     }
@@ -122,6 +142,11 @@ pub fn clean(text: &[u8]) -> Vec<u8> {
 /// A message's record with its text (bit 20, FIX's Text) cleaned as by [`clean`], and nothing else changed: what to write where
 /// [`write`](super::write) refuses a message with [`Refusal::Text`] that the book has put out. A record without a text, and
 /// bytes that are no record, are copied as they are.
+/// ```
+/// // A record of kind 16 with a text alone.
+/// let record = b"\x10\0\0\x10\0\x03a\nb";
+/// assert_eq!(jubafiye::fix::with_clean_text(record), b"\x10\0\0\x10\0\x03a b");
+/// ```
 pub fn with_clean_text(record: &[u8]) -> Vec<u8> {
     let mut cleaned = record.to_vec();
     if let Some(text) = text_at(record).and_then(|place| cleaned.get_mut(place)) {
@@ -157,6 +182,7 @@ fn width(bit: u32, bytes: &[u8]) -> Option<usize> {
 }
 
 /// A field that a session adds to a message: `97=Y` behind 52, say.
+/// [`with_extras`] has an example.
 #[derive(Debug, Clone, Copy, PartialEq, Eq, Hash)]
 pub struct Extra<'a> {
     /// The tag of the field that it comes behind.
