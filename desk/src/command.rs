@@ -5,6 +5,7 @@ mod fix;
 mod html;
 
 use std::error::Error;
+use std::fmt;
 use std::io::{self, Write};
 use std::path::Path;
 
@@ -22,13 +23,31 @@ pub enum Done {
 
 type Ended = Result<Done, Box<dyn Error>>;
 
+/// An argument that does not read: the command was called otherwise than its help says.
+#[derive(Debug)]
+pub struct Misused(String);
+
+impl Misused {
+    fn new(why: impl fmt::Display) -> Self {
+        Self(why.to_string())
+    }
+}
+
+impl fmt::Display for Misused {
+    fn fmt(&self, f: &mut fmt::Formatter<'_>) -> fmt::Result {
+        f.write_str(&self.0)
+    }
+}
+
+impl Error for Misused {}
+
 pub fn run(what: What) -> Ended {
     match what {
         What::Dump { book } => print(&book_of(&book)?.to_string()),
         What::Diff { a, b } => diff(&book_of(&a)?, &book_of(&b)?),
         What::Replay { day, until } => replay(&Day::load(&day)?, until),
         What::Explain { record: Some(record), .. } => {
-            said_of_record(&text::from_text(&format!("record {record}"))?)
+            said_of_record(&text::from_text(&format!("record {record}")).map_err(Misused::new)?)
         }
         What::Explain { file, .. } => explained(&day::bytes(&file.unwrap_or_default())?),
         What::Events { day, to } => events(&Day::load(&day)?, to),
@@ -64,10 +83,7 @@ fn book_of(path: &Path) -> Result<Book, Box<dyn Error>> {
             format!("{}: {refused}: {why}", path.display()).into()
         });
     }
-    let day = Day::load(path)?;
-    let mut book = Book::new(day.setting);
-    day.records.iter().for_each(|record| drop(book.take_record(record)));
-    Ok(book)
+    Day::load(path)?.run(None, |_| Ok(()))
 }
 
 fn diff(a: &Book, b: &Book) -> Ended {
@@ -108,17 +124,20 @@ fn said_of_record(record: &[u8]) -> Ended {
     }
 }
 
+/// A refused event is marked behind `#`, a comment of the text form: what is written is read as the same events.
 fn events(day: &Day, to: Form) -> Ended {
     let mut written = Vec::new();
-    for record in &day.records {
-        match to {
-            Form::Text => written.extend(format!("{}\n", text::to_text(record)).bytes()),
-            Form::Records => {
-                written.extend(u16::try_from(record.len())?.to_le_bytes());
-                written.extend(record);
-            }
+    if let Form::Records = to {
+        for record in &day.records {
+            written.extend(u16::try_from(record.len())?.to_le_bytes());
+            written.extend(record);
         }
+        return out(&written);
     }
+    day.run(None, |Step { record, answer, .. }| {
+        let mark = answer.as_ref().err().map(|refusal| format!(" # {}", refusal.of_record(record)));
+        Ok(writeln!(written, "{}{}", text::to_text(record), mark.unwrap_or_default())?)
+    })?;
     out(&written)
 }
 
@@ -142,7 +161,7 @@ fn html_page(day: &Day, output: Option<&Path>, title: &str) -> Ended {
 }
 
 fn take(path: &Path, line: &str) -> Ended {
-    let record = text::from_text(line)?;
+    let record = text::from_text(line).map_err(Misused::new)?;
     let taken = Journal::open(path)?.take(&record)?;
     match taken.answer {
         Ok(answer) if answer.messages.is_empty() && answer.alarms.is_empty() => {
@@ -150,7 +169,7 @@ fn take(path: &Path, line: &str) -> Ended {
         }
         Ok(answer) => print(&format!("taken {}\n{answer}", taken.seq)),
         Err(refusal) => {
-            print(&format!("{refusal}\n"))?;
+            print(&format!("{}\n", refusal.of_record(&record)))?;
             Ok(Done::LookAtIt)
         }
     }

@@ -11,9 +11,35 @@ use crate::error::Error;
 use crate::sum::sum;
 
 /// The version of docs/LAYOUT.md that snapshots have.
+///
+/// ```
+/// use desk::{Error, Journal, LAYOUT_VERSION};
+///
+/// # let path = desk::doc_folder("layout_version").join("journal");
+/// drop(Journal::create(&path, 10_000)?);
+/// // as a desk with a later layout would leave it
+/// rusqlite::Connection::open(&path)?.execute("UPDATE snapshot SET layout = ?1", [LAYOUT_VERSION + 1])?;
+/// assert!(matches!(Journal::open(&path), Err(Error::Version { wanted: LAYOUT_VERSION, .. })));
+/// # Ok::<(), Error>(())
+/// ```
 pub const LAYOUT_VERSION: i64 = 1;
 
 /// A snapshot of the book is kept after so many events.
+///
+/// ```
+/// use desk::{Journal, SNAPSHOT_EVERY};
+/// use jubafiye::text::from_text;
+///
+/// # let path = desk::doc_folder("snapshot_every").join("journal");
+/// let mut journal = Journal::create(&path, 10_000)?;
+/// let event = from_text("again venue=3 downstream=G1").unwrap();
+/// drop(journal.drain((0..SNAPSHOT_EVERY).map(|_| &event[..]))?);
+/// drop(journal);
+/// let db = rusqlite::Connection::open(&path)?;
+/// let last: u64 = db.query_row("SELECT max(seq) FROM snapshot", [], |row| row.get(0))?;
+/// assert_eq!(last, SNAPSHOT_EVERY);
+/// # Ok::<(), desk::Error>(())
+/// ```
 pub const SNAPSHOT_EVERY: u64 = 256;
 
 /// The version of the journal's tables, and the number by which SQLite's file is ours.
@@ -27,7 +53,24 @@ const TABLES: &str = "
 ";
 
 /// A message that is to be handed to a session.
-/// [`Journal::outbox`] has an example.
+///
+/// ```
+/// use desk::{Journal, Outgoing};
+/// use jubafiye::{fix, text::from_text};
+///
+/// # let mut journal = Journal::create(desk::doc_folder("outgoing").join("journal"), 10_000)?;
+/// let booking = "book client=7 venue=3 name=G1 clordid=C1 symbol=W side=buy ordtype=market qty=100";
+/// drop(journal.take(&from_text(booking).unwrap())?);
+/// let mut sent = Vec::new();
+/// journal.hand_over(|Outgoing { message, record, repeat, .. }| {
+///     let header = fix::Header { sender: b"US", target: b"THEM", sequence: 1, time: b"20261116-12:34:56" };
+///     sent.push((fix::Peer::of(message), fix::to_vec(record, &header)?, *repeat));
+///     Ok::<(), jubafiye::Refusal>(())
+/// })?;
+/// let (to, fix, repeat) = &sent[0];
+/// assert_eq!((*to, fix.starts_with(b"8=FIX.4.4\x01"), *repeat), (fix::Peer::Venue(3), true, false));
+/// # Ok::<(), desk::Error>(())
+/// ```
 #[derive(Debug, Clone, PartialEq, Eq)]
 #[non_exhaustive]
 pub struct Outgoing {
@@ -44,7 +87,18 @@ pub struct Outgoing {
 }
 
 /// An event that is on the disk.
-/// [`Journal::take`] has an example.
+///
+/// ```
+/// use desk::{Journal, Taken};
+/// use jubafiye::Event;
+///
+/// # let mut journal = Journal::create(desk::doc_folder("taken").join("journal"), 10_000)?;
+/// let record = Event::GatewayCancel { name: b"" }.record();
+/// let Taken { seq, answer, .. } = journal.take(&record)?;
+/// let why = answer.unwrap_err().of_record(&record);
+/// assert_eq!((seq, why.ends_with("name has 0 bytes, not 1 to 20")), (1, true));
+/// # Ok::<(), desk::Error>(())
+/// ```
 #[must_use]
 #[derive(Debug, Clone, PartialEq, Eq)]
 #[non_exhaustive]
@@ -56,7 +110,18 @@ pub struct Taken {
 }
 
 /// An event as the journal keeps it.
-/// [`Journal::events`] has an example.
+///
+/// ```
+/// use desk::{Journal, Kept};
+/// use jubafiye::{text::to_text, Event};
+///
+/// # let mut journal = Journal::create(desk::doc_folder("kept").join("journal"), 10_000)?;
+/// drop(journal.take(&Event::UnknownAtVenue { venue: 3, downstream: b"G1" }.record())?);
+/// let Kept { seq, record, answer, .. } = &journal.events(1)?[0];
+/// assert_eq!((*seq, to_text(record)), (1, "unknown venue=3 downstream=G1".into()));
+/// assert_eq!(answer.as_deref(), Ok(&[5, 0, 0, 3, 0][..]));
+/// # Ok::<(), desk::Error>(())
+/// ```
 #[derive(Debug, Clone, PartialEq, Eq)]
 #[non_exhaustive]
 pub struct Kept {
@@ -72,7 +137,22 @@ pub struct Kept {
 ///
 /// An event, its answer and its messages go to the disk in one transaction (`synchronous=FULL`) before [`Journal::take`] returns.
 /// A booking's own message to its venue, which the book leaves to the host, is among them.
-/// The [crate](crate) has an example of its use.
+///
+/// ```
+/// use desk::Journal;
+/// use jubafiye::text::from_text;
+///
+/// # let path = desk::doc_folder("journal").join("monday.journal");
+/// let mut journal = Journal::create(&path, 10_000)?;
+/// let booking = "book client=7 venue=3 name=G1 clordid=C1 symbol=W side=buy ordtype=market qty=100";
+/// assert!(journal.take(&from_text(booking).unwrap())?.answer.is_ok());
+/// let before = journal.book().as_bytes().to_vec();
+/// drop(journal);
+/// // a crash, say: the book is what it was, and the order is still to be handed over
+/// let journal = Journal::open(&path)?;
+/// assert_eq!((journal.book().as_bytes() == before, journal.outbox()?.len()), (true, 1));
+/// # Ok::<(), desk::Error>(())
+/// ```
 pub struct Journal {
     db: Connection,
     now: Now,

@@ -14,17 +14,32 @@ Examples:
   desk diff morning.book evening.book      each field that differs
   desk explain evening.book                which rule a refused book breaks, and where
   desk explain --record 0904000000024731   what is wrong with a record
-  desk events monday.journal > monday.txt  a day as text, one event a line
+  desk events monday.journal > monday.txt  a day as text, one event a line, a refused one marked behind #
   desk events monday.txt --to records > monday.day   and back, as ./day reads it
   desk fix session.log                     a FIX log with the names of the fields
   desk page monday.txt                     the evening page and the net position
   desk html monday.journal -o monday.html  one page for the clerk, to look at and to print
+  desk take monday.journal gateway-cancel name=G1   an event into a journal
 
 A BOOK is a file of 65,536 bytes, a journal or a day. A DAY is a journal, a text with an event in each line, or records as ./day
 reads them, each after its length in two bytes. `-` is standard input.
 
 Exit status: 0 done; 1 something is to be looked at: books differ, a book or record is refused, a message does not read, an
-event was refused; 2 the command was called otherwise than --help says; 3 a file is not there or is none of what was asked for.";
+event was refused (replay, take); 2 the command was called otherwise than --help says, or its event or record does not read; 3 a
+file is not there or is none of what was asked for.";
+
+const EVENTS: &str = "\
+Events, a line each; fields may stand in any order, and `desk events` writes a day so:
+  book client=7 venue=3 name=G1 clordid=C1 symbol=WHEATH27 side=buy ordtype=limit qty=100 price=10.25
+  cancel client=7 clordid=C2 origclordid=C1 symbol=WHEATH27 side=buy
+  replace client=7 clordid=C3 origclordid=C1 symbol=WHEATH27 side=buy qty=80 price=10.5 verdict=pass
+  report venue=3 downstream=G1 exectype=trade ordstatus=filled lastqty=100 lastpx=10 cumqty=100 avgpx=10
+  unknown venue=3 downstream=G1
+  reject venue=3 downstream=G1-1 reason=99 text=\"too late\"
+  failed venue=3 downstream=G1 text=\"session down\"
+  again venue=3 downstream=G1
+  gateway-cancel name=G1
+  record 0904000000024731";
 
 #[derive(Parser)]
 #[command(name = "desk", version, about = "Books, days, records and FIX logs of the order book, for a person", after_help = EXAMPLES)]
@@ -64,7 +79,7 @@ enum What {
         #[arg(long, value_name = "HEX", conflicts_with = "file")]
         record: Option<String>,
     },
-    /// Writes a day as text, one event a line, or as records
+    /// Writes a day as text, one event a line, a refused one marked behind `#`, or as records
     Events {
         /// A journal, a text or records
         day: PathBuf,
@@ -102,6 +117,7 @@ enum What {
         setting: u32,
     },
     /// Takes an event into a journal: what goes out stays in its outbox
+    #[command(after_help = EVENTS)]
     Take {
         /// The journal
         journal: PathBuf,
@@ -126,7 +142,7 @@ fn main() -> ExitCode {
         Ok(command::Done::LookAtIt) => ExitCode::from(1),
         Err(why) => {
             eprintln!("desk: {why}");
-            ExitCode::from(3)
+            ExitCode::from(if why.is::<command::Misused>() { 2 } else { 3 })
         }
     }
 }

@@ -1,5 +1,20 @@
 //! What the Rust gateway had as inputs of its own and the book leaves to its host, as lists of events: each is put to the journal
 //! with [`Journal::take`](crate::Journal::take) or [`Journal::drain`](crate::Journal::drain).
+//!
+//! ```
+//! use desk::{recipes, Journal};
+//! use jubafiye::text::from_text;
+//!
+//! # let mut journal = Journal::create(desk::doc_folder("recipes").join("journal"), 10_000)?;
+//! let booking = "book client=7 venue=3 name=G1 clordid=C1 symbol=W side=buy ordtype=market qty=100";
+//! drop(journal.take(&from_text(booking).unwrap())?);
+//! // the end of the day
+//! let cancels = recipes::cancel_day_orders(journal.book());
+//! drop(journal.drain(cancels.iter().map(Vec::as_slice))?);
+//! // until the venue has answered, G1 keeps the day open
+//! assert_eq!((cancels.len(), recipes::left_open(journal.book()).len()), (1, 1));
+//! # Ok::<(), desk::Error>(())
+//! ```
 
 use jubafiye::{Book, Event, ExecType, OrdStatus, Stage, VenueReport};
 
@@ -30,7 +45,19 @@ pub fn gone_at_venue(book: &Book, name: impl AsRef<[u8]>) -> Option<Vec<u8>> {
 /// A venue whose session comes up again: event 9 for each live order there whose gateway cancel was begun and is not sent.
 ///
 /// ```
-/// assert!(desk::recipes::venue_up(&jubafiye::Book::new(10_000), 3).is_empty());
+/// use jubafiye::{Book, Booking, Event, Qty, Side};
+///
+/// let mut book = Book::new(10_000);
+/// let booking = Booking::new(7, 3, Side::Buy, Qty::units(100), b"WHEATH27").named(b"G1", b"C1");
+/// drop(book.take(&Event::Book(booking))?);
+/// drop(book.take(&Event::GatewayCancel { name: b"G1" })?);
+/// assert!(desk::recipes::venue_up(&book, 3).is_empty());
+/// // the session could not take the gateway's cancel
+/// drop(book.take(&Event::SendFailed { venue: 3, downstream: b"G1-1", text: b"session down" })?);
+/// let again = desk::recipes::venue_up(&book, 3);
+/// assert_eq!(again, [Event::GatewayCancel { name: b"G1" }.record()]);
+/// assert_eq!(book.take_record(&again[0])?.messages.len(), 1);
+/// # Ok::<(), jubafiye::Error>(())
 /// ```
 pub fn venue_up(book: &Book, venue: u16) -> Vec<Vec<u8>> {
     let waits = |order: &jubafiye::Order<'_>| {
@@ -43,7 +70,15 @@ pub fn venue_up(book: &Book, venue: u16) -> Vec<Vec<u8>> {
 /// A journal that is opened after a crash does this by itself for what was not handed over.
 ///
 /// ```
-/// assert!(desk::recipes::venue_lost(&jubafiye::Book::new(10_000), 3).is_empty());
+/// use jubafiye::{Book, Booking, Event, Qty, Side};
+///
+/// let mut book = Book::new(10_000);
+/// let booking = Booking::new(7, 3, Side::Buy, Qty::units(100), b"WHEATH27").named(b"G1", b"C1");
+/// drop(book.take(&Event::Book(booking))?);
+/// let lost = desk::recipes::venue_lost(&book, 3);
+/// assert_eq!(lost, [Event::SendAgain { venue: 3, downstream: b"G1" }.record()]);
+/// assert_eq!(book.take_record(&lost[0])?.messages.len(), 1);
+/// # Ok::<(), jubafiye::Error>(())
 /// ```
 pub fn venue_lost(book: &Book, venue: u16) -> Vec<Vec<u8>> {
     let again =
@@ -55,7 +90,15 @@ pub fn venue_lost(book: &Book, venue: u16) -> Vec<Vec<u8>> {
 /// are good till cancelled, or that are being cancelled already, stay as they are.
 ///
 /// ```
-/// assert!(desk::recipes::cancel_day_orders(&jubafiye::Book::new(10_000)).is_empty());
+/// use jubafiye::{Book, Booking, Event, Qty, Side, TimeInForce};
+///
+/// let mut book = Book::new(10_000);
+/// let booking = Booking::new(7, 3, Side::Buy, Qty::units(100), b"WHEATH27").named(b"G1", b"C1");
+/// drop(book.take(&Event::Book(booking))?);
+/// let kept = booking.named(b"G2", b"C2").time_in_force(TimeInForce::Gtc);
+/// drop(book.take(&Event::Book(kept))?);
+/// assert_eq!(desk::recipes::cancel_day_orders(&book), [Event::GatewayCancel { name: b"G1" }.record()]);
+/// # Ok::<(), jubafiye::Error>(())
 /// ```
 pub fn cancel_day_orders(book: &Book) -> Vec<Vec<u8>> {
     let ends = |order: &jubafiye::Order<'_>| {
@@ -69,7 +112,15 @@ pub fn cancel_day_orders(book: &Book) -> Vec<Vec<u8>> {
 /// empty list: the day may be closed.
 ///
 /// ```
-/// assert!(desk::recipes::left_open(&jubafiye::Book::new(10_000)).is_empty());
+/// use jubafiye::{Book, Booking, Event, Qty, Side};
+///
+/// let mut book = Book::new(10_000);
+/// let booking = Booking::new(7, 3, Side::Buy, Qty::units(100), b"WHEATH27").named(b"G1", b"C1");
+/// drop(book.take(&Event::Book(booking))?);
+/// assert!(desk::recipes::left_open(&book)[0].starts_with("G1: client 7 (C1), venue 3, buy 100 WHEATH27"));
+/// drop(book.take_record(&desk::recipes::gone_at_venue(&book, b"G1").unwrap())?);
+/// assert!(desk::recipes::left_open(&book).is_empty());
+/// # Ok::<(), jubafiye::Error>(())
 /// ```
 pub fn left_open(book: &Book) -> Vec<String> {
     let live = book.orders().filter(|order| !order.status.is_done());

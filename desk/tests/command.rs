@@ -34,12 +34,38 @@ fn a_day_as_text_and_as_records() {
     let folder = folder("events");
     let (status, text, _) = desk(&folder, &["events", "day.txt"]);
     assert_eq!((status, text.as_str()), (0, DAY.split_once('\n').unwrap().1));
-    let output = Command::new(env!("CARGO_BIN_EXE_desk"))
-        .args(["events", "day.txt", "--to", "records"])
-        .current_dir(&folder)
-        .output();
-    fs::write(folder.join("day.bin"), output.unwrap().stdout).unwrap();
+    fs::write(folder.join("day.bin"), printed(&folder, &["events", "day.txt", "--to", "records"])).unwrap();
     assert_eq!(desk(&folder, &["events", "day.bin"]).1, text);
+}
+
+/// What a call prints that is no text.
+fn printed(folder: &Path, arguments: &[&str]) -> Vec<u8> {
+    Command::new(env!("CARGO_BIN_EXE_desk")).args(arguments).current_dir(folder).output().unwrap().stdout
+}
+
+#[test]
+fn a_refused_event_is_marked_and_the_text_reads_back() {
+    let folder = folder("marked");
+    let refused = [DAY.lines().nth(1).unwrap(), "record ff00", "record 090400000002472d"].join("\n");
+    fs::write(folder.join("refused.txt"), [DAY, &refused, "\n"].concat()).unwrap();
+    let (status, text, _) = desk(&folder, &["events", "refused.txt"]);
+    assert_eq!((status, text.lines().count()), (0, DAY.lines().count() - 1 + 3));
+    let marked: Vec<(&str, &str)> = text.lines().filter_map(|line| line.split_once(" # ")).collect();
+    let why = [
+        "refused with 5: the order name or ClOrdID is in use",
+        "refused with 3: the record does not read whole, at byte 2: it has not the five bytes of a kind and a map",
+        "refused with 4: a field is out of its range, at byte 5: an order name has letters and digits alone and is not NONE",
+    ];
+    assert_eq!(marked, refused.lines().zip(why).collect::<Vec<_>>());
+    assert_eq!(
+        desk(&folder, &["replay", "refused.txt"]).1.matches(&format!("\n    {}\n", why[2])).count(),
+        1
+    );
+    fs::write(folder.join("marked.txt"), &text).unwrap();
+    assert_eq!(desk(&folder, &["events", "marked.txt"]).1, text);
+    let records = |day| printed(&folder, &["events", day, "--to", "records"]);
+    assert_eq!(records("marked.txt"), records("refused.txt"));
+    assert!(records("marked.txt").ends_with(b"\x02\0\xff\0\x08\0\x09\x04\0\0\0\x02G-"));
 }
 
 #[test]
@@ -135,6 +161,28 @@ fn a_fix_log() {
     assert_eq!(said("54=1", "54=9"), "line 1: DOES NOT READ: CheckSum(10) is 067, and the bytes have 075");
     assert_eq!(said("9=103", "9=130"), "line 1: DOES NOT READ: BodyLength(9) is 130, and the bytes have 103");
     assert!(said("54=1|40=1", "54=1|4=1|0").starts_with("line 1: DOES NOT READ: "));
+    // With BodyLength and CheckSum as they are to be, the field itself is pointed at.
+    let framed = |from: &str, to: &str| {
+        let body = good.split_once("|35").unwrap().1.rsplit_once("10=").unwrap().0.replace(from, to);
+        let whole = format!("8=FIX.4.4|9={}|35{body}", body.len() + 2);
+        let sum = whole.bytes().fold(0u8, |sum, byte| sum.wrapping_add(if byte == b'|' { 1 } else { byte }));
+        fs::write(folder.join("bad.log"), format!("{whole}10={sum:03}|\n")).unwrap();
+        let (status, shown, _) = desk(&folder, &["fix", "bad.log"]);
+        (status, shown.lines().next().unwrap().replace("line 1: ", ""))
+    };
+    assert_eq!(framed("54=1", "54=1"), (0, "reads".into()));
+    for (from, to, why) in [
+        ("54=1", "54=9", "Side(54) is \"9\", not a side"),
+        ("38=100.0000", "38=100", "OrderQty(38) is \"100\", not a quantity with four decimals"),
+        ("|54=1", "", "OrdType(40) stands in place of Side(54)"),
+        ("54=1|40=1", "40=1|54=1", "OrdType(40) stands in place of Side(54)"),
+        ("55=WHEAT", "55=WHEAT|55=WHEAT", "Symbol(55) stands in place of Side(54)"),
+        ("=D|", "=AE|", "MsgType(35) AE is none of the book's"),
+        ("34=7", "34=x", "MsgSeqNum(34) is \"x\", not a number"),
+        ("|38=100.0000", "|38=100.0000|97=Y", "the tag 97 is none that the book's messages have"),
+    ] {
+        assert_eq!(framed(from, to), (1, format!("DOES NOT READ: {why}")), "{from} {to}");
+    }
     fs::write(folder.join("none.log"), "nothing\n").unwrap();
     assert_eq!(desk(&folder, &["fix", "none.log"]).0, 3);
 }
@@ -178,7 +226,50 @@ fn a_journal_is_made_and_written_and_looked_at() {
     let dumped = desk(&folder, &["dump", "monday"]).1;
     assert!(dumped.contains("G1: client 7 (C1), venue 3, buy 100 WHEATH27 limit 10.25"), "{dumped}");
     // Opening it for each event puts what was not handed over again: event 8 stands among the events.
-    assert!(desk(&folder, &["events", "monday"]).1.contains("again venue=3 downstream=G1\n"));
+    let events = desk(&folder, &["events", "monday"]).1;
+    assert!(events.contains("again venue=3 downstream=G1\n"));
+    assert_eq!(events.matches(" # refused with 5: the order name or ClOrdID is in use\n").count(), 1);
+    fs::write(folder.join("monday.txt"), &events).unwrap();
+    assert_eq!(desk(&folder, &["dump", "monday.txt"]).1, dumped);
+}
+
+#[test]
+fn an_event_that_does_not_read_is_a_wrong_call() {
+    let folder = folder("misused");
+    assert_eq!(desk(&folder, &["create", "monday"]).0, 0);
+    for (event, why) in [
+        ("buy client=7", "\"buy\" is no event: book, cancel, "),
+        ("book client=7 venu=3", "\"venu\" is no field"),
+        ("again venue=3", "the field downstream is missing"),
+        ("gateway-cancel name=G1 client=7", "bit 0 of the map, the field client, is none of this kind"),
+        ("again venue=x downstream=G1", "venue: no number up to 65535"),
+        ("gateway-cancel name=G-1", "an order name has letters and digits alone"),
+        ("record 0g", "the record is not in hexadecimal digits"),
+    ] {
+        let (status, said, told) = desk(&folder, &["take", "monday", event]);
+        assert_eq!((status, said.as_str()), (2, ""), "{event}");
+        assert!(told.starts_with(&format!("desk: {why}")), "{told}");
+    }
+    assert_eq!(desk(&folder, &["events", "monday"]), (0, String::new(), String::new()), "nothing was taken");
+    assert_eq!(desk(&folder, &["explain", "--record", "0g"]).0, 2);
+    assert_eq!(desk(&folder, &["take", "tuesday", "gateway-cancel name=G1"]).0, 3);
+}
+
+#[test]
+fn a_refused_record_names_its_field() {
+    let folder = folder("field");
+    assert_eq!(desk(&folder, &["create", "monday"]).0, 0);
+    for (record, why) in [
+        ("09040000000247", "refused with 3: the record does not read whole, at byte 5: it ends within the field name\n"),
+        ("0904000000002471", "refused with 3: the record does not read whole, at byte 6: 2 bytes stand behind the last field\n"),
+        ("090400000000", "refused with 4: a field is out of its range, at byte 5: name has 0 bytes, not 1 to 20\n"),
+    ] {
+        assert_eq!(desk(&folder, &["take", "monday", "record", record]), (1, why.into(), String::new()));
+        assert!(desk(&folder, &["events", "monday"]).1.ends_with(&format!("record {record} # {why}")));
+    }
+    assert_eq!(desk(&folder, &["html", "monday", "-o", "day.html"]).0, 0);
+    let page = fs::read_to_string(folder.join("day.html")).unwrap();
+    assert!(page.contains("at byte 5: name has 0 bytes, not 1 to 20</td>"), "{page}");
 }
 
 #[test]
@@ -199,4 +290,9 @@ fn what_is_not_there_or_no_day_is_said() {
     assert_eq!(desk(&folder, &["nonsense"]).0, 2);
     let (status, help, _) = desk(&folder, &["--help"]);
     assert!(status == 0 && help.contains("Examples:") && help.contains("Exit status: 0 done"));
+    let (status, help, _) = desk(&folder, &["take", "--help"]);
+    assert!(status == 0 && help.contains("Events, a line each"), "{help}");
+    for line in help.lines().skip_while(|line| !line.starts_with("Events")).skip(1) {
+        assert!(jubafiye::text::from_text(line).is_ok(), "{line}");
+    }
 }

@@ -350,8 +350,9 @@ fn put_out(event: &desk::Kept) -> Vec<String> {
 }
 
 /// The requests that may be neither on the wire nor in the outbox: those that a restart put as event 8 and the book did not send again.
-/// Either event 8 settled such a request as not sent, or there was nothing left to send: the venue had settled it (a request of the
-/// drawn days may be answered before it is sent), or the venue knew its order. A request that is put out later is none of them.
+/// Either event 8 settled such a request as not sent, whose outcome is then refused (docs/SCOPE.md, Chains), or there was nothing left to
+/// send: the venue had settled it (a request of the drawn days may be answered before it is sent), or the venue knew its order. A request
+/// that is put out later is none of them.
 fn settled(events: &[desk::Kept], acked: &BTreeMap<u64, Vec<u8>>) -> BTreeSet<String> {
     let (mut book, mut settled) = (Book::new(10_000), BTreeSet::new());
     for event in events {
@@ -367,7 +368,7 @@ fn settled(events: &[desk::Kept], acked: &BTreeMap<u64, Vec<u8>>) -> BTreeSet<St
         drop(book.take_record(&event.record));
         if let Some((downstream, waited)) = again {
             let of = book.requests().find(|one| one.downstream == downstream);
-            let not_sent = of.is_some_and(|one| one.outcome == Outcome::FailedToSend);
+            let not_sent = of.is_some_and(|one| one.outcome == Outcome::Refused);
             if !waited || not_sent {
                 settled.insert(request(downstream));
             }

@@ -12,7 +12,7 @@ listed! {
     ///
     /// ```
     /// # use jubafiye::Alarm;
-    /// assert_eq!(Alarm::Overfill.number(), 2);
+    /// assert_eq!((Alarm::Overfill.number(), Alarm::from_number(2)), (2, Some(Alarm::Overfill)));
     /// assert_eq!(Alarm::StuckCancel.to_string(), "the gateway has given up cancelling an order");
     /// ```
     #[non_exhaustive]
@@ -32,6 +32,17 @@ impl std::error::Error for Alarm {}
 const HEAD: usize = 5;
 
 /// What follows an event that was taken. Its messages are to be sent.
+///
+/// ```
+/// # #[cfg(feature = "book")] {
+/// use jubafiye::{Alarm, Answer, Book, Event};
+///
+/// let mut book = Book::new(10_000);
+/// let Answer { messages, alarms, .. } = book.take(&Event::UnknownAtVenue { venue: 3, downstream: b"G1" })?;
+/// assert_eq!((messages.len(), &alarms[..]), (0, &[Alarm::UnknownOrder][..]));
+/// # }
+/// # Ok::<(), jubafiye::Error>(())
+/// ```
 #[must_use = "its messages are to be sent, and its alarms looked at"]
 #[derive(Debug, Clone, PartialEq, Eq, Default)]
 #[non_exhaustive]

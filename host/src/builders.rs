@@ -198,24 +198,28 @@ macro_rules! what_a_venue_may_add {
     ($($name:ident)*) => {
         $(impl<'a> $name<'a> {
             /// With this OrdStatus.
+            #[doc = concat!("[`", stringify!($name), "`] has an example.")]
             #[must_use]
             pub const fn status(self, status: OrdStatus) -> Self {
                 Self { status: Some(status), ..self }
             }
 
             /// With the venue's OrderID.
+            #[doc = concat!("[`", stringify!($name), "`] has an example.")]
             #[must_use]
             pub const fn venue_order_id(self, venue_order_id: &'a [u8]) -> Self {
                 Self { venue_order_id: Some(venue_order_id), ..self }
             }
 
             /// With this reason.
+            #[doc = concat!("[`", stringify!($name), "`] has an example.")]
             #[must_use]
             pub const fn reason(self, reason: u32) -> Self {
                 Self { reason: Some(reason), ..self }
             }
 
             /// With this text, 1 to 64 bytes.
+            #[doc = concat!("[`", stringify!($name), "`] has an example.")]
             #[must_use]
             pub const fn text(self, text: &'a [u8]) -> Self {
                 Self { text: Some(text), ..self }

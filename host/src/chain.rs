@@ -11,9 +11,32 @@ use crate::list::listed;
 use crate::show::shown;
 
 /// The bytes of an entry of a chain.
+///
+/// ```
+/// use jubafiye::{Book, Booking, ChainEntry, Event, Qty, Side, CHAIN_BYTES, CHAIN_ENTRY_BYTES};
+///
+/// let mut book = Book::new(10_000);
+/// let booking = Booking::new(7, 3, Side::Buy, Qty::units(100), b"WHEATH27").named(b"G1", b"C1");
+/// drop(book.take(&Event::Book(booking))?);
+/// let mut list = [0; CHAIN_BYTES];
+/// let entries = book.chain_into(7, "C1", &mut list)?.chunks(CHAIN_ENTRY_BYTES);
+/// assert_eq!(entries.filter_map(ChainEntry::read).count(), 1);
+/// # Ok::<(), jubafiye::Error>(())
+/// ```
 pub const CHAIN_ENTRY_BYTES: usize = CHAIN_ENTRY;
 
 /// The bytes that the chain of any ClOrdID has at most.
+///
+/// ```
+/// use jubafiye::{Book, Booking, Event, Qty, Refusal, Side, CHAIN_BYTES};
+///
+/// let mut book = Book::new(10_000);
+/// let booking = Booking::new(7, 3, Side::Buy, Qty::units(100), b"WHEATH27").named(b"G1", b"C1");
+/// drop(book.take(&Event::Book(booking))?);
+/// assert!(book.chain_into(7, "C1", &mut [0; CHAIN_BYTES]).is_ok());
+/// assert_eq!(book.chain_into(7, "C1", &mut [0; 1]), Err(Refusal::ChainList));
+/// # Ok::<(), jubafiye::Error>(())
+/// ```
 pub const CHAIN_BYTES: usize = CHAIN_ENTRY * REQUESTS;
 
 listed! {
@@ -35,6 +58,17 @@ listed! {
 }
 
 /// A ClOrdID of a chain, and what its request came to.
+///
+/// ```
+/// use jubafiye::{Book, Booking, ChainEntry, Event, Outcome, Qty, Side};
+///
+/// let mut book = Book::new(10_000);
+/// let booking = Booking::new(7, 3, Side::Buy, Qty::units(100), b"WHEATH27").named(b"G1", b"C1");
+/// drop(book.take(&Event::Book(booking))?);
+/// let chain: Vec<ChainEntry> = book.chain(7, "C1");
+/// assert_eq!((&chain[0].cl_ord_id[..], chain[0].outcome), (&b"C1"[..], Outcome::Open));
+/// # Ok::<(), jubafiye::Error>(())
+/// ```
 #[derive(Clone, PartialEq, Eq, Hash)]
 #[non_exhaustive]
 pub struct ChainEntry {

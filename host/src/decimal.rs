@@ -152,6 +152,17 @@ impl std::error::Error for DecimalError {}
 
 impl Qty {
     /// The most that an event may bring: 10^12, or 100,000,000 whole units.
+    ///
+    /// ```
+    /// # #[cfg(feature = "book")] {
+    /// use jubafiye::{Book, Booking, Event, Qty, Refusal, Side};
+    ///
+    /// let book = Book::new(10_000);
+    /// let order = |qty| Event::Book(Booking::new(7, 3, Side::Buy, qty, b"WHEATH27").named(b"G1", b"C1"));
+    /// assert!(book.needs(&order(Qty::MAX)).is_ok());
+    /// assert_eq!(book.needs(&order(Qty(Qty::MAX.0 + 1))), Err(Refusal::Range));
+    /// # }
+    /// ```
     pub const MAX: Self = Self(1_000_000_000_000);
 
     const DECIMALS: usize = 4;
@@ -195,6 +206,17 @@ impl Price {
     }
 
     /// The most that an event may bring: 10^14, or 1,000,000 whole units.
+    ///
+    /// ```
+    /// # #[cfg(feature = "book")] {
+    /// use jubafiye::{Book, Booking, Event, Price, Qty, Refusal, Side};
+    ///
+    /// let book = Book::new(10_000);
+    /// let booking = Booking::new(7, 3, Side::Buy, Qty::units(100), b"WHEATH27").named(b"G1", b"C1");
+    /// assert!(book.needs(&Event::Book(booking.limit(Price::MAX))).is_ok());
+    /// assert_eq!(book.needs(&Event::Book(booking.limit(Price(Price::MAX.0 + 1)))), Err(Refusal::Range));
+    /// # }
+    /// ```
     pub const MAX: Self = Self(100_000_000_000_000);
 
     const DECIMALS: usize = 8;

@@ -7,6 +7,16 @@ pub(crate) use crate::layout::{BookBytes, BOOK_BYTES, ORDERS, REQUESTS};
 use crate::needs::Needs;
 
 /// The bytes that an answer buffer must have at least.
+///
+/// ```
+/// use jubafiye::{Book, Event, Refusal, ANSWER_BYTES};
+///
+/// let record = Event::UnknownAtVenue { venue: 3, downstream: b"G1" }.record();
+/// let mut book = Book::new(10_000);
+/// assert_eq!(book.take_record_into(&record, &mut [0; ANSWER_BYTES])?, [5, 0, 0, 3, 0]);
+/// assert_eq!(book.take_record_into(&record, &mut [0; ANSWER_BYTES - 1]), Err(Refusal::AnswerBuffer));
+/// # Ok::<(), Refusal>(())
+/// ```
 pub const ANSWER_BYTES: usize = 1_024;
 
 /// A line of the evening page, with its line feed.

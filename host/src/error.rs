@@ -143,6 +143,14 @@ impl fmt::Display for Refusal {
 impl error::Error for Refusal {}
 
 /// What is wrong with bytes that are no answer.
+///
+/// ```
+/// use jubafiye::{Answer, Fault};
+///
+/// let bad = Answer::read(&[5, 0, 3, 0, 0]).unwrap_err();
+/// assert_eq!(bad.fault(), Fault::Count(3));
+/// assert_eq!(bad.fault().to_string(), "3 messages, more than 2");
+/// ```
 #[derive(Debug, Clone, Copy, PartialEq, Eq, Hash)]
 #[non_exhaustive]
 pub enum Fault {
@@ -245,6 +253,19 @@ impl fmt::Display for BadAnswer {
 impl error::Error for BadAnswer {}
 
 /// Why an event gave no messages to send. The two cases differ in what has happened to the book.
+///
+/// ```
+/// # #[cfg(feature = "book")] {
+/// use jubafiye::{Book, Error, Event};
+///
+/// let told = match Book::new(10_000).take(&Event::GatewayCancel { name: b"" }) {
+///     Ok(answer) => answer.to_string(),
+///     Err(Error::Refused(refusal)) => format!("the book is as it was: {refusal}"),
+///     Err(taken) => format!("{taken}: keep its bytes"),
+/// };
+/// assert_eq!(told, "the book is as it was: refused with 4: a field is out of its range");
+/// # }
+/// ```
 #[derive(Debug, Clone, PartialEq, Eq)]
 #[non_exhaustive]
 pub enum Error {

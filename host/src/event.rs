@@ -9,6 +9,17 @@ use crate::show::shown;
 use crate::words::RiskReject;
 
 /// An order that was admitted. The gateway sends it to the venue itself, under its name.
+///
+/// ```
+/// use jubafiye::{Booking, Event, Qty, Side};
+///
+/// let booking = Booking::new(7, 3, Side::Buy, Qty::units(100), b"WHEATH27").named(b"G1", b"C1").limit("10.25".parse()?);
+/// assert_eq!(
+///     Event::Book(booking).to_string(),
+///     "book client=7 venue=3 name=G1 clordid=C1 symbol=WHEATH27 side=buy ordtype=limit qty=100 price=10.25"
+/// );
+/// # Ok::<(), jubafiye::DecimalError>(())
+/// ```
 #[derive(Clone, Copy, PartialEq, Eq)]
 pub struct Booking<'a> {
     /// The client's number.
@@ -34,6 +45,16 @@ pub struct Booking<'a> {
 }
 
 /// A client's cancel, and what a replace has in common with one.
+///
+/// ```
+/// use jubafiye::{Amend, Event, Side};
+///
+/// let cancel = Amend::new(7, b"C2", b"C1", b"WHEATH27", Side::Buy);
+/// assert_eq!(
+///     Event::Cancel(cancel).to_string(),
+///     "cancel client=7 clordid=C2 origclordid=C1 symbol=WHEATH27 side=buy"
+/// );
+/// ```
 #[derive(Clone, Copy, PartialEq, Eq)]
 pub struct Amend<'a> {
     /// The client's number.
@@ -99,6 +120,21 @@ pub struct Replace<'a> {
 }
 
 /// A venue's execution report.
+///
+/// ```
+/// use jubafiye::{Event, ExecType, OrdStatus, Price, Qty, VenueReport};
+///
+/// let report = VenueReport::new(3, b"G1", ExecType::Rejected, Qty(0), Price(0))
+///     .status(OrdStatus::Rejected)
+///     .venue_order_id(b"V-1")
+///     .reason(1)
+///     .text(b"unknown symbol");
+/// assert_eq!(
+///     Event::VenueReport(report).to_string(),
+///     "report venue=3 downstream=G1 exectype=rejected ordstatus=rejected lastqty=0 lastpx=0 cumqty=0 avgpx=0 \
+///      venueorderid=V-1 reason=1 text=\"unknown symbol\""
+/// );
+/// ```
 #[derive(Clone, Copy, PartialEq, Eq)]
 pub struct VenueReport<'a> {
     /// The venue that it came from.
@@ -126,6 +162,17 @@ pub struct VenueReport<'a> {
 }
 
 /// A venue's refusal of a cancel or replace (OrderCancelReject).
+///
+/// ```
+/// use jubafiye::{Event, OrdStatus, RejectedRequest};
+///
+/// let reject =
+///     RejectedRequest::new(3, b"G1-1").status(OrdStatus::Filled).venue_order_id(b"V-1").reason(0).text(b"too late");
+/// assert_eq!(
+///     Event::CancelReject(reject).to_string(),
+///     "reject venue=3 downstream=G1-1 ordstatus=filled venueorderid=V-1 reason=0 text=\"too late\""
+/// );
+/// ```
 #[derive(Clone, Copy, PartialEq, Eq)]
 pub struct RejectedRequest<'a> {
     /// The venue that it came from.

@@ -14,7 +14,9 @@ listed! {
     /// A rule of the book (docs/SCOPE.md, Rules), by its place in that list.
     ///
     /// ```
-    /// assert_eq!(jubafiye::Rule::Filled.to_string(), "the cumulative quantity is at most the quantity ordered");
+    /// # use jubafiye::Rule;
+    /// assert_eq!((Rule::Filled.number(), Rule::from_number(6)), (6, Some(Rule::Filled)));
+    /// assert_eq!(Rule::Filled.to_string(), "the cumulative quantity is at most the quantity ordered");
     /// ```
     #[non_exhaustive]
     Rule: number, from_number {
@@ -39,6 +41,15 @@ listed! {
 }
 
 /// A rule that a book breaks, and where.
+///
+/// ```
+/// use jubafiye::{explain, Broken, Rule, BOOK_BYTES};
+///
+/// let mut bytes = [0; BOOK_BYTES];
+/// bytes[0] = 65;
+/// let broken: &Broken = &explain(&bytes)[0];
+/// assert_eq!((broken.rule, broken.place.as_str(), broken.at), (Rule::Ranges, "header, orders in use", 0));
+/// ```
 #[derive(Debug, Clone, PartialEq, Eq)]
 #[non_exhaustive]
 pub struct Broken {

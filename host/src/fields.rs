@@ -16,11 +16,24 @@ listed! {
 
 listed! {
     /// OrdType(40).
+    ///
+    /// ```
+    /// # use jubafiye::OrdType;
+    /// assert_eq!((OrdType::Limit.code(), OrdType::from_code(b'1')), (b'2', Some(OrdType::Market)));
+    /// // a stop order, which the book does not take
+    /// assert_eq!(OrdType::from_code(b'3'), None);
+    /// ```
     OrdType: code, from_code { Market = b'1' "market", Limit = b'2' "limit" }
 }
 
 listed! {
     /// TimeInForce(59).
+    ///
+    /// ```
+    /// # use jubafiye::TimeInForce;
+    /// assert_eq!((TimeInForce::Gtc.code(), TimeInForce::from_code(b'0')), (b'1', Some(TimeInForce::Day)));
+    /// assert_eq!(TimeInForce::Ioc.to_string(), "immediate or cancel");
+    /// ```
     TimeInForce: code, from_code {
         Day = b'0' "day",
         Gtc = b'1' "good till cancel",
@@ -36,6 +49,7 @@ listed! {
     /// # use jubafiye::OrdStatus;
     /// assert!(OrdStatus::Expired.is_done() && !OrdStatus::PendingCancel.is_done());
     /// assert!(OrdStatus::DoneForDay.leaves_nothing() && !OrdStatus::DoneForDay.is_done());
+    /// assert_eq!((OrdStatus::Filled.code(), OrdStatus::from_code(b'A')), (b'2', Some(OrdStatus::PendingNew)));
     /// assert_eq!(OrdStatus::PartiallyFilled.to_string(), "partially filled");
     /// ```
     #[non_exhaustive]
@@ -55,6 +69,13 @@ listed! {
 
 listed! {
     /// ExecType(150).
+    ///
+    /// ```
+    /// # use jubafiye::ExecType;
+    /// assert_eq!((ExecType::Trade.code(), ExecType::from_code(b'5')), (b'F', Some(ExecType::Replaced)));
+    /// // a fill of FIX before 4.3, which the book does not take
+    /// assert_eq!(ExecType::from_code(b'2'), None);
+    /// ```
     ExecType: code, from_code {
         PendingNew = b'A' "pending new",
         New = b'0' "new",

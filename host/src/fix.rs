@@ -62,6 +62,19 @@ pub struct Header<'a> {
 }
 
 /// The bytes that a message has at most, the header's texts aside.
+///
+/// ```
+/// use jubafiye::fix::{self, Header, MESSAGE_BYTES};
+///
+/// // one buffer for a session whose comp IDs and times never pass 64 bytes in all, SendingTime(52) counted twice
+/// let mut buffer = [0; MESSAGE_BYTES + 64];
+/// let header = Header { sender: b"US", target: b"THEM", sequence: 7, time: b"20261116-12:34:56" };
+/// assert!(header.room() <= buffer.len());
+/// // a new order for venue 3: G1, WHEAT, buy, market, 100
+/// let record = b"\x12\xe2\x03\0\0\x03\0\x02G1\x05WHEAT11\x40\x42\x0f\0\0\0\0\0";
+/// assert!(fix::write(record, &header, &mut buffer)?.ends_with(b"\x01"));
+/// # Ok::<(), jubafiye::Refusal>(())
+/// ```
 pub const MESSAGE_BYTES: usize = 512;
 
 impl Header<'_> {
@@ -145,6 +158,14 @@ pub fn records(answer: &[u8]) -> Result<Vec<&[u8]>, Refusal> {
 const MESSAGES: u32 = 2;
 
 /// Why a message was not read.
+///
+/// ```
+/// use jubafiye::{fix, Refusal};
+///
+/// let why = fix::read(b"8=FIX.4.2\x01").unwrap_err();
+/// assert_eq!(why, fix::Error::Refused(Refusal::Record));
+/// assert!(why.to_string().ends_with("just messages as this library writes them are read"));
+/// ```
 #[derive(Debug, Clone, Copy, PartialEq, Eq, Hash)]
 #[non_exhaustive]
 pub enum Error {

@@ -9,7 +9,7 @@ listed! {
     /// use jubafiye::SentKind;
     ///
     /// assert_eq!(SentKind::from_number(3), Some(SentKind::GatewayCancel));
-    /// assert_eq!(SentKind::NewOrder.to_string(), "new order");
+    /// assert_eq!((SentKind::NewOrder.number(), SentKind::NewOrder.to_string()), (0, "new order".into()));
     /// ```
     SentKind: number, from_number {
         NewOrder = 0 "new order",
@@ -26,7 +26,10 @@ listed! {
     /// How far the gateway's own cancel of an order is.
     ///
     /// ```
-    /// assert_eq!(jubafiye::Stage::from_number(3), Some(jubafiye::Stage::Stuck));
+    /// use jubafiye::Stage;
+    ///
+    /// assert_eq!((Stage::Sent.number(), Stage::from_number(3)), (2, Some(Stage::Stuck)));
+    /// assert_eq!(Stage::Stuck.to_string(), "given up");
     /// ```
     Stage: number, from_number {
         Unsent = 1 "waits to be sent",

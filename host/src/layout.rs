@@ -2,6 +2,14 @@
 //! crate; `tests/layout.rs` and `tests/explain.rs` hold them against the library. Rests on nothing.
 
 /// The bytes of a book.
+///
+/// ```
+/// use jubafiye::{explain, Rule, BOOK_BYTES};
+///
+/// let stored = [0; BOOK_BYTES];
+/// assert_eq!(explain(&stored), []);
+/// assert_eq!(explain(&stored[1..])[0].rule, Rule::Length);
+/// ```
 pub const BOOK_BYTES: usize = 65_536;
 
 /// The most orders of a book.

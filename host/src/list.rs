@@ -17,11 +17,13 @@ macro_rules! listed {
 
         impl $name {
             /// The byte that stands for it in a record.
+            #[doc = concat!("[`", stringify!($name), "`] has an example.")]
             pub const fn $to(self) -> u8 {
                 match self { $(Self::$variant => $byte),* }
             }
 
             /// The value of a byte, where the list has it.
+            #[doc = concat!("[`", stringify!($name), "`] has an example.")]
             pub const fn $from(byte: u8) -> Option<Self> {
                 match byte { $($byte => Some(Self::$variant),)* _ => None }
             }

@@ -7,6 +7,14 @@ use crate::entries::{self, MARK_LETTERS, MARK_NAME, MARK_PLACE};
 use crate::error::Refusal;
 
 /// The bytes of a place: 32 of a name, filled with zeros, and the image of a book.
+///
+/// ```
+/// use jubafiye::{Marks, PLACE_BYTES};
+///
+/// // room for two marks, and a part that is no whole place
+/// let marks = Marks::over(vec![0; 2 * PLACE_BYTES + 100]);
+/// assert_eq!(marks.places(), 2);
+/// ```
 pub const PLACE_BYTES: usize = MARK_PLACE;
 
 /// Marks over a buffer that is owned ([`Marks::new`]) or lent ([`Marks::over`]): whole places of [`PLACE_BYTES`], a last part

@@ -11,6 +11,23 @@ use crate::show::shown;
 use crate::words::{FixedText, Reason, Words};
 
 /// An ExecutionReport for a client.
+///
+/// ```
+/// # #[cfg(feature = "book")] {
+/// use jubafiye::{text::from_text, Book, Message, Qty};
+///
+/// # let mut book = Book::new(10_000);
+/// # drop(book.take_record(&from_text("book client=7 venue=3 name=G1 clordid=C1 symbol=WHEATH27 side=buy ordtype=limit qty=100 price=10.25")?)?);
+/// // client 7 has an order G1 of 100; the venue reports that 40 are filled
+/// let fill = "report venue=3 downstream=G1 exectype=trade ordstatus=partially-filled lastqty=40 lastpx=10 cumqty=40 avgpx=10";
+/// let answer = book.take_record(&from_text(fill)?)?;
+/// let [Message::Report(told)] = &answer.messages[..] else { panic!("one report goes out") };
+/// assert_eq!((told.client, told.last_qty, told.leaves_qty), (7, Qty::units(40), Qty::units(60)));
+/// // its ExecID(17) is G1.1
+/// assert_eq!((&told.name[..], told.exec_seq), (&b"G1"[..], 1));
+/// # }
+/// # Ok::<(), Box<dyn std::error::Error>>(())
+/// ```
 #[derive(Clone, PartialEq, Eq)]
 #[non_exhaustive]
 pub struct Report {
@@ -60,6 +77,12 @@ pub struct Report {
 
 listed! {
     /// Which request an answer is for: CxlRejResponseTo(434).
+    ///
+    /// ```
+    /// # use jubafiye::RequestKind;
+    /// assert_eq!((RequestKind::Cancel.number(), RequestKind::from_number(2)), (1, Some(RequestKind::Replace)));
+    /// assert_eq!(RequestKind::Replace.to_string(), "replace");
+    /// ```
     RequestKind: number, from_number { Cancel = 1 "cancel", Replace = 2 "replace" }
 }
 
@@ -82,6 +105,19 @@ listed! {
 }
 
 /// An OrderCancelReject for a client.
+///
+/// ```
+/// # #[cfg(feature = "book")] {
+/// use jubafiye::{Amend, Book, Event, Message, RequestKind, Side};
+///
+/// let cancel = Amend::new(7, b"C2", b"C1", b"WHEATH27", Side::Buy);
+/// let answer = Book::new(10_000).take(&Event::Cancel(cancel))?;
+/// let [Message::CancelReject(told)] = &answer.messages[..] else { panic!("a refusal goes out") };
+/// assert_eq!((told.client, &told.cl_ord_id[..], told.response_to), (7, &b"C2"[..], RequestKind::Cancel));
+/// assert_eq!((&told.name, told.text.to_string()), (&None, "unknown order".into()));
+/// # }
+/// # Ok::<(), jubafiye::Error>(())
+/// ```
 #[derive(Clone, PartialEq, Eq)]
 #[non_exhaustive]
 pub struct CancelReject {
@@ -104,6 +140,18 @@ pub struct CancelReject {
 }
 
 /// A new order, cancel or replace for a venue.
+///
+/// ```
+/// use jubafiye::{Answer, Message, OrdType, Qty, ToVenue};
+///
+/// // An answer with a new order for venue 3: G1, WHEAT, buy, market, 100.
+/// let answer = Answer::read(b"\x1f\0\x01\0\0\x12\xe2\x03\0\0\x03\0\x02G1\x05WHEAT11\x40\x42\x0f\0\0\0\0\0")?;
+/// let [Message::NewOrder(order)] = &answer.messages[..] else { panic!("a new order goes out") };
+/// let ToVenue { venue, ord_type, qty, .. } = order;
+/// assert_eq!((*venue, *ord_type, *qty), (3, OrdType::Market, Qty::units(100)));
+/// assert_eq!((&order.downstream[..], &order.orig_downstream), (&b"G1"[..], &None));
+/// # Ok::<(), jubafiye::BadAnswer>(())
+/// ```
 #[derive(Clone, PartialEq, Eq)]
 #[non_exhaustive]
 pub struct ToVenue {
@@ -132,7 +180,7 @@ pub struct ToVenue {
 /// A message that is to go out.
 ///
 /// ```
-/// use jubafiye::Message;
+/// use jubafiye::{Answer, Message};
 ///
 /// /// Where a message goes: to a client or to a venue, by number.
 /// fn target(message: &Message) -> Option<(&'static str, u16)> {
@@ -144,7 +192,10 @@ pub struct ToVenue {
 ///         _ => None,
 ///     }
 /// }
-/// # let _ = target;
+/// // An answer with a new order for venue 3: G1, WHEAT, buy, market, 100.
+/// let answer = Answer::read(b"\x1f\0\x01\0\0\x12\xe2\x03\0\0\x03\0\x02G1\x05WHEAT11\x40\x42\x0f\0\0\0\0\0")?;
+/// assert_eq!(target(&answer.messages[0]), Some(("venue", 3)));
+/// # Ok::<(), jubafiye::BadAnswer>(())
 /// ```
 #[derive(Debug, Clone, PartialEq, Eq)]
 #[non_exhaustive]

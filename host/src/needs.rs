@@ -6,6 +6,17 @@ use crate::error::Refusal;
 use crate::event::Event;
 
 /// What an event will need: the numbers of the event then run on the same book.
+///
+/// ```
+/// use jubafiye::{Book, Event, Needs};
+///
+/// let mut book = Book::new(10_000);
+/// let event = Event::UnknownAtVenue { venue: 3, downstream: b"G1" };
+/// let Needs { length, messages, .. } = book.needs(&event)?;
+/// assert_eq!((length, messages), (5, 0));
+/// assert_eq!(book.take(&event)?.messages.len(), 0);
+/// # Ok::<(), jubafiye::Error>(())
+/// ```
 #[derive(Debug, Clone, Copy, PartialEq, Eq, Hash, Default)]
 #[non_exhaustive]
 pub struct Needs {

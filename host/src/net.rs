@@ -7,12 +7,44 @@ use crate::error::Refusal;
 use crate::show::shown;
 
 /// The bytes that the lines of the net position need, whatever the book.
+///
+/// ```
+/// use jubafiye::{Book, Refusal, NET_BYTES};
+///
+/// let mut scratch = [0; jubafiye::NET_SCRATCH];
+/// assert!(Book::new(10_000).net_position_into(&mut scratch, &mut [0; NET_BYTES]).is_ok());
+/// let short = Book::new(10_000).net_position_into(&mut scratch, &mut [0; NET_BYTES - 1]).err();
+/// assert_eq!(short, Some(Refusal::NetBuffers));
+/// ```
 pub const NET_BYTES: usize = NET_LINES;
 
 /// The numbers that the scratch of the net position needs.
+///
+/// ```
+/// use jubafiye::{Book, Refusal, NET_SCRATCH};
+///
+/// let mut lines = [0; jubafiye::NET_BYTES];
+/// assert!(Book::new(10_000).net_position_into(&mut [0; NET_SCRATCH], &mut lines).is_ok());
+/// assert_eq!(Book::new(10_000).net_position_into(&mut [], &mut lines), Err(Refusal::NetBuffers));
+/// ```
 pub const NET_SCRATCH: usize = NET_NUMBERS;
 
 /// What a client has bought less what it has sold in a symbol: a line of the net position.
+///
+/// ```
+/// use jubafiye::{text::from_text, Book, Net, NetLine};
+///
+/// let mut book = Book::new(10_000);
+/// for line in [
+///     "book client=7 venue=3 name=G1 clordid=C1 symbol=WHEATH27 side=sell ordtype=market qty=100",
+///     "report venue=3 downstream=G1 exectype=trade ordstatus=partially-filled lastqty=40 lastpx=10 cumqty=40 avgpx=10",
+/// ] {
+///     drop(book.take_record(&from_text(line)?)?);
+/// }
+/// let lines: Vec<NetLine> = book.net_position();
+/// assert_eq!((lines.len(), lines[0].client, lines[0].net), (1, 7, Net(-400_000)));
+/// # Ok::<(), Box<dyn std::error::Error>>(())
+/// ```
 #[derive(Clone, PartialEq, Eq, Hash)]
 #[non_exhaustive]
 pub struct NetLine {

@@ -8,6 +8,17 @@ use crate::entries::{self, ORDERS, PAGE_LINE};
 use crate::error::Refusal;
 
 /// The bytes that the page of any book has at most: a line for each of 64 orders.
+///
+/// ```
+/// use jubafiye::{Book, Booking, Event, Qty, Refusal, Side, PAGE_BYTES};
+///
+/// let mut book = Book::new(10_000);
+/// let booking = Booking::new(7, 3, Side::Buy, Qty::units(100), b"WHEATH27").named(b"G1", b"C1");
+/// drop(book.take(&Event::Book(booking))?);
+/// assert_eq!(book.page_into(&mut [0; PAGE_BYTES])?.len(), PAGE_BYTES / 64);
+/// assert_eq!(book.page_into(&mut [0; PAGE_BYTES / 64 - 1]), Err(Refusal::PageBuffer));
+/// # Ok::<(), jubafiye::Error>(())
+/// ```
 pub const PAGE_BYTES: usize = PAGE_LINE * ORDERS;
 
 /// A book's evening page, as bytes: the order's name in columns 1 to 20, its symbol in 21 to 36, its status in 37, then ordered,
@@ -15,6 +26,20 @@ pub const PAGE_BYTES: usize = PAGE_LINE * ORDERS;
 ///
 /// A symbol may hold any byte. One below 32 is printed as a blank; one above 126 is what it is, and [`Display`](fmt::Display)
 /// shows it as the Latin-1 character, so that a line still has 80 characters. [`Page::as_bytes`] has what goes to a printer.
+///
+/// ```
+/// use jubafiye::{Book, Booking, Event, Page, Qty, Side};
+///
+/// let mut book = Book::new(10_000);
+/// let booking = Booking::new(7, 3, Side::Buy, Qty::units(100), b"WHEATH27").named(b"G1", b"C1");
+/// drop(book.take(&Event::Book(booking))?);
+/// let page: Page = book.page();
+/// assert_eq!(
+///     page.to_string(),
+///     "G1                  WHEATH27        A      100.0000        0.0000      100.0000 \n"
+/// );
+/// # Ok::<(), jubafiye::Error>(())
+/// ```
 #[derive(Clone, PartialEq, Eq, Hash)]
 pub struct Page {
     bytes: Vec<u8>,

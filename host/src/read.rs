@@ -5,7 +5,7 @@ use std::error;
 use std::fmt;
 
 use crate::decimal::{Price, Qty};
-use crate::error::Refusal;
+use crate::error::{Error, Refusal};
 use crate::event::{Amend, Booking, Event, RejectedRequest, Replace, VenueReport};
 use crate::fields::{ExecType, OrdStatus, OrdType, Side, TimeInForce};
 use crate::record::Bit;
@@ -87,6 +87,15 @@ pub(crate) const fn kind(number: u8) -> Option<(&'static str, &'static [usize], 
 }
 
 /// What is wrong with a record.
+///
+/// ```
+/// use jubafiye::{explain_record, RecordFault};
+///
+/// // event 8 with a venue, and without the ClOrdID that goes again
+/// let bad = explain_record(b"\x08\x02\0\0\0\x03\0").unwrap_err();
+/// assert_eq!(bad.fault(), &RecordFault::Missing("downstream"));
+/// assert_eq!(bad.fault().to_string(), "the field downstream is missing");
+/// ```
 #[derive(Debug, Clone, PartialEq, Eq)]
 #[non_exhaustive]
 pub enum RecordFault {
@@ -139,7 +148,12 @@ impl fmt::Display for RecordFault {
             Self::Short => f.write_str("it has not the five bytes of a kind and a map"),
             Self::Kind(kind) => write!(f, "kind {kind} is none of an event, 1 to 9"),
             Self::Missing(field) => write!(f, "the field {field} is missing"),
-            Self::NotAllowed(bit) => write!(f, "bit {bit} of the map is none of this kind"),
+            Self::NotAllowed(bit) => match usize::try_from(*bit).ok().filter(|bit| *bit < EVENT_BITS) {
+                Some(place) => {
+                    write!(f, "bit {bit} of the map, the field {}, is none of this kind", field(place).0)
+                }
+                None => write!(f, "bit {bit} of the map is none of an event"),
+            },
             Self::Cut(field) => write!(f, "it ends within the field {field}"),
             Self::Over(bytes) => write!(f, "{bytes} bytes stand behind the last field"),
             Self::Length { field, length, least, most } => {
@@ -214,6 +228,48 @@ impl error::Error for BadRecord {}
 /// ```
 pub fn explain_record(record: &[u8]) -> Result<(), BadRecord> {
     Fields::read(record).map(drop)
+}
+
+impl Refusal {
+    /// The refusal of a record in words. If the record itself is at fault (3 and 4), with the field: what [`explain_record`] says.
+    ///
+    /// ```
+    /// use jubafiye::{Event, Refusal};
+    ///
+    /// let record = Event::GatewayCancel { name: b"" }.record();
+    /// assert_eq!(
+    ///     Refusal::Range.of_record(&record),
+    ///     "refused with 4: a field is out of its range, at byte 5: name has 0 bytes, not 1 to 20"
+    /// );
+    /// assert_eq!(Refusal::InUse.of_record(&record), Refusal::InUse.to_string());
+    /// ```
+    pub fn of_record(self, record: &[u8]) -> String {
+        match explain_record(record) {
+            Err(bad) if bad.refusal() == self => bad.to_string(),
+            _ => self.to_string(),
+        }
+    }
+}
+
+impl Error {
+    /// The error of a record in words: of a refusal [`Refusal::of_record`], which names the field.
+    ///
+    /// ```
+    /// # #[cfg(feature = "book")] {
+    /// use jubafiye::{Book, Booking, Event, Qty, Side};
+    ///
+    /// // a booking that was not named
+    /// let event = Event::Book(Booking::new(7, 3, Side::Buy, Qty::units(100), b"WHEATH27"));
+    /// let why = Book::new(10_000).take(&event).unwrap_err();
+    /// assert_eq!(
+    ///     why.of_record(&event.record()),
+    ///     "refused with 4: a field is out of its range, at byte 9: name has 0 bytes, not 1 to 20"
+    /// );
+    /// # }
+    /// ```
+    pub fn of_record(&self, record: &[u8]) -> String {
+        self.refusal().map_or_else(|| self.to_string(), |refusal| refusal.of_record(record))
+    }
 }
 
 /// Whether some bytes are an order name but for their number: letters and digits, not NONE.

@@ -19,6 +19,15 @@
 //! The fields may stand in any order. Codes are words, or FIX's own characters (`side=1`). A text with other bytes than letters, digits
 //! and `._:/+-` stands in quotes, with `\"`, `\\` and `\xNN`. `record` has the bytes of a record that is no event's, in hexadecimal
 //! digits. Behind `#` stands a comment where it begins a line or follows a blank.
+//!
+//! ```
+//! use jubafiye::text::{records, to_text};
+//!
+//! let day = "gateway-cancel name=G1 # at the close\nagain downstream=G1 venue=3\n";
+//! let lines: Result<Vec<String>, _> = records(day).map(|(_, record)| Ok(to_text(&record?))).collect();
+//! assert_eq!(lines?, ["gateway-cancel name=G1", "again venue=3 downstream=G1"]);
+//! # Ok::<(), jubafiye::TextError>(())
+//! ```
 
 use std::error;
 use std::fmt;
@@ -31,6 +40,14 @@ use crate::read::{field, kind, number, BadRecord, Fields, Holds};
 use crate::words::RiskReject;
 
 /// Why a line is no event.
+///
+/// ```
+/// use jubafiye::{OwnedEvent, TextError};
+///
+/// let why = "again venu=3 downstream=G1".parse::<OwnedEvent>().unwrap_err();
+/// assert_eq!(why, TextError::Field("venu".into()));
+/// assert_eq!(why.to_string(), "\"venu\" is no field");
+/// ```
 #[derive(Debug, Clone, PartialEq, Eq)]
 #[non_exhaustive]
 pub enum TextError {

@@ -13,6 +13,19 @@ use crate::message::line;
 use crate::show::shown;
 
 /// The terms of a replace that is out and not answered.
+///
+/// ```
+/// use jubafiye::{Amend, Book, Booking, Event, OrdType, Pending, Qty, Replace, Side};
+///
+/// let mut book = Book::new(10_000);
+/// let booking = Booking::new(7, 3, Side::Buy, Qty::units(100), b"WHEATH27").named(b"G1", b"C1");
+/// drop(book.take(&Event::Book(booking))?);
+/// let amend = Amend::new(7, b"C2", b"C1", b"WHEATH27", Side::Buy);
+/// drop(book.take(&Event::Replace(Replace::new(amend, Qty::units(80), Ok(()))))?);
+/// let pending: Pending = book.order("G1").unwrap().pending.unwrap();
+/// assert_eq!((pending.request, pending.qty, pending.ord_type), (1, Qty::units(80), OrdType::Market));
+/// # Ok::<(), jubafiye::Error>(())
+/// ```
 #[derive(Debug, Clone, Copy, PartialEq, Eq)]
 #[non_exhaustive]
 pub struct Pending {
@@ -29,6 +42,18 @@ pub struct Pending {
 }
 
 /// The gateway's own cancel of an order.
+///
+/// ```
+/// use jubafiye::{Book, Booking, Event, GatewayCancel, Qty, Side, Stage};
+///
+/// let mut book = Book::new(10_000);
+/// let booking = Booking::new(7, 3, Side::Buy, Qty::units(100), b"WHEATH27").named(b"G1", b"C1");
+/// drop(book.take(&Event::Book(booking))?);
+/// drop(book.take(&Event::GatewayCancel { name: b"G1" })?);
+/// let cancel: GatewayCancel = book.order("G1").unwrap().gateway_cancel.unwrap();
+/// assert_eq!((cancel.stage, cancel.tries, cancel.orig_downstream), (Stage::Sent, 1, &b"G1"[..]));
+/// # Ok::<(), jubafiye::Error>(())
+/// ```
 #[derive(Clone, Copy, PartialEq, Eq)]
 #[non_exhaustive]
 pub struct GatewayCancel<'a> {

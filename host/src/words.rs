@@ -27,6 +27,14 @@ listed! {
 impl std::error::Error for RiskReject {}
 
 /// A reason code, and whose it is.
+///
+/// ```
+/// use jubafiye::Reason;
+///
+/// let passed_on = Reason::Venue(2);
+/// assert!(passed_on != Reason::Ours(2));
+/// assert_eq!((passed_on.number(), passed_on.to_string()), (2, "the venue's reason 2".into()));
+/// ```
 #[derive(Debug, Clone, Copy, PartialEq, Eq, Hash)]
 pub enum Reason {
     /// The book's own: CxlRejReason 0, 1, 3, 6 or 99, and 99 for an order that could not be sent.
@@ -60,6 +68,13 @@ impl fmt::Display for Reason {
 }
 
 /// A text: one that came with the event, or one of the book's fixed texts.
+///
+/// ```
+/// use jubafiye::{FixedText, Words};
+///
+/// assert_eq!(Words::Given(b"session down".to_vec()).to_string(), "session down");
+/// assert_eq!(Words::Fixed(FixedText::Done).to_string(), "order is done");
+/// ```
 #[derive(Clone, PartialEq, Eq, Hash)]
 pub enum Words {
     /// The event's own, byte for byte.

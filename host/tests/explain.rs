@@ -169,6 +169,9 @@ fn damaged_records() {
                 let refusal = said.as_ref().err().map(|bad| bad.refusal());
                 assert_eq!(refusal, refused(&record), "{record:?}: {said:?}");
                 assert_eq!(read.as_ref().err(), said.as_ref().err());
+                let words = refusal.map(|refusal| refusal.of_record(&record));
+                assert_eq!(words, said.as_ref().err().map(ToString::to_string));
+                assert_eq!(Refusal::InUse.of_record(&record), Refusal::InUse.to_string());
                 if let Ok(event) = read {
                     assert_eq!(event.record(), record, "{event}");
                 }
@@ -185,7 +188,8 @@ fn each_fault_has_its_words() {
     assert_eq!(said(b"\x09"), "it has not the five bytes of a kind and a map");
     assert_eq!(said(b"\x0a\0\0\0\0"), "kind 10 is none of an event, 1 to 9");
     assert_eq!(said(b"\x09\0\0\0\0"), "the field name is missing");
-    assert_eq!(said(b"\x09\x05\0\0\0\0\0\x01A"), "bit 0 of the map is none of this kind");
+    assert_eq!(said(b"\x09\x05\0\0\0\0\0\x01A"), "bit 0 of the map, the field client, is none of this kind");
+    assert_eq!(said(b"\x09\x04\0\0\x80\x01A"), "bit 31 of the map is none of an event");
     assert_eq!(said(b"\x09\x04\0\0\0\x02A"), "it ends within the field name");
     assert_eq!(said(b"\x09\x04\0\0\0\x01AB"), "1 bytes stand behind the last field");
     assert_eq!(said(b"\x09\x04\0\0\0\0"), "name has 0 bytes, not 1 to 20");

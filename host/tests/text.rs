@@ -71,7 +71,10 @@ fn what_does_not_read_is_said() {
     assert_eq!(why("record 0x"), TextError::Hex.to_string());
     assert_eq!(why("record 090"), TextError::Hex.to_string());
     assert_eq!(why("gateway-cancel name=G-1"), "an order name has letters and digits alone and is not NONE");
-    assert_eq!(why("gateway-cancel name=G1 venue=3"), "bit 1 of the map is none of this kind");
+    assert_eq!(
+        why("gateway-cancel name=G1 venue=3"),
+        "bit 1 of the map, the field venue, is none of this kind"
+    );
     let day = "again venue=3 downstream=G1\n\nagain\n";
     assert_eq!(
         records(day).map(|(line, record)| (line, record.is_ok())).collect::<Vec<_>>(),

@@ -32,7 +32,7 @@ impl fmt::Display for Step {
         writeln!(f, "{} {}", self.seq, text::to_text(&self.record))?;
         match &self.answer {
             Ok(answer) => answer.to_string().lines().try_for_each(|line| writeln!(f, "    {line}")),
-            Err(refusal) => writeln!(f, "    {refusal}"),
+            Err(refusal) => writeln!(f, "    {}", refusal.of_record(&self.record)),
         }
     }
 }

@@ -1,8 +1,9 @@
 //! A FIX log for a person: the proved reader's verdict on each message, with the names of the fields.
 
 use std::error::Error;
+use std::time::{Duration, Instant};
 
-use jubafiye::fix;
+use jubafiye::{fix, ExecType, OrdStatus, OrdType, Price, Qty, RequestKind, Side, TimeInForce};
 
 use super::{print, Done};
 
@@ -46,7 +47,12 @@ fn name(tag: &str) -> &'static str {
 /// Shows each message of a log, and says how many did not read.
 pub fn show(log: &[u8]) -> Result<Done, Box<dyn Error>> {
     let (mut messages, mut bad) = (0, 0);
+    let mut told = Instant::now();
     for (number, line) in (1..).zip(log.split(|&byte| byte == b'\n')) {
+        if told.elapsed() > Duration::from_secs(1) {
+            eprintln!("desk: line {number}, {bad} of {messages} messages do not read");
+            told = Instant::now();
+        }
         let Some(message) = message(line) else { continue };
         messages += 1;
         let read = fix::read(&message);
@@ -86,8 +92,71 @@ fn fields(message: &[u8]) -> String {
     split(message).map(|(tag, value)| format!("    {tag:>4} {:<16} {value}\n", name(&tag))).collect()
 }
 
-/// What of a message's frame is wrong, or a field that no message of the book has.
+/// What is wrong with a message: its frame, a field that no message of the book has, a field out of its place, or a value.
 fn fault(message: &[u8]) -> Option<String> {
+    let fields: Vec<_> = split(message).collect();
+    frame(message).or_else(|| out_of_place(&fields)).or_else(|| fields.iter().find_map(bad_value))
+}
+
+/// A field with its name and tag.
+fn titled(tag: &str) -> String {
+    format!("{}({tag})", name(tag))
+}
+
+/// The fields between 52 and 10, by MsgType(35); one with `?` may be absent (docs/FIX.md, What is written).
+fn body(kind: &str) -> Option<&'static str> {
+    Some(match kind {
+        "8" => "37 11 41? 55 54 40 38 44? 59? 150 39 32 14 6 103? 58? 151 17 31 58?",
+        "9" => "37 11 41 39 102 58 434",
+        "D" => "11 55 54 40 38 44? 59? 60",
+        "F" => "11 55 54 38 37? 41 60",
+        "G" => "11 55 54 40 38 44? 59? 37? 41 60",
+        _ => return None,
+    })
+}
+
+/// The first field that does not stand where a message of its type has it.
+fn out_of_place(fields: &[(String, String)]) -> Option<String> {
+    let kind = &fields.iter().find(|field| field.0 == "35")?.1;
+    let Some(body) = body(kind) else { return Some(format!("MsgType(35) {kind} is none of the book's")) };
+    let mut rest = fields.iter().map(|field| field.0.as_str()).peekable();
+    for wanted in "8 9 35 49 56 34 52".split(' ').chain(body.split(' ')).chain(["10"]) {
+        let tag = wanted.trim_end_matches('?');
+        if rest.next_if_eq(&tag).is_none() && tag == wanted {
+            let found = rest.peek().map_or_else(|| "the end".into(), |found| titled(found));
+            return Some(format!("{found} stands in place of {}", titled(tag)));
+        }
+    }
+    rest.next().map(|tag| format!("{} stands behind CheckSum(10)", titled(tag)))
+}
+
+/// What a value is to be, if it is something else.
+fn bad_value((tag, value): &(String, String)) -> Option<String> {
+    let listed = |is: fn(u8) -> bool| matches!(value.as_bytes(), [code] if is(*code));
+    let decimals = |count| value.split_once('.').is_some_and(|(_, part)| part.len() == count);
+    let (fits, form) = match tag.as_str() {
+        "54" => (listed(|code| Side::from_code(code).is_some()), "a side"),
+        "40" => (listed(|code| OrdType::from_code(code).is_some()), "an order type that the book takes"),
+        "59" => {
+            (listed(|code| TimeInForce::from_code(code).is_some()), "a time in force that the book takes")
+        }
+        "150" => (listed(|code| ExecType::from_code(code).is_some()), "an ExecType that the book has"),
+        "39" => (listed(|code| OrdStatus::from_code(code).is_some()), "an OrdStatus that the book has"),
+        "434" => (listed(|code| RequestKind::from_number(code.wrapping_sub(b'0')).is_some()), "1 or 2"),
+        "38" | "32" | "14" | "151" => {
+            (decimals(4) && value.parse::<Qty>().is_ok(), "a quantity with four decimals")
+        }
+        "44" | "6" => (decimals(8) && value.parse::<Price>().is_ok(), "a price with eight decimals"),
+        "31" => (decimals(8), "a price with eight decimals"),
+        "34" => (value.parse::<u64>().is_ok(), "a number"),
+        "102" | "103" => (value.parse::<u32>().is_ok(), "a number of 32 bits"),
+        _ => (!value.is_empty(), "any text but an empty one"),
+    };
+    (!fits).then(|| format!("{} is {value:?}, not {form}", titled(tag)))
+}
+
+/// What of a message's frame is wrong, or a field that no message of the book has.
+fn frame(message: &[u8]) -> Option<String> {
     let trailer = message.windows(4).rposition(|part| part == b"\x0110=")?;
     let body = message.get(..=trailer)?;
     let sum = body.iter().fold(0u8, |sum, &byte| sum.wrapping_add(byte));

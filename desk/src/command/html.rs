@@ -158,7 +158,8 @@ fn look_at(page: &mut String, book: &Book, steps: &[Step]) -> Result<(), Box<dyn
                 lines.extend(answer.alarms.iter().map(told));
             }
             Err(refusal) => {
-                lines.push((Some(step.seq), format!("{of}{} was {refusal}", words(&step.record))))
+                let why = refusal.of_record(&step.record);
+                lines.push((Some(step.seq), format!("{of}{} was {why}", words(&step.record))))
             }
         }
     }
@@ -298,7 +299,10 @@ fn lines(step: &Step) -> Vec<Line> {
     let line = |mark, text| Line { seq: step.seq, mark, text };
     let answer = match &step.answer {
         Ok(answer) => answer,
-        Err(refusal) => return vec![line(Mark::Refused, format!("{}: {refusal}", words(&step.record)))],
+        Err(refusal) => {
+            let why = refusal.of_record(&step.record);
+            return vec![line(Mark::Refused, format!("{}: {why}", words(&step.record)))];
+        }
     };
     let booked = matches!(step.record.first(), Some(1));
     let mut all = vec![line(if booked { Mark::Booked } else { Mark::Asked }, words(&step.record))];

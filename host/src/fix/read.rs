@@ -8,6 +8,18 @@ use crate::fields::{ExecType, OrdStatus, OrdType, Side, TimeInForce};
 use crate::message::RequestKind;
 
 /// A message as it was read: its header, its body in types, and its fields as they came.
+///
+/// ```
+/// use jubafiye::fix;
+///
+/// let message = "8=FIX.4.4|9=103|35=D|49=US|56=THEM|34=7|52=20261116-12:34:56|11=G1|55=WHEAT|54=1|40=1|\
+///     38=100.0000|60=20261116-12:34:56|10=067|".replace('|', "\x01");
+/// let fix::Message { header, body, fields, .. } = fix::read(message.as_bytes())?;
+/// assert_eq!((header.sender, header.target, header.sequence), (&b"US"[..], &b"THEM"[..], 7));
+/// assert!(matches!(body, fix::Body::NewOrder(_)));
+/// assert_eq!(fields.get(38), Some(&b"100.0000"[..]));
+/// # Ok::<(), fix::Error>(())
+/// ```
 #[derive(Debug, Clone, PartialEq, Eq)]
 #[non_exhaustive]
 pub struct Message<'a> {
@@ -20,6 +32,20 @@ pub struct Message<'a> {
 }
 
 /// What a message says, by its MsgType(35). TransactTime(60) of the last three is the header's time.
+///
+/// ```
+/// use jubafiye::fix;
+///
+/// let message = "8=FIX.4.4|9=130|35=F|49=GATEWAY|56=VENUE|34=3|52=20261116-12:34:56.789|11=G1-2|55=WHEATH27|\
+///     54=1|38=100.0000|37=V-1|41=G1|60=20261116-12:34:56.789|10=096|".replace('|', "\x01");
+/// let told = match fix::read(message.as_bytes())?.body {
+///     fix::Body::Report(_) | fix::Body::CancelReject(_) => "to a client",
+///     fix::Body::NewOrder(_) | fix::Body::Cancel(_) | fix::Body::Replace(_) => "to a venue",
+///     _ => "unknown here",
+/// };
+/// assert_eq!(told, "to a venue");
+/// # Ok::<(), fix::Error>(())
+/// ```
 #[derive(Debug, Clone, PartialEq, Eq)]
 #[non_exhaustive]
 pub enum Body<'a> {
@@ -36,6 +62,18 @@ pub enum Body<'a> {
 }
 
 /// An ExecutionReport.
+///
+/// ```
+/// use jubafiye::{fix, Price, Qty};
+///
+/// let message = "8=FIX.4.4|9=196|35=8|49=GATEWAY|56=DESK|34=3|52=20261116-12:34:56.789|37=G1|11=C1|55=WHEATH27|54=1|40=2|\
+///     38=100.0000|44=10.25000000|150=D|39=1|32=0.0000|14=40.0000|6=10.25000000|151=60.0000|17=G1.3|31=10.25000000|10=136|".replace('|', "\x01");
+/// let fix::Body::Report(told) = fix::read(message.as_bytes())?.body else { panic!("a report") };
+/// assert_eq!((told.exec_id, told.exec_seq, told.cum_qty), (&b"G1.3"[..], 3, Qty::units(40)));
+/// // a restatement is no trade: LastQty(32) is 0, whatever LastPx(31) is
+/// assert_eq!((told.last_qty, told.last_px), (Qty(0), Price(1_025_000_000)));
+/// # Ok::<(), fix::Error>(())
+/// ```
 #[derive(Debug, Clone, PartialEq, Eq)]
 #[non_exhaustive]
 pub struct Report<'a> {
@@ -82,6 +120,17 @@ pub struct Report<'a> {
 }
 
 /// An OrderCancelReject.
+///
+/// ```
+/// use jubafiye::{fix, RequestKind};
+///
+/// let message = "8=FIX.4.4|9=108|35=9|49=GATEWAY|56=DESK|34=4|52=20261116-12:34:56.789|\
+///     37=NONE|11=C4|41=C9|39=8|102=1|58=unknown order|434=1|10=077|".replace('|', "\x01");
+/// let fix::Body::CancelReject(told) = fix::read(message.as_bytes())?.body else { panic!("a reject") };
+/// assert_eq!((told.order_id, told.cl_ord_id, told.text), (None, &b"C4"[..], &b"unknown order"[..]));
+/// assert_eq!(told.response_to, RequestKind::Cancel);
+/// # Ok::<(), fix::Error>(())
+/// ```
 #[derive(Debug, Clone, PartialEq, Eq)]
 #[non_exhaustive]
 pub struct CancelReject<'a> {
@@ -102,6 +151,16 @@ pub struct CancelReject<'a> {
 }
 
 /// A NewOrderSingle.
+///
+/// ```
+/// use jubafiye::{fix, Qty, Side};
+///
+/// let message = "8=FIX.4.4|9=103|35=D|49=US|56=THEM|34=7|52=20261116-12:34:56|11=G1|55=WHEAT|54=1|40=1|\
+///     38=100.0000|60=20261116-12:34:56|10=067|".replace('|', "\x01");
+/// let fix::Body::NewOrder(order) = fix::read(message.as_bytes())?.body else { panic!("an order") };
+/// assert_eq!((order.symbol, order.side, order.qty), (&b"WHEAT"[..], Side::Buy, Qty::units(100)));
+/// # Ok::<(), fix::Error>(())
+/// ```
 #[derive(Debug, Clone, PartialEq, Eq)]
 #[non_exhaustive]
 pub struct NewOrder<'a> {
@@ -122,6 +181,17 @@ pub struct NewOrder<'a> {
 }
 
 /// An OrderCancelRequest.
+///
+/// ```
+/// use jubafiye::{fix, Qty};
+///
+/// let message = "8=FIX.4.4|9=130|35=F|49=GATEWAY|56=VENUE|34=3|52=20261116-12:34:56.789|11=G1-2|55=WHEATH27|\
+///     54=1|38=100.0000|37=V-1|41=G1|60=20261116-12:34:56.789|10=096|".replace('|', "\x01");
+/// let fix::Body::Cancel(cancel) = fix::read(message.as_bytes())?.body else { panic!("a cancel") };
+/// assert_eq!((cancel.cl_ord_id, cancel.orig_cl_ord_id), (&b"G1-2"[..], &b"G1"[..]));
+/// assert_eq!((cancel.order_id, cancel.qty), (Some(&b"V-1"[..]), Qty::units(100)));
+/// # Ok::<(), fix::Error>(())
+/// ```
 #[derive(Debug, Clone, PartialEq, Eq)]
 #[non_exhaustive]
 pub struct Cancel<'a> {
@@ -140,6 +210,17 @@ pub struct Cancel<'a> {
 }
 
 /// An OrderCancelReplaceRequest.
+///
+/// ```
+/// use jubafiye::{fix, Qty};
+///
+/// let message = "8=FIX.4.4|9=149|35=G|49=GATEWAY|56=VENUE|34=2|52=20261116-12:34:56.789|11=G1-1|55=WHEATH27|\
+///     54=1|40=2|38=80.0000|44=10.00000000|37=V-1|41=G1|60=20261116-12:34:56.789|10=201|".replace('|', "\x01");
+/// let fix::Body::Replace(replace) = fix::read(message.as_bytes())?.body else { panic!("a replace") };
+/// assert_eq!((replace.order.cl_ord_id, replace.order.qty), (&b"G1-1"[..], Qty::units(80)));
+/// assert_eq!(replace.orig_cl_ord_id, b"G1");
+/// # Ok::<(), fix::Error>(())
+/// ```
 #[derive(Debug, Clone, PartialEq, Eq)]
 #[non_exhaustive]
 pub struct Replace<'a> {
@@ -152,6 +233,17 @@ pub struct Replace<'a> {
 }
 
 /// The fields of a message, in their order: tag and value.
+///
+/// ```
+/// use jubafiye::fix;
+///
+/// let message = "8=FIX.4.4|9=103|35=D|49=US|56=THEM|34=7|52=20261116-12:34:56|11=G1|55=WHEAT|54=1|40=1|\
+///     38=100.0000|60=20261116-12:34:56|10=067|".replace('|', "\x01");
+/// let fields: fix::Fields = fix::read(message.as_bytes())?.fields;
+/// assert_eq!((fields.get(55), fields.get(44)), (Some(&b"WHEAT"[..]), None));
+/// assert_eq!(fields.iter().next(), Some((8, &b"FIX.4.4"[..])));
+/// # Ok::<(), fix::Error>(())
+/// ```
 #[derive(Debug, Clone, PartialEq, Eq)]
 pub struct Fields<'a>(Vec<(u32, &'a [u8])>);
 

@@ -6,6 +6,21 @@ use crate::error::{self, BadAnswer, Fault, Refusal};
 use crate::message::Message;
 
 /// Whom a message is for, by number: each has a FIX session of its own, with its comp IDs and its sequence.
+///
+/// ```
+/// use jubafiye::{fix::Peer, Answer};
+/// use std::collections::BTreeMap;
+///
+/// // each peer's next MsgSeqNum(34)
+/// let mut next = BTreeMap::from([(Peer::Client(7), 1), (Peer::Venue(3), 1)]);
+/// // an answer with a new order for venue 3: G1, WHEAT, buy, market, 100
+/// let answer = Answer::read(b"\x1f\0\x01\0\0\x12\xe2\x03\0\0\x03\0\x02G1\x05WHEAT11\x40\x42\x0f\0\0\0\0\0")?;
+/// for message in &answer.messages {
+///     *next.entry(Peer::of(message)).or_insert(1) += 1;
+/// }
+/// assert_eq!(next, BTreeMap::from([(Peer::Client(7), 1), (Peer::Venue(3), 2)]));
+/// # Ok::<(), jubafiye::BadAnswer>(())
+/// ```
 #[derive(Debug, Clone, Copy, PartialEq, Eq, PartialOrd, Ord, Hash)]
 pub enum Peer {
     /// A client: ExecutionReports and OrderCancelRejects.
@@ -35,6 +50,17 @@ impl Peer {
 }
 
 /// A message of an answer, in its types and as the record that [`write`](super::write) takes.
+///
+/// ```
+/// use jubafiye::fix::{self, Outgoing, Peer};
+///
+/// // an answer with a new order for venue 3: G1, WHEAT, buy, market, 100
+/// let answer = b"\x1f\0\x01\0\0\x12\xe2\x03\0\0\x03\0\x02G1\x05WHEAT11\x40\x42\x0f\0\0\0\0\0";
+/// let all: Vec<Outgoing> = fix::outgoing(answer)?.collect();
+/// assert_eq!((all.len(), all[0].to, all[0].message.kind()), (1, Peer::Venue(3), 18));
+/// assert_eq!(all[0].record, &answer[5..]);
+/// # Ok::<(), jubafiye::Error>(())
+/// ```
 #[derive(Debug, Clone, PartialEq, Eq)]
 #[non_exhaustive]
 pub struct Outgoing<'a> {
@@ -182,7 +208,18 @@ fn width(bit: u32, bytes: &[u8]) -> Option<usize> {
 }
 
 /// A field that a session adds to a message: `97=Y` behind 52, say.
-/// [`with_extras`] has an example.
+///
+/// ```
+/// use jubafiye::fix::{self, Extra};
+///
+/// let message = "8=FIX.4.4|9=103|35=D|49=US|56=THEM|34=7|52=20261116-12:34:56|11=G1|55=WHEAT|54=1|40=1|\
+///     38=100.0000|60=20261116-12:34:56|10=067|".replace('|', "\x01");
+/// // an operator entered it by hand: ManualOrderIndicator(1028), behind OrderQty(38)
+/// let by_hand = Extra { behind: 38, tag: 1028, value: b"Y" };
+/// let sent = fix::with_extras(message.as_bytes(), &[by_hand])?;
+/// assert!(String::from_utf8_lossy(&sent).contains("\x0138=100.0000\x011028=Y\x01"));
+/// # Ok::<(), fix::Error>(())
+/// ```
 #[derive(Debug, Clone, Copy, PartialEq, Eq, Hash)]
 pub struct Extra<'a> {
     /// The tag of the field that it comes behind.
