@@ -5,7 +5,7 @@
 use Prim.Native.Nat.{ℕ}
 use mathlib.Core.Path.{_≡_, refl}
 use mathlib.Core.Bool.{false}
-use mathlib.Core.List.{List, [], _∷_, map}
+use mathlib.Core.List.{List, [], _∷_, _++_, map}
 use lib.ListN.{replicate}
 use Rattle.prelude.specs.Texts.{textOf}
 use Rattle.prelude.specs.declared.Text.{Text}
@@ -19,7 +19,7 @@ use Rattle.machine.specs.History.{messagesOf, leftBy}
 use Rattle.machine.specs.Machine.{stepOf}
 use Rattle.machine.specs.Messages.{noMessage}
 use Rattle.machine.specs.declared.Change.{Change}
-use Rattle.facts.specs.Play.{number, spelled, mark, bytes, shares, money, X, X-, C, D, E, W, books, cancelOf, cancels, replaceOf, replaces, reportOf, fills, turns, rejectOf, rejects, sendFails, sendsAgain, gatewayCancels, called, empty}
+use Rattle.facts.specs.Play.{Field, number, spelled, mark, bytes, shares, money, X, X-, C, D, E, W, books, cancelOf, cancels, replaceOf, replaces, reportOf, fills, turns, rejectOf, rejects, sendFails, sendsAgain, gatewayCancels, called, empty}
 
 -- ---- the words of the tables
 
@@ -99,6 +99,9 @@ record Reports : Type 0 where
   -- under a client's cancel it bears the cancel's ClOrdIDs, though that was refused before
   of-refused : told (cancels D ∷ rejects (X- 1) 99 ∷ []) (reportOf (X- 1) 70 49 40 (money 10) 40 (money 10) []) .ids .clordid ≡ textOf D
   of-refused-orig : told (cancels D ∷ rejects (X- 1) 99 ∷ []) (reportOf (X- 1) 70 49 40 (money 10) 40 (money 10) []) .ids .origclordid ≡ textOf C
+  -- under a name that a replace superseded, and under the gateway's cancel, it bears the order's
+  of-superseded : told (replaces D 150 ∷ turns (X- 1) 53 48 ∷ []) (partly 40) .ids .clordid ≡ textOf D
+  of-gateway : told (gatewayCancels ∷ []) (reportOf (X- 1) 70 49 40 (money 10) 40 (money 10) []) .ids .clordid ≡ textOf C
 
 reports : Reports
 unfolding called
@@ -113,6 +116,8 @@ reports = record {
   text = refl;
   of-refused = refl;
   of-refused-orig = refl;
+  of-superseded = refl;
+  of-gateway = refl;
 }
 
 -- ---- which reports answer a request
@@ -151,6 +156,21 @@ abbrev repriced : (price verdict : ℕ) → List ℕ
 repriced price verdict =
     bytes 3 (number 0 2 7 ∷ spelled 3 D ∷ spelled 4 C ∷ spelled 6 W ∷ number 7 1 49 ∷ number 9 8 (shares 100) ∷ number 10 8 (money price) ∷ number 23 1 verdict ∷ [])
 
+-- a market order, and D that makes a limit of it at 10, or of order X a market order: 100 still, with verdict 3
+abbrev market : Book
+market =
+    steppedOn (empty 10000)
+    (bytes 1 (number 0 2 7 ∷ number 1 2 3 ∷ spelled 2 X ∷ spelled 3 C ∷ spelled 6 W ∷ number 7 1 49 ∷ number 8 1 49 ∷ number 9 8 (shares 100) ∷ []) ∷ [])
+
+abbrev retyped : List Field → List ℕ
+retyped price = bytes 3 ((number 0 2 7 ∷ spelled 3 D ∷ spelled 4 C ∷ spelled 6 W ∷ number 7 1 49 ∷ []) ++ (price ++ (number 23 1 3 ∷ [])))
+
+abbrev toLimit : List ℕ
+toLimit = retyped (number 8 1 50 ∷ number 9 8 (shares 100) ∷ number 10 8 (money 10) ∷ [])
+
+abbrev toMarket : List ℕ
+toMarket = retyped (number 8 1 49 ∷ number 9 8 (shares 100) ∷ [])
+
 record Refusals : Type 0 where
   -- the first that holds: duplicate, unknown, done, too many, side or symbol
   duplicate-unknown : refusedBy 10000 [] (bytes 2 (number 0 2 7 ∷ spelled 3 C ∷ spelled 4 E ∷ spelled 6 W ∷ number 7 1 49 ∷ [])) ≡ 5
@@ -166,6 +186,9 @@ record Refusals : Type 0 where
   lower : refusedBy 10000 [] (repriced 9 3) ≡ 14
   higher : refusedBy 10000 [] (repriced 11 3) ≡ 14
   same : refusedBy 10000 [] (repriced 10 3) ≡ 0
+  -- and at another type, a market order's price being none
+  to-limit : firstOf (messagesOf (stepOf market (eventIn toLimit))) .told .fixedtext ≡ 14
+  to-market : refusedBy 10000 [] toMarket ≡ 14
 
 refusals : Refusals
 unfolding called
@@ -181,6 +204,8 @@ refusals = record {
   lower = refl;
   higher = refl;
   same = refl;
+  to-limit = refl;
+  to-market = refl;
 }
 
 -- ---- what a refusal leaves
@@ -192,12 +217,18 @@ orderId calls = orderIn (after 10000 calls) 0 .names .venueorderid
 abbrev gatewayOf : List (List ℕ) → GatewayCancel
 gatewayOf calls = orderIn (after 10000 calls) 0 .gateway
 
+-- a message's reason and its origin
+abbrev reasonOf : Message → List ℕ
+reasonOf m = m .reason ∷ m .told .origin ∷ []
+
 record Leaves : Type 0 where
   -- it brings the venue's OrderID, as an event 6 and as a report
   order-id : orderId (cancels D ∷ rejectOf (X- 1) (spelled 18 E ∷ []) ∷ []) ≡ textOf E
   order-id-by-report : orderId (cancels D ∷ reportOf (X- 1) 56 56 0 0 0 0 (spelled 18 E ∷ []) ∷ []) ≡ textOf E
   -- the venue's text goes on, by a report too
   text-by-report : told (cancels D ∷ []) (reportOf (X- 1) 56 56 0 0 0 0 (spelled 20 (84 ∷ []) ∷ [])) .text ≡ T
+  -- reason 0 is the venue's, and so it is told
+  reason-0 : reasonOf (told (cancels D ∷ []) (rejects (X- 1) 0)) ≡ 0 ∷ 2 ∷ []
   -- by a report too it lets the gateway's cancel go that waited
   resumes : comes (cancels D ∷ gatewayCancels ∷ []) (turns (X- 1) 56 56) ≡ came (17 ∷ 19 ∷ []) 0 65 0 100 (0 ∷ 1 ∷ 0 ∷ [])
   -- a request that was not sent leaves the status as it is: the venue said PendingCancel, or PendingReplace
@@ -216,6 +247,7 @@ leaves = record {
   order-id = refl;
   order-id-by-report = refl;
   text-by-report = refl;
+  reason-0 = refl;
   resumes = refl;
   not-sent = refl;
   not-sent-replace = refl;

@@ -202,8 +202,8 @@ record Gateways : Type 0 where
   -- in flight: with one try and with three, whatever became of a refused send
   in-flight : map (λ n. rules (one (orderX (state 48 0 0 1) (links 1 1 2) noPending (cancel false false n 1 5)) (first ∷ request 3 0 [] [] (X- 1) ∷ []))) (1 ∷ 3 ∷ [])
       ≡ true ∷ true ∷ []
-  -- one stands, though no cancel was ever sent
-  unsent-alone : rules (one (orderX (state 48 0 0 1) (links 0 1 0) noPending (cancel true false 0 1 0)) (first ∷ [])) ≡ true
+  -- one stands, though no cancel was ever sent, or was and its sends were refused
+  unsent-alone : map (λ n. rules (one (orderX (state 48 0 0 1) (links 0 1 0) noPending (cancel true false 0 1 n)) (first ∷ []))) (0 ∷ 5 ∷ []) ≡ true ∷ true ∷ []
   stuck-alone : rules (one (orderX (state 48 0 0 1) (links 0 1 0) noPending (cancel false true 3 1 0)) (first ∷ [])) ≡ true
   -- a done order has none, though its cancels, the latest and another, are out
   done-out : rules (one (orderX (state 52 0 0 1) (links 2 1 3) noPending noGateway) (first ∷ request 3 0 [] [] (X- 1) ∷ request 3 0 [] [] (X- 2) ∷ [])) ≡ true

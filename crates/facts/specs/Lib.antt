@@ -17,4 +17,5 @@ pub mod Chains
 pub mod Swept
 pub mod SweptSteps
 pub mod Edges
+pub mod Worn
 pub mod SweptParts

@@ -363,6 +363,9 @@ record Ends : Type 0 where
   verdicts : verdictText 1 ∷ verdictText 243 ∷ verdictText 244 ∷ verdictText 245 ∷ [] ≡ 12 ∷ 254 ∷ 255 ∷ 255 ∷ []
   -- the smallest LastPx tells the price
   last-px : fillPrice 5 1 5 9 0 0 5 ≡ record { price = 1 ∷ 0 ∷ []; source = 1 }
+  -- and so does one without a rise, whatever the LastQty; with a rise of 1 the LastQty has to be that
+  no-rise : fillPrice 5 7 9 8 9 8 0 ≡ record { price = 7 ∷ 0 ∷ []; source = 1 }
+  rise-1 : fillPrice 5 7 10 8 9 8 1 ≡ record { price = 8 ∷ 0 ∷ []; source = 2 }
   -- two words, the low one first
   wide : words (5 + 3 * 2 ^ 64) ≡ 5 ∷ 3 ∷ []
   back : value (5 ∷ 3 ∷ []) ≡ 5 + 3 * 2 ^ 64
@@ -381,6 +384,8 @@ ends = record {
   refusals = refl;
   verdicts = refl;
   last-px = refl;
+  no-rise = refl;
+  rise-1 = refl;
   wide = refl;
   back = refl;
 }

@@ -341,6 +341,8 @@ record Reports : Type 0 where
   overfill : comes (replacing 48 0 hundred 0) (fills 101 101 (money 10) (money 10)) ≡ line [] 2 (replacing 48 0 hundred 0)
   -- and one that is stale does not
   stale : comes done (reportOf X 48 48 0 0 0 0 (spelled 18 E ∷ [])) ≡ silent done
+  -- nor does one that says of a done order what it is
+  stale-repeat : comes done (reportOf X 52 52 0 0 0 0 (spelled 18 E ∷ [])) ≡ silent done
   -- PendingReplace under a replace that was accepted is behind
   settled : comes (superseded 48) (turns (X- 1) 69 69) ≡ silent (superseded 48)
   -- an order at PendingReplace is not taken back by New under its own ClOrdID; under the replace's it is accepted
@@ -360,6 +362,7 @@ reports = record {
   elsewhere = refl;
   overfill = refl;
   stale = refl;
+  stale-repeat = refl;
   settled = refl;
   held = refl;
 }
