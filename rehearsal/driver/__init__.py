@@ -1,0 +1,1 @@
+"""The rehearsal's driver: builds, starts, kills, waits, compares and prints. Standard library alone."""
