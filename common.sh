@@ -71,17 +71,44 @@ sources() {
     find crates crates.txt -type f ! -name stdin ! -name stdout ! -path '*/must-fail/*' -print0 | sort -z | xargs -0 sha256sum | sha256sum
 }
 
-# Proves and builds the program $1 if that has not been done, and says on standard error how far it is. A sample that was edited, so that
-# it is no longer the stored output's, does not keep it from running: ./test says so.
+# How many crates of crates.txt there are; with a crate's name, how many it rests on, itself included.
+crates() {
+    awk -v want="${1:-}" '
+        function visit(n,    a, k, m) {
+            if (!(n in deps) || seen[n]++) return
+            count++
+            m = split(deps[n], a, " ")
+            for (k = 1; k <= m; k++) visit(a[k])
+        }
+        { sub(/#.*/, ""); i = index($0, ":"); if (i) { all++; deps[substr($0, 1, i - 1)] = substr($0, i + 1) } }
+        END { if (want == "") print all; else { visit(want); print count } }' "$root/crates.txt"
+}
+
+# progress TOTAL: of what rt prints, its own lines as they come; a line that says that a crate is proved begins with how many of TOTAL are.
+# A loop of the shell's, since some awks hold their input back.
+progress() {
+    local line proved=0
+    while IFS= read -r line; do
+        if [[ $line =~ ^rt:\ [a-z0-9_]+\ proved\ \( ]]; then
+            proved=$((proved + 1))
+            printf '%s of %s: %s\n' "$proved" "$1" "${line#rt: }"
+        elif [[ $line == "rt: "* ]]; then
+            printf '%s\n' "$line"
+        fi
+    done
+}
+
+# Proves and builds the program $1 if that has not been done, and says on standard error how far it is. If its sample was edited, so that
+# the stored output no longer goes with it, the program runs all the same: ./test says so.
 build() {
     local log made=target/$1.sources
     if [ -x "target/bin/$1" ] && [ -f "$made" ] && [ "$(sources)" = "$(cat "$made")" ]; then
         return
     fi
     need_rt
-    [ -x "target/bin/$1" ] || echo "$1: proving it and what it rests on, which takes some minutes the first time" >&2
+    [ -x "target/bin/$1" ] || echo "$1: proving it and the crates that it rests on; the first time takes some minutes" >&2
     log=$(mktemp)
-    if ! rt check "$1" </dev/null 2>&1 | tee "$log" | { grep --line-buffered '^rt: .* proved ([0-9]' || true; } >&2; then
+    if ! rt check "$1" </dev/null 2>&1 | tee "$log" | progress "$(crates "$1")" >&2; then
         if ! grep -q "^rt: $1 proved, and its run FAILED" "$log"; then
             cat "$log" >&2
             rm -f "$log"

@@ -10,7 +10,7 @@ use rusqlite::{params, Connection, OpenFlags, Transaction};
 use crate::error::Error;
 use crate::sum::sum;
 
-/// The version of docs/LAYOUT.md that snapshots have.
+/// The version of docs/LAYOUT.md that snapshots have, as SQLite stores it.
 ///
 /// ```
 /// use desk::{Error, Journal, LAYOUT_VERSION};
@@ -22,7 +22,7 @@ use crate::sum::sum;
 /// assert!(matches!(Journal::open(&path), Err(Error::Version { wanted: LAYOUT_VERSION, .. })));
 /// # Ok::<(), Error>(())
 /// ```
-pub const LAYOUT_VERSION: i64 = 1;
+pub const LAYOUT_VERSION: i64 = jubafiye::LAYOUT_VERSION as i64;
 
 /// A snapshot of the book is kept after so many events.
 ///

@@ -1,9 +1,9 @@
-/* FIX 4.4 messages of the proved order book: a message of an answer written whole, as it is sent, and read back. What is
- * written stands in docs/FIX.md, records and answers in docs/SCOPE.md and gateway.h.
+/* FIX 4.4 messages of the proved order book: a message of an answer written whole, as it is sent, and read back. docs/FIX.md
+ * says what is written; records and answers are in docs/SCOPE.md and gateway.h.
  *
  * Each pointer must be valid for its length, and the slices of one call must not overlap. Any bytes may be passed. A call
  * that returns a refusal other than 0 has written nothing. The library, libfix.a, keeps nothing between calls and allocates
- * nothing; it stands beside libgateway.a or alone. It is for x86-64 Linux and needs memcpy and memset. */
+ * nothing; it links beside libgateway.a or alone. It is for x86-64 Linux and needs memcpy and memset. */
 #ifndef JUBAFIYE_FIX_H
 #define JUBAFIYE_FIX_H
 
@@ -23,15 +23,19 @@ extern "C" {
 #endif
 #endif
 
+/* The version of library and header, the same as in gateway.h. */
+#define JUBAFIYE_VERSION "0.1.0"
+
 /* A refusal, or 0 and the length of the message. With a refusal the length is 0. */
 typedef struct {
     uint32_t refusal;
     uint64_t length;
 } Written;
 
-/* Writes a message of an answer, a record of kind 16 to 20, to the front of out, of which the bytes behind the message stay
- * as they are. sender and target are the session's comp IDs, sequence its number, time the text of SendingTime(52) and
- * TransactTime(60). Refused, in this order, with JUBAFIYE_FIX_REFUSED_RECORD, _RANGE, _TEXT, _ROOM. */
+/* Writes a message of an answer, a record of kind 16 to 20, to the front of out; the bytes behind the message stay as they
+ * are. sender and target are the session's comp IDs, sequence its number, time the text of SendingTime(52) and
+ * TransactTime(60). A room of 512 bytes more than sender, target and twice time together holds any message. Refused, in this
+ * order, with JUBAFIYE_FIX_REFUSED_RECORD, _RANGE, _TEXT, _ROOM. */
 Written JUBAFIYE_FUNCTION(fix_write)(const uint8_t *record, size_t record_len, const uint8_t *sender, size_t sender_len,
                   const uint8_t *target, size_t target_len, uint64_t sequence, const uint8_t *time, size_t time_len,
                   uint8_t *out, size_t out_len);
@@ -49,8 +53,8 @@ typedef struct {
     uint64_t length[JUBAFIYE_FIX_FIELDS];
 } FixFields;
 
-/* Reads a message as fix_write writes them. Refused with JUBAFIYE_FIX_REFUSED_RECORD exactly where the bytes are such that
- * no record and no header are written so. */
+/* Reads a message as fix_write writes it. Refused with JUBAFIYE_FIX_REFUSED_RECORD exactly if no record and no header are
+ * written as these bytes. */
 FixFields JUBAFIYE_FUNCTION(fix_read)(const uint8_t *message, size_t message_len);
 
 /* A refusal, or 0 and where a message stands in an answer, and its length. With a refusal both are 0. */
@@ -62,14 +66,14 @@ typedef struct {
 
 /* Where message number n of an answer stands, the first being 0: its record, as fix_write takes it. What is behind the
  * answer's length is not looked at, so that the whole answer buffer may be passed. Refused with JUBAFIYE_FIX_REFUSED_RECORD or
- * _RANGE where the bytes are no answer; where it has no such message the length is 0, without a refusal. */
+ * _RANGE if the bytes are no answer; if it has no such message, the length is 0, without a refusal. */
 Place JUBAFIYE_FUNCTION(message_at)(const uint8_t *answer, size_t answer_len, uint32_t n);
 
 /* What the functions return. */
 enum {
     JUBAFIYE_FIX_TAKEN = 0,
     JUBAFIYE_FIX_REFUSED_RECORD = 3, /* the record is no message's, or the bytes are no message that fix_write writes */
-    JUBAFIYE_FIX_REFUSED_RANGE = 4,  /* a field is out of its range, or a code in no list */
+    JUBAFIYE_FIX_REFUSED_RANGE = 4,  /* a field is out of its range, or a code is not listed */
     JUBAFIYE_FIX_REFUSED_TEXT = 9,   /* a text of the header or of the message is empty or has a byte below 32 */
     JUBAFIYE_FIX_REFUSED_ROOM = 10   /* out cannot hold the message */
 };

@@ -1,6 +1,17 @@
 //! The book's bytes (docs/LAYOUT.md): where each field stands, under its name there. The numbers stand here and nowhere else in the
 //! crate; `tests/layout.rs` and `tests/explain.rs` hold them against the library. Rests on nothing.
 
+/// The version of the book's layout (docs/LAYOUT.md, Version). A book's bytes do not say theirs: a store keeps this number beside them.
+///
+/// ```
+/// use jubafiye::{explain, BOOK_BYTES, LAYOUT_VERSION};
+///
+/// // a store keeps the version beside the bytes, and reads them as a book only if it is its own
+/// let (version, bytes) = (LAYOUT_VERSION, [0; BOOK_BYTES]);
+/// assert!(version == LAYOUT_VERSION && explain(&bytes).is_empty());
+/// ```
+pub const LAYOUT_VERSION: u32 = 1;
+
 /// The bytes of a book.
 ///
 /// ```

@@ -85,6 +85,14 @@ pub mod text;
 mod view;
 mod words;
 
+/// The version of this crate, of the headers and of the libraries (CHANGELOG.md).
+///
+/// ```
+/// let parts: Vec<u32> = jubafiye::VERSION.split('.').map(|part| part.parse().unwrap()).collect();
+/// assert_eq!(parts.len(), 3);
+/// ```
+pub const VERSION: &str = env!("CARGO_PKG_VERSION");
+
 pub use answer::{Alarm, Answer};
 #[cfg(feature = "book")]
 pub use book::Book;
@@ -100,7 +108,7 @@ pub use event::{Amend, Booking, Event, RejectedRequest, Replace, VenueReport};
 pub use explain::{explain, Broken, Rule};
 pub use fields::{ExecType, OrdStatus, OrdType, Side, TimeInForce};
 pub use kinds::{SentKind, Stage};
-pub use layout::BOOK_BYTES;
+pub use layout::{BOOK_BYTES, LAYOUT_VERSION};
 #[cfg(feature = "book")]
 pub use marks::{Marks, PLACE_BYTES};
 pub use message::{CancelReject, Message, PriceSource, Report, RequestKind, ToVenue};

@@ -1,8 +1,8 @@
-//! The numbers of include/gateway.h against those of this crate; the fields' bits are compared in src/record.rs.
+//! The numbers and versions of the headers against those of this crate; the fields' bits are compared in src/record.rs.
 
 use jubafiye::{
-    Alarm, Event, Outcome, Refusal, ANSWER_BYTES, BOOK_BYTES, CHAIN_BYTES, CHAIN_ENTRY_BYTES, NET_BYTES,
-    NET_SCRATCH, PAGE_BYTES, PLACE_BYTES,
+    Alarm, Event, Outcome, Refusal, ANSWER_BYTES, BOOK_BYTES, CHAIN_BYTES, CHAIN_ENTRY_BYTES, LAYOUT_VERSION,
+    NET_BYTES, NET_SCRATCH, PAGE_BYTES, PLACE_BYTES, VERSION,
 };
 
 const HEADER: &str = include_str!("../include/gateway.h");
@@ -33,6 +33,16 @@ fn lengths() {
     let chain = (Some(CHAIN_ENTRY_BYTES), Some(CHAIN_BYTES));
     assert_eq!((number("CHAIN_ENTRY"), number("CHAIN_BYTES")), chain);
     assert_eq!((number("NET_SCRATCH"), number("PLACE_BYTES")), (Some(NET_SCRATCH), Some(PLACE_BYTES)));
+}
+
+#[test]
+fn versions() {
+    let version = |header: &'static str| {
+        let mut lines = header.lines().filter_map(|line| line.strip_prefix("#define JUBAFIYE_VERSION "));
+        lines.next().map(|text| text.trim_matches('"'))
+    };
+    assert_eq!([HEADER, include_str!("../include/fix.h")].map(version), [Some(VERSION); 2]);
+    assert_eq!(number("LAYOUT_VERSION"), Some(LAYOUT_VERSION as usize));
 }
 
 #[test]

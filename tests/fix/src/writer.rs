@@ -1,4 +1,4 @@
-//! The writer, plainly from the wish (docs/FIX.md). Rests on records.
+//! The writer, plainly from the change request (docs/FIX.md). Rests on records.
 
 use crate::records::{Form, NAME, Record, SEQUENCE, form};
 
