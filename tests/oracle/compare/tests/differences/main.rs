@@ -19,9 +19,9 @@ fn code(character: u8) -> u128 {
 }
 
 /// The rows whose tests stand here. 1 and 16 have moved: tests/short.rs of the model.
-const TESTED: [u32; 47] = [
+const TESTED: [u32; 48] = [
     2, 3, 4, 5, 6, 7, 8, 9, 10, 11, 12, 13, 14, 15, 17, 18, 19, 20, 21, 22, 23, 24, 25, 26, 27, 28, 29, 30,
-    31, 32, 33, 34, 35, 36, 37, 38, 39, 40, 41, 42, 43, 44, 45, 46, 47, 48, 49,
+    31, 32, 33, 34, 35, 36, 37, 38, 39, 40, 41, 42, 43, 44, 45, 46, 47, 48, 49, 50,
 ];
 
 #[test]
@@ -230,6 +230,14 @@ fn a_gateway_cancel_refused_as_unknown_and_rejected_ends_an_order_unheard() {
     let ended = row(17);
     assert_eq!(ended.last(), (vec![], [0, 0]));
     assert_eq!(ended.stands([ORD_STATUS, CUM_QTY, LEAVES_QTY]), [code(b'8'), 40 * SHARES, 0]);
+}
+
+#[test]
+fn a_cancel_refused_as_unknown_and_rejected_ends_an_order_and_its_fill_is_not_told() {
+    let ended = row(50);
+    assert_eq!(ended.told_at(3, [ORD_STATUS, REASON]), [code(b'8'), 1]);
+    assert_eq!(ended.last(), (vec![], [5, 0]));
+    assert_eq!(ended.stands([ORD_STATUS, CUM_QTY, LEAVES_QTY]), [code(b'8'), 0, 0]);
 }
 
 #[test]
