@@ -23,7 +23,7 @@ need_rt() {
 need_library() {
     local library
     for library in "$@"; do
-        [ -f "$root/target/staticlib/lib$library.a" ] || die "no target/staticlib/lib$library.a: 'rt staticlib $library' makes it"
+        [ -f "$root/target/staticlib/lib$library.a" ] || die "no target/staticlib/lib$library.a: 'tools/staticlib $library' makes it"
     done
 }
 
@@ -66,40 +66,66 @@ not_run() {
     fi
 }
 
-# The sum of all that a program is made of: the crates without the samples that their programs are run on.
+# The sum of all that a program is made of: the crates without what rt made of them and the samples that their programs are run on.
 sources() {
-    find crates crates.txt -type f ! -name stdin ! -name stdout ! -path '*/must-fail/*' -print0 | sort -z | xargs -0 sha256sum | sha256sum
+    find crates crates.txt -path 'crates/*/out' -prune -o -type f ! -name stdin ! -name stdout ! -path '*/must-fail/*' -print0 |
+        sort -z | xargs -0 sha256sum | sha256sum
 }
 
-# How many crates of crates.txt there are; with a crate's name, how many it rests on, itself included.
+# The programs of crates.txt.
+programs() {
+    local file
+    for file in "$root"/crates/*/src/main.rt; do
+        basename "${file%/src/main.rt}"
+    done
+}
+
+# The crates of crates.txt; with a crate's name, those that it rests on, each after what it rests on itself, and then the crate.
 crates() {
     awk -v want="${1:-}" '
         function visit(n,    a, k, m) {
             if (!(n in deps) || seen[n]++) return
-            count++
             m = split(deps[n], a, " ")
             for (k = 1; k <= m; k++) visit(a[k])
+            print n
         }
-        { sub(/#.*/, ""); i = index($0, ":"); if (i) { all++; deps[substr($0, 1, i - 1)] = substr($0, i + 1) } }
-        END { if (want == "") print all; else { visit(want); print count } }' "$root/crates.txt"
+        { sub(/#.*/, ""); i = index($0, ":"); n = $1; sub(/:.*/, "", n); if (i) { deps[n] = substr($0, i + 1); if (want == "") print n } }
+        END { if (want != "") visit(want) }' "$root/crates.txt"
 }
 
-# progress TOTAL: of what rt prints, its own lines as they come; a line that says that a crate is proved begins with how many of TOTAL are.
-# A loop of the shell's, since some awks hold their input back.
+# compiler_words CRATE KIT: what the kit's compiler has to be told, in a crate's folder, to check or build it over the libraries in the out/
+# folders of those that it rests on; a word on a line.
+compiler_words() {
+    local name root_file=src/lib.rt direct
+    [ ! -f "$root/crates/$1/src/main.rt" ] || root_file=src/main.rt
+    ! grep -q "^$1 staticlib:" "$root/crates.txt" || printf '%s\n' --crate-type staticlib
+    printf '%s\n' --crate-name "$1" "$root_file" -L "dependency=$2/rlibs" --extern "std=$2/rlibs/std.rlib" --links "$1=" \
+        --antt-project "$2/rattle/logic/antt-project.json" --logic-built "$2/logic_built" --jobs 2
+    for name in $(crates "$1"); do
+        [ "$name" = "$1" ] || printf '%s\n' -L "dependency=$root/crates/$name/out/rlib"
+    done
+    direct=$(sed -n "s/^$1\>[^:]*:\([^#]*\).*/\1/p" "$root/crates.txt")
+    for name in $direct; do
+        printf '%s\n' --extern "$name=$root/crates/$name/out/rlib/$name.rlib"
+    done
+}
+
+# progress TOTAL: of what rt prints, its own lines as they come; a line that says that a crate is proved, kept from an earlier run or begun
+# begins with which of TOTAL it is. A loop of the shell's, since some awks hold their input back.
 progress() {
-    local line proved=0
+    local line number=0
     while IFS= read -r line; do
-        if [[ $line =~ ^rt:\ [a-z0-9_]+\ proved\ \( ]]; then
-            proved=$((proved + 1))
-            printf '%s of %s: %s\n' "$proved" "$1" "${line#rt: }"
+        if [[ $line =~ ^rt:\ [a-z0-9_]+\ (proved$|is\ kept:) || $line =~ ^rt:\ chose\ --jobs ]]; then
+            number=$((number + 1))
+            line=${line#rt: }
+            printf '%s of %s: %s\n' "$number" "$1" "${line/#chose --jobs * for /}"
         elif [[ $line == "rt: "* ]]; then
             printf '%s\n' "$line"
         fi
     done
 }
 
-# Proves and builds the program $1 if that has not been done, and says on standard error how far it is. If its sample was edited, so that
-# the stored output no longer goes with it, the program runs all the same: ./test says so.
+# Proves and builds the program $1 if that has not been done, and says on standard error how far it is.
 build() {
     local log made=target/$1.sources
     if [ -x "target/bin/$1" ] && [ -f "$made" ] && [ "$(sources)" = "$(cat "$made")" ]; then
@@ -108,15 +134,15 @@ build() {
     need_rt
     [ -x "target/bin/$1" ] || echo "$1: proving it and the crates that it rests on; the first time takes some minutes" >&2
     log=$(mktemp)
-    if ! rt check "$1" </dev/null 2>&1 | tee "$log" | progress "$(crates "$1")" >&2; then
-        if ! grep -q "^rt: $1 proved, and its run FAILED" "$log"; then
-            cat "$log" >&2
-            rm -f "$log"
-            exit 1
-        fi
-        echo "$1: it is proved; crates/$1/stdin and crates/$1/stdout no longer fit each other" >&2
+    # On no input: what is wanted is the program, which stays in out/.
+    if ! env -C "crates/$1" rt run </dev/null 2>&1 >/dev/null | tee "$log" | progress "$(crates "$1" | wc -l)" >&2; then
+        cat "$log" >&2
+        rm -f "$log"
+        exit 1
     fi
     rm -f "$log"
+    mkdir -p target/bin
+    cp "crates/$1/out/$1" "target/bin/$1"
     sources >"$made"
 }
 

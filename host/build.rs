@@ -1,4 +1,4 @@
-//! Links the static libraries that `rt staticlib` writes: `gateway` for the feature `book`, `fix` for the feature `fix`. They
+//! Links the static libraries that `tools/staticlib` writes: `gateway` for the feature `book`, `fix` for the feature `fix`. They
 //! stand in `target/staticlib` of the repository, or in the folder that `JUBAFIYE_LIB` names. Where one is missing, the build
 //! ends here with one message and never reaches the linker.
 //!
@@ -46,7 +46,7 @@ fn folder(name: &str) -> Result<PathBuf, String> {
         return Ok(folder);
     }
     Err(format!(
-        "the proved library lib{name}.a is not in the folder {} ({told}). Make it with `rt staticlib {name}` in the \
+        "the proved library lib{name}.a is not in the folder {} ({told}). Make it with `tools/staticlib {name}` in the \
          repository's root, which writes target/staticlib/lib{name}.a, or set JUBAFIYE_LIB to a folder that has one",
         folder.display()
     ))

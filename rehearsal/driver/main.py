@@ -17,7 +17,7 @@ SHEETS = ("desk.tsv", "desk-page.txt", "desk-net.tsv", "desk-alarms.tsv")
 def build():
     for library in ("gateway", "fix"):
         if not os.path.exists(os.path.join(settings.ROOT, "target", "staticlib", f"lib{library}.a")):
-            raise Failed(f"no target/staticlib/lib{library}.a: 'rt staticlib {library}' makes it")
+            raise Failed(f"no target/staticlib/lib{library}.a: 'tools/staticlib {library}' makes it")
     done = subprocess.run(["make", "-s", "-C", os.path.join(settings.ROOT, "rehearsal")], capture_output=True, text=True, check=False)
     if done.returncode != 0:
         raise Failed("it does not build:\n" + done.stdout + done.stderr)

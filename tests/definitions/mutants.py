@@ -11,10 +11,10 @@ from pathlib import Path
 # Each file whose definitions are altered, as crate and module; of the last, the named definitions alone.
 FILES = [("machine", name) for name in "Constants Orders Messages Changes GatewayCancel Amend Report Machine Ranges Rules History".split()]
 FILES += [("wide", "Wide"), ("machine", "Exchange")]
-ONLY = {"Exchange": {"openOf"}, "History": {"comesTo", "messagesOf", "leftBy"}}
+ONLY = {"Exchange": {"open_of"}, "History": {"comes_to", "messages_of", "left_by"}}
 
 SIGNATURE = re.compile(r"(?:unfoldable|abbrev) pub (\S+) :")
-TOKEN = re.compile(r"\.[a-z]\w*|[^\W\d][\w′″]*|\d+|&&|\|\||[-+;()]")
+TOKEN = re.compile(r"\.[a-z]\w*|[^\W\d][\w']*|\d+|&&|\|\||[-+;()]")
 
 # A token for another, and a field for one of the same type that stands beside it.
 SWAPS = {"eqb": "leb", "ltb": "leb", "leb": "ltb", "&&": "||", "||": "&&", "true": "false", "false": "true", "not": "", "+": "-", "-": "+"}
@@ -31,17 +31,19 @@ FIELDS = {
 BEHIND = {("c", ".place"): None, ("q", ".answered"): None, ("r", ".status"): None, ("r", ".venueorderid"): None, ("e", ".reason"): ".verdict"}
 # What returns its last argument with something done to it, and how many arguments it takes: the step is left out.
 STEPS = {
-    "alarming": 2, "answering": 2, "superseding": 2, "adding": 2, "telling": 2, "withOrder": 2, "stuck": 1, "sendGatewayCancel": 2, "resumeGatewayCancel": 2,
-    "retryGatewayCancel": 2, "gatewayCancelRefused": 3, "setStatus": 2, "nextExec": 1, "recordVenueOrderId": 3, "applyReplace": 2, "numberedOrder": 3,
-    "withNames": 2, "withState": 2, "withLinks": 2, "withPending": 2, "withGateway": 2, "notPending": 1, "refusedOrder": 3, "sendRefused": 1,
-    "refusedNote": 1, "unlessShort": 3, "statusAt": 2, "asAsked": 2, "oneMore": 2, "nextSequence": 1, "limitPrice": 2, "orOwn": 2, "verdictText": 1, "max": 2,
-    "answerLink": 2, "answered": 1,
+    "alarming": 2, "answering": 2, "superseding": 2, "adding": 2, "telling": 2, "with_order": 2, "stuck": 1, "send_gateway_cancel": 2, "resume_gateway_cancel": 2,
+    "retry_gateway_cancel": 2, "gateway_cancel_refused": 3, "set_status": 2, "next_exec": 1, "record_venue_order_id": 3, "apply_replace": 2, "numbered_order": 3,
+    "with_names": 2, "with_state": 2, "with_links": 2, "with_pending": 2, "with_gateway": 2, "not_pending": 1, "refused_order": 3, "send_refused": 1,
+    "refused_note": 1, "unless_short": 3, "status_at": 2, "as_asked": 2, "one_more": 2, "next_sequence": 1, "limit_price": 2, "or_own": 2, "verdict_text": 1, "max": 2,
+    "answer_link": 2, "answered": 1,
 }  # fmt: skip
 # A condition more, of the order or of the venue's event that a definition of these files is given.
 ASKS = {
-    "o": ["ltb 0 (o .state .cumqty)", "eqb (o .state .cumqty) 0", "eqb (o .terms .timeinforce) 0", "eqb (o .links .cancel) 0"],
-    "e": ["eqb (e .exec .lastqty) 0", "ltb 0 (e .exec .cumqty)", "eqb (e .reason) 0", "eqb (e .text .len) 0"],
+    "o": ["ltb 0 o.state.cumqty", "eqb o.state.cumqty 0", "eqb o.terms.timeinforce 0", "eqb o.links.cancel 0"],
+    "e": ["eqb e.exec.lastqty 0", "ltb 0 e.exec.cumqty", "eqb e.reason 0", "eqb e.text.len 0"],
 }
+# The mutants in the order in which they come in a sweep: that of the hashes of their names as they were first spelled. Others come after them.
+ORDER = {line: n for n, line in enumerate((Path(__file__).resolve().parent / "order.txt").read_text(encoding="utf-8").splitlines())}
 ASKED = {"Amend": "o", "GatewayCancel": "o", "Machine": "o", "Orders": "o", "Report": "oe"}
 
 
@@ -66,8 +68,8 @@ class Mutant:
         return f"{self.module}.{self.definition} '{self.old}' {self.nth} -> '{self.new}'"
 
     @property
-    def rank(self) -> str:
-        return hashlib.sha256(self.name.encode()).hexdigest()
+    def rank(self) -> tuple[int, str]:
+        return ORDER.get(self.name, len(ORDER)), hashlib.sha256(self.name.encode()).hexdigest()
 
     def applied(self, text: str) -> str:
         """The file with this one place altered, and with every name that an alteration may need in scope."""
@@ -78,9 +80,7 @@ class Mutant:
 def imported(text: str) -> str:
     """The file with comparisons, connectives and sums in scope."""
     for module, names in [
-        ("lib.Dec", ["eqb", "leb", "ltb"]),
-        ("mathlib.Core.Bool", ["Bool", "true", "false", "not", "_&&_", "_||_"]),
-        ("Prim.Native.Nat", ["ℕ", "_+_", "_-_"]),
+        ("Rattle.std.specs.Prelude", ["ℕ", "◌+◌", "◌-◌", "Bool", "true", "false", "not", "◌&&◌", "◌||◌", "eqb", "leb", "ltb"]),
     ]:
         line = re.compile(rf"^use {re.escape(module)}\.\{{(.*)\}}$", re.MULTILINE)
         found = line.search(text)
@@ -118,7 +118,7 @@ def numbers(root: Path) -> dict[str, str]:
 def constants(text: str, named: dict[str, str]) -> dict[str, str]:
     """Each number that the file imports by name from Constants or Codes, with the next of its import line that is another number."""
     following = {}
-    for line in re.findall(r"^use Rattle·\S*\.(?:Constants|Codes)\.\{(.*)\}$", text, re.MULTILINE):
+    for line in re.findall(r"^use Rattle\.\S*\.(?:Constants|Codes)\.\{(.*)\}$", text, re.MULTILINE):
         names = [n for n in line.split(", ") if n in named]
         for k, name in enumerate(names):
             others = [n for n in names[k + 1 :] + names[:k] if named[n] != named[name]]
@@ -132,7 +132,7 @@ def operand(tokens: list[re.Match], k: int) -> tuple[int, int]:
     for i in range(k + 1, len(tokens)):
         word = tokens[i].group()
         depth += {"(": 1, ")": -1}.get(word, 0)
-        if depth < 0 or (depth == 0 and word in ("&&", "||", "then", "else", "in", ";")):
+        if depth < 0 or (depth == 0 and word in ("&&", "||", "then", "otherwise", "in", ";")):
             break
         last = i
     return tokens[k + 1].start(), tokens[last].end()
@@ -158,19 +158,19 @@ def condition(tokens: list[re.Match], k: int) -> tuple[int, int]:
 
 
 def branch(tokens: list[re.Match], k: int) -> tuple[int, int, int] | None:
-    """Where the branch behind the `then` at k starts and ends, and the place of its `else`."""
+    """Where the branch behind the `then` at k starts and ends, and the place of its `otherwise`."""
     depth, inside = 0, 0
     for i in range(k + 1, len(tokens)):
         word = tokens[i].group()
         inside += {"(": 1, ")": -1}.get(word, 0)
-        if word == "else" and depth == 0 and inside == 0:
+        if word == "otherwise" and depth == 0 and inside == 0:
             return tokens[k + 1].start(), tokens[i - 1].end(), i
-        depth += {"if": 1, "else": -1}.get(word, 0)
+        depth += {"if": 1, "otherwise": -1}.get(word, 0)
     return None
 
 
 def arms(text: str, tokens: list[re.Match], k: int) -> list[tuple[int, int, str, str]]:
-    """The arm of the `if` at k and the one of the `else if` behind it, where there is one: condition and branch of each as start, end and texts."""
+    """The arm of the `if` at k and the one of the `otherwise if` behind it, where there is one: condition and branch of each as start, end and texts."""
     found = []
     while len(found) < 2 and k < len(tokens) and tokens[k].group() == "if":
         first, last = condition(tokens, k)
@@ -184,7 +184,7 @@ def arms(text: str, tokens: list[re.Match], k: int) -> list[tuple[int, int, str,
 
 
 def exchanged(text: str, tokens: list[re.Match], k: int):
-    """Yields the arms of an `if` and of the `else if` behind it exchanged, unless that is the same: one branch twice, or one value compared with two numbers."""
+    """Yields the arms of an `if` and of the `otherwise if` behind it exchanged, unless that is the same: one branch twice, or one value compared with two numbers."""
     both = arms(text, tokens, k)
     if len(both) < 2 or both[0][3].split() == both[1][3].split():
         return
@@ -193,15 +193,16 @@ def exchanged(text: str, tokens: list[re.Match], k: int):
     if all(apart) and apart[0].group(1) == apart[1].group(1):
         return
     short = [" ".join(c.split()) for c in (one, two)]
-    yield start, end, f"{two} then {comes} else if {one} then {goes}", f"{short[0]} .. else if {short[1]}", f"{short[1]} .. else if {short[0]}"
+    yield start, end, f"{two} then {comes} otherwise if {one} then {goes}", f"{short[0]} .. otherwise if {short[1]}", f"{short[1]} .. otherwise if {short[0]}"
 
 
-def more(text: str, start: int, end: int, given: list[str]):
-    """Yields the condition from start to end with one more of each that the definition is given."""
+def more(text: str, start: int, end: int, given: list[str], definition: str):
+    """Yields the condition from start to end with one more of each that the definition is given: the one that ORDER names, else one by the hash of the condition."""
     short = " ".join(text[start:end].split())
     chosen = int(hashlib.sha256(short.encode()).hexdigest(), 16)
     for name in given:
         extra = ASKS[name][chosen % len(ASKS[name])]
+        extra = next((e for e in ASKS[name] if f"{definition} '{short}' 1 -> 'and {e}'" in ORDER), extra)
         if extra not in short:
             yield start, end, f"({text[start:end]}) && {extra}", short, f"and {extra}"
 
@@ -217,6 +218,8 @@ def last_argument(text: str, tokens: list[re.Match], k: int) -> tuple[int, int] 
         while depth:
             at += 1
             depth += {"(": 1, ")": -1}.get(tokens[at].group(), 0)
+        while at + 1 < len(tokens) and tokens[at + 1].group().startswith(".") and tokens[at].end() == tokens[at + 1].start():
+            at += 1
     return tokens[start].start(), tokens[at].end()
 
 
@@ -226,13 +229,13 @@ def omitted(text: str, tokens: list[re.Match], k: int):
         yield tokens[k].start(), found[1], text[found[0] : found[1]], tokens[k].group(), ""
 
 
-def larger(text: str, tokens: list[re.Match], given: list[str]):
+def larger(text: str, tokens: list[re.Match], given: list[str], definition: str):
     """Yields alterations of more than a word: where one starts and ends, what stands there instead, and both in short."""
     for k, token in enumerate(tokens):
         word = token.group()
         if word == "if":
             yield from exchanged(text, tokens, k)
-            yield from more(text, *condition(tokens, k), given)
+            yield from more(text, *condition(tokens, k), given, definition)
         elif word in STEPS and not re.match(r"\s*[=:](?!\w)", text[token.end() :]):
             yield from omitted(text, tokens, k)
 
@@ -269,7 +272,7 @@ def mutants_of(crate: str, module: str, text: str, following: dict[str, str]) ->
         tokens = list(TOKEN.finditer(text, start, end))
         places = [(a, b, new, " ".join(text[a:b].split()), new) for a, b, new in alterations(text, tokens, following)]
         asked = [n for n in ASKED.get(module, "") if n in given]
-        for first, last, put, old, new in places + list(larger(text, tokens, asked)):
+        for first, last, put, old, new in places + list(larger(text, tokens, asked, f"{module}.{definition}")):
             key = (definition, f"{old} -> {new}")
             counted[key] = counted.get(key, 0) + 1
             found.append(Mutant(crate, module, definition, old, counted[key], new, first, last, put))

@@ -10,15 +10,15 @@ from pathlib import Path
 
 from mutants import FILES, Mutant
 
-USES = re.compile(r"^use Rattle·(\w+?)(·specs)?\.specs\.(\w+)", re.MULTILINE)
-PLACE = re.compile(r"crates/sweep/specs/M(\d+)/(\w+)\.antt:(\d+)")
+USES = re.compile(r"^use Rattle\.(?!std\.)(\w+)\.specs\.(\w+)", re.MULTILINE)
+PLACE = re.compile(r"\bspecs/M(\d+)/(\w+)\.antt:(\d+)")
 COPIED = ("machine", "wide", "facts")
 FACTS = [("wide", "Facts")]
 
 # Question 1 of each call, whether the book keeps its rules, is nine tenths of what a fact computes. It is cut out of a mutant's copy where
 # the rules are not what is altered.
-ASKED = "comesTo b (readAs e) = if rules b then stepOf b e else refusing 1"
-CUT = "comesTo b (readAs e) = stepOf b e"
+ASKED = "comes_to b (read_as e) = if rules b then step_of b e otherwise refusing 1"
+CUT = "comes_to b (read_as e) = step_of b e"
 RULES = ("Rules", "Ranges", "History")
 
 Module = tuple[str, str]
@@ -36,7 +36,7 @@ class Specs:
         for crate in COPIED:
             for file in sorted((root / "crates" / crate / "specs").glob("*.antt")):
                 self.texts[crate, file.stem] = file.read_text()
-        self.uses = {m: {(c, n) for c, _, n in USES.findall(t)} for m, t in self.texts.items()}
+        self.uses = {m: set(USES.findall(t)) for m, t in self.texts.items()}
         self.facts = self.fact_files(root)
 
     def fact_files(self, root: Path) -> list[Module]:
@@ -63,28 +63,27 @@ class Specs:
 
 
 class Scratch:
-    """The repository below a folder of its own; the crates that are proved are links to the repository's. `whole` asks question 1 throughout."""
+    """A repository in a folder of its own, with copies of the crates that machine rests on: rt takes what it built of the same text. `whole` asks question 1 throughout."""
 
     def __init__(self, root: Path, folder: Path, whole: bool = False):
         self.folder, self.whole, self.specs = folder, whole, Specs(root)
-        shutil.rmtree(folder, ignore_errors=True)
-        (folder / "crates").mkdir(parents=True)
-        (folder / "target").mkdir()
-        for part in ("rlib", "stamp"):
-            (folder / "target" / part).symlink_to(root / "target" / part)
-        lines = (root / "crates.txt").read_text()
-        rests = re.search(r"^machine:([^#]*)", lines, re.MULTILINE).group(1).strip()
-        (folder / "crates.txt").write_text(f"{lines}\nsweep: {rests} machine\n")
-        for crate in (root / "crates").iterdir():
-            (folder / "crates" / crate.name).symlink_to(crate)
+        rests = dict(re.findall(r"^(\w+):([^#\n]*)", (root / "crates.txt").read_text(), re.MULTILINE))
+        below, todo = set(), ["machine"]
+        while todo:
+            crate = todo.pop()
+            below.add(crate)
+            todo += rests[crate].split()
+        rests["sweep"] = f"{rests['machine'].strip()} machine"
+        (folder / "crates.txt").write_text("".join(f"{crate}: {rests[crate].strip()}\n" for crate in sorted(below | {"sweep"})))
+        for crate in below:
+            shutil.copytree(root / "crates" / crate, folder / "crates" / crate, ignore=shutil.ignore_patterns("out", "must-fail"))
 
     def write(self, mutants: list[Mutant | None], facts: list[Module]) -> None:
         """The crate anew, with a folder M0, M1 .. for each mutant; None is the definitions as they are."""
         crate = self.folder / "crates/sweep"
         shutil.rmtree(crate, ignore_errors=True)
-        shutil.rmtree(self.folder / "target/inc", ignore_errors=True)
         (crate / "src").mkdir(parents=True)
-        (crate / "src/lib.rt").write_text("// Mutants of the machine's definitions, each with its facts.\n")
+        (crate / "src/lib.rt").write_text("// Mutants of the machine's definitions, each with its facts.\n#![tactic(auto)]\n")
         (crate / "specs").mkdir()
         (crate / "specs/Lib.antt").write_text("".join(f"pub mod M{i}\n" for i in range(len(mutants))))
         for i, mutant in enumerate(mutants):
@@ -106,8 +105,8 @@ class Scratch:
 
     def check(self) -> dict[int, list[tuple[str, int, str]]]:
         """Checks the crate: for each mutant the errors, as file, line and message. Anything else that goes wrong is a failure."""
-        command = shlex.split(os.environ.get("SWEEP_PREFIX", "")) + ["rt", "dev", "sweep"]
-        done = subprocess.run(command, cwd=self.folder, capture_output=True, text=True, check=False)
+        command = shlex.split(os.environ.get("SWEEP_PREFIX", "")) + ["rt", "check"]
+        done = subprocess.run(command, cwd=self.folder / "crates/sweep", capture_output=True, text=True, check=False)
         said = done.stdout + done.stderr
         errors: dict[int, list[tuple[str, int, str]]] = {}
         for line in said.splitlines():
@@ -126,17 +125,15 @@ class Scratch:
 def cut_in(text: str) -> str:
     """History without question 1."""
     if text.count(ASKED) != 1:
-        raise Failure("History.antt no longer has the equation of `comesTo` that is cut: see ASKED in scratch.py")
+        raise Failure("History.antt no longer has the equation of `comes_to` that is cut: see ASKED in scratch.py")
     return text.replace(ASKED, CUT)
 
 
 def renamed(text: str, i: int, copied: set[Module]) -> str:
-    """A file of mutant i: what is copied is named in the crate itself, all else from outside its own crate."""
+    """A file of mutant i: what is copied is named in the crate itself."""
 
     def name(use: re.Match) -> str:
-        crate, _, module = use.groups()
-        if (crate, module) in copied:
-            return f"use Rattle·sweep·specs.specs.M{i}.{module}"
-        return f"use Rattle·{crate}.specs.{module}"
+        crate, module = use.groups()
+        return f"use Rattle.sweep.specs.M{i}.{module}" if (crate, module) in copied else use.group()
 
     return USES.sub(name, text)

@@ -5,6 +5,7 @@
 import argparse
 import re
 import sys
+import tempfile
 from collections import Counter
 from pathlib import Path
 
@@ -146,9 +147,11 @@ def main() -> int:
         print("\n".join(m.name for m in chosen))
         return 0
     named = excuses({m.name for m in everything})
-    scratch = Scratch(ROOT, ROOT / "target/definitions", words.whole)
-    control(scratch)
-    return summed(sweep(scratch, chosen, settled(chosen, words.known)), named)
+    # Outside the checkout, in which `rt ci` takes no second crates.txt.
+    with tempfile.TemporaryDirectory(prefix="definitions-") as folder:
+        scratch = Scratch(ROOT, Path(folder), words.whole)
+        control(scratch)
+        return summed(sweep(scratch, chosen, settled(chosen, words.known)), named)
 
 
 if __name__ == "__main__":

@@ -39,7 +39,7 @@ def groups():
     groups = {}
     for block in text("crates.txt").strip().split("\n\n")[1:]:
         heading = re.match(r"# ([^:\n]*): ", block)
-        crates = re.findall(r"^(\w+):", block, re.MULTILINE)
+        crates = re.findall(r"^(\w+)(?: staticlib)?:", block, re.MULTILINE)
         groups[heading[1] if heading else "none"] = crates
     return groups
 
@@ -54,7 +54,7 @@ def pictured():
 def rests_on(name):
     """How many crates a crate rests on, itself included."""
     lines = [line.split("#")[0].split(":") for line in text("crates.txt").split("\n") if ":" in line.split("#")[0]]
-    below = {crate: deps.split() for crate, deps in lines}
+    below = {crate.split()[0]: deps.split() for crate, deps in lines}
     seen, todo = set(), [name]
     while todo:
         crate = todo.pop()

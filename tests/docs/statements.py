@@ -274,7 +274,7 @@ def words_of(path):
 
 def names():
     """Each name that is said to be in a file is there; each other name in backquotes is somewhere in the crates."""
-    sources = [path for end in ("antt", "rt") for path in Path("crates").glob(f"**/*.{end}")]
+    sources = [path for end in ("antt", "rt") for path in Path("crates").glob(f"*/[!o]*/**/*.{end}")]  # not those in out/
     programs = Path("tests/oracle/compare/src/bin").glob("*.rs")
     anywhere = {path.stem for path in [*sources, *programs]} | {path.name for path in Path("crates").iterdir()}
     for path in sources:
@@ -343,4 +343,5 @@ def main():
     print("docs: {} pages, {} rows of the list of files counted; ".format(*counts[:2]) + said.format(*counts[2:]))
 
 
-main()
+if __name__ == "__main__":
+    main()

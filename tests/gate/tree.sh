@@ -6,7 +6,7 @@ trap 'rm -rf "$made"' EXIT
 tree=$made/tree
 told=$made/told
 mkdir "$tree"
-tar -C "$root" --exclude=target --exclude=.git -cf - . | tar -C "$tree" -xf -
+tar -C "$root" --exclude=target --exclude=.git --exclude='./crates/*/out' -cf - . | tar -C "$tree" -xf -
 # No test of tests, and nothing of the run that this one is part of.
 ln -sf /bin/true "$tree/tests/gate/run"
 unset CI JUBAFIYE_ALL JUBAFIYE_NOT_RUN

@@ -1,6 +1,6 @@
 /* What a call of net_position costs at 64 orders of 1, 8 and 64 clients and symbols, and what of it is the
    book's check: the best of nine rounds, in microseconds.
-       rt staticlib gateway
+       tools/staticlib gateway
        cc -O2 -o target/net-bench tests/net/bench.c target/staticlib/libgateway.a && target/net-bench */
 #include <stdint.h>
 #include <stdio.h>

@@ -1,5 +1,7 @@
 // src/book/amend.rs, its first half: cancels and replaces, and what refuses them, as functions over
 // structs by value. Each equals its definition in machine's Amend. Rests on gateway_cancel and bits.
+#![tactic(auto)]
+
 ghost use Rattle.std.specs.Prelude.{◌≡◌};
 ghost use Rattle.std.proofs.Math.Option.{some};
 ghost use Rattle.machine.specs.Orders.{limit_price};
@@ -204,7 +206,7 @@ pub fn cancel(f: Findings, order: u16, full: bool, o: Order, e: Record) -> Chang
 }
 
 // `Option<Decimal>`: a price, or none.
-#[derive(Drop)]
+#[derive(Clone, Copy)]
 struct Price {
     given: bool,
     value: u64,

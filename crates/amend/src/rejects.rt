@@ -1,7 +1,7 @@
 // The second half of src/book/amend.rs: a request that the venue refused, and sends that failed.
 // Each function equals its definition in machine's Amend. Rests on gateway_cancel.
 ghost use Rattle.std.specs.Prelude.{◌≡◌, eqb};
-ghost use Rattle.prelude.specs.Cases.{if◌then◌else◌};
+ghost use Rattle.prelude.specs.Cases.{if◌then◌otherwise◌};
 ghost use Rattle.store.specs.Orders.{no_pending};
 ghost use Rattle.machine.specs.Messages.{cancel_reject};
 ghost use Rattle.machine.specs.Changes.{unchanged, answering, alarming};
@@ -34,7 +34,7 @@ fn not_pending(o: Order) -> Order
 
 // What is pending, but for the request k.
 fn pending_but(k: u16, p: Pending) -> Pending
-    ensures { result ≡ (if eqb p.request k then no_pending else p) }
+    ensures { result ≡ (if eqb p.request k then no_pending otherwise p) }
 {
     if p.request == k {
         return order::NO_PENDING;

@@ -1,7 +1,7 @@
 -- Presence maps: bit k of a number, the number with that bit, how many stand, the map of a list of bits, and when one map has all of another. Rests on prelude.
 use Rattle.std.specs.Prelude.{ℕ, ◌+◌, ◌/◌, ◌%◌, ◌^◌, List, [], ◌∷◌, Bool, eqb, ltb}
 use Rattle.std.specs.Int.Bits.{bit_and}
-use Rattle.prelude.specs.Cases.{if◌then◌else◌}
+use Rattle.prelude.specs.Cases.{if◌then◌otherwise◌}
 use Rattle.prelude.specs.Below.{count_below}
 
 -- bit k of m, 0 or 1
@@ -14,7 +14,7 @@ bit m k = eqb (digit m k) 1
 
 -- m with bit k standing; there are 32 bits
 unfoldable pub with_bit : ℕ → ℕ → ℕ
-with_bit m k = if ltb k 32 then (if bit m k then m else m + 2 ^ k) else m
+with_bit m k = if ltb k 32 then (if bit m k then m otherwise m + 2 ^ k) otherwise m
 
 -- how many bits of m stand; there are 32
 unfoldable pub standing : ℕ → ℕ

@@ -1,4 +1,6 @@
 // Presence maps of 32 bits, by shifts and masks, and by the ones of a number. Rests on prelude.
+#![tactic(auto)]
+
 ghost use Rattle.std.specs.Prelude.{◌≡◌, ◌<◌};
 ghost use Rattle.bits.specs.Map.{bit, digit, with_bit, standing};
 

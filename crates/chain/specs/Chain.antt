@@ -2,7 +2,7 @@
 -- and the call that writes them. What stands in quotes is the desk's wording. Rests on counted, store's book and its outcomes, and opens' `keeps_of`.
 use Rattle.std.specs.Prelude.{ℕ, zero, suc, ◌*◌, not, ◌&&◌, List, [], ◌∷◌, ◌++◌, map, leb, ltb, length, take, replicate}
 use Rattle.std.proofs.Math.Option.{Option, none, some}
-use Rattle.prelude.specs.Cases.{if◌then◌else◌}
+use Rattle.prelude.specs.Cases.{if◌then◌otherwise◌}
 use Rattle.prelude.specs.Pieces.{joined}
 use Rattle.prelude.specs.Span.{splice}
 use Rattle.prelude.specs.Texts.{contents, text_of}
@@ -23,7 +23,7 @@ chain_from x client (suc n) (some k) = k ∷ chain_from x client n (find_clordid
 
 -- the request in which that client used that name. A name of no byte, or of more than 32, was never used.
 unfoldable pub called_by : Book → (client : ℕ) → (name : List ℕ) → Option ℕ
-called_by x client name = if leb 1 (length name) && leb (length name) 32 then find_clordid x client (text_of name) else none
+called_by x client name = if leb 1 (length name) && leb (length name) 32 then find_clordid x client (text_of name) otherwise none
 
 -- THE CHAIN: as many entries as there are requests are enough
 unfoldable pub chain_of : Book → (client : ℕ) → (name : List ℕ) → List ℕ
@@ -62,5 +62,5 @@ unfoldable pub chain_call : (book : List ℕ) (client : ℕ) (name list : List �
 chain_call book client name list =
     let ks : List ℕ = chain_of (book_of book) client name in
     if not (keeps_of book) then chained (refusing 1) list
-    else if ltb (length list) (entry_size * length ks) then chained (refusing 12) list
-    else chained (counting (length ks)) (splice list 0 (entries_of book ks))
+    otherwise if ltb (length list) (entry_size * length ks) then chained (refusing 12) list
+    otherwise chained (counting (length ks)) (splice list 0 (entries_of book ks))

@@ -2,6 +2,8 @@
 // request, from the one of that name on to the one that its OrigClOrdID names. What a chain and an entry
 // are stands in specs/Chain.antt, and what holds of them in specs/Promise.antt. Rests on opens, store
 // and counted.
+#![tactic(auto)]
+
 ghost use Rattle.std.specs.Prelude.{◌≡◌, true, ◌+◌, ◌*◌, ◌≤◌, ◌<◌, length};
 ghost use Rattle.prelude.specs.Span.{splice};
 ghost use Rattle.prelude.specs.Texts.{text_of};

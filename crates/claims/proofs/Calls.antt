@@ -7,7 +7,7 @@ use mathlib.Core.List.{List, []}
 use lib.Dec.{eqb}
 use lib.ListN.{length}
 use borrow.Author.Tests.{eqb-true, eqb-false, eq-eqb, lt-ltb, le-ltb, ne_eqb, not-false}
-use Rattle.prelude.specs.Cases.{if◌then◌else◌, split_if, if_true, if_false, clash}
+use Rattle.prelude.specs.Cases.{if◌then◌otherwise◌, split_if, if_true, if_false, clash}
 use Rattle.prelude.specs.Number.{Bytes}
 use Rattle.records.specs.Record.{event_in}
 use Rattle.records.specs.Answer.{answer_messages}
@@ -15,7 +15,6 @@ use Rattle.store.specs.Book.{request_in, is_book, book_of, blank}
 use Rattle.machine.specs.declared.Change.{Change}
 use Rattle.machine.specs.Changes.{Event}
 use Rattle.machine.specs.Machine.{step_of, after}
-use Rattle.machine.specs.Rules.{rules}
 use Rattle.machine.specs.History.{Decoded, unread, read_as, comes_to, messages_of, left_by, line_of, Kinds, State}
 use Rattle.machine.specs.Said.{Answers}
 use Rattle.machine.specs.Calls.{line_at, calls, Faithful}
@@ -40,7 +39,7 @@ use Rattle.opens.specs.Laws.Keeps.{keeps_held}
 -- ---- a call comes to what the machine's comes to
 
 asked_comes : (b : List ℕ) (i : Call) (c : Change) → keeps_of b ≡ true → Asked b i.event i.answer c → comes_to (book_of b) (read_call i) ≡ c
-unfolding read_call comes_to if◌then◌else◌
+unfolding read_call comes_to if◌then◌otherwise◌
 asked_comes b i c k (broken n) = clash (keeps_of b) k n
 asked_comes b i c k (short _ l) = rw (lt-ltb (length i.answer) 1024 l, (keeps_held b k).rules) refl
 asked_comes b i c k (unreadable _ l n) = rw (le-ltb (length i.answer) 1024 l, ne_eqb (event_refusal i.event) 0 n, (keeps_held b k).rules) refl
@@ -92,7 +91,7 @@ module _ (b : List ℕ) (i : Call) (g : Good b) where
           record {
             refusal = ap (λ (x : Outcome). x.returned) is ∙ sym (eqb-true c.refusal 0 e);
             messages =
-                ap (λ (x : Outcome). if eqb x.returned 0 then answer_messages x.answer else []) is
+                ap (λ (x : Outcome). if eqb x.returned 0 then answer_messages x.answer otherwise []) is
                 ∙ if_true _ _ _ refl
                 ∙ (read_back b i.event i.answer g.bytes i.bytes t).messages
                 ∙ ap messages_of (sym t.is);
@@ -107,7 +106,7 @@ module _ (b : List ℕ) (i : Call) (g : Good b) where
           record {
             refusal = ap (λ (x : Outcome). x.returned) is;
             messages =
-                ap (λ (x : Outcome). if eqb x.returned 0 then answer_messages x.answer else []) is
+                ap (λ (x : Outcome). if eqb x.returned 0 then answer_messages x.answer otherwise []) is
                 ∙ if_false _ _ _ e
                 ∙ sym (if_false _ _ _ e);
             left' = ap (λ (x : Outcome). book_of x.book) is ∙ sym (if_false _ _ _ e);

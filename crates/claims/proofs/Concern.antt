@@ -5,14 +5,14 @@ use native.Mathlib.Decide.{ℕ_discrete, dec_lt}
 use native.Mathlib.Omega.{arith}
 use mathlib.Core.Path.{◌≡◌, refl, sym, ap, ◌∙◌}
 use mathlib.Core.Logic.{◌⊎◌, inl, inr}
-use mathlib.Core.Bool.{Bool, true, false, not, ◌&&◌}
+use mathlib.Core.Bool.{Bool, true, not, ◌&&◌}
 use mathlib.Core.Option.{Option, none, some}
 use mathlib.Core.List.{List}
 use lib.Dec.{eqb, leb, ltb}
 use lib.ListN.{length}
 use borrow.Author.Tests.{eqb-true, eq-eqb, ne_eqb, leb-true, lt-ltb}
 use Rattle.prelude.specs.Below.{first_below, First, first_elim, first_some}
-use Rattle.prelude.specs.Cases.{if◌then◌else◌, maybe, if_true, if_false, maybe_some, both_true, both_hold, clash}
+use Rattle.prelude.specs.Cases.{maybe, if_true, if_false, maybe_some, both_true, both_hold, clash}
 use Rattle.prelude.specs.Number.{Bytes}
 use Rattle.prelude.specs.Texts.{is_text, same_text, same_back, same_trans, same_length}
 use Rattle.prelude.specs.declared.Text.{Text}
@@ -32,8 +32,7 @@ use Rattle.machine.proofs.Said.Reads.{event_ranged, event_kind}
 use Rattle.opens.specs.Laws.Keeps.{keeps_held}
 use Rattle.step.specs.Entries.{check_of}
 use Rattle.format.specs.Refusal.{event_refusal}
-use Rattle.claims.specs.Claims.{Exactly}
-use Rattle.claims.specs.Concern.{RequestOf, Concerns, by_clordid, by_request, by_name, OneConcern}
+use Rattle.claims.specs.Concern.{Concerns, by_clordid, by_request, by_name, OneConcern}
 use Rattle.claims.proofs.Taken.{kept_check}
 
 -- the only one that passes is the first

@@ -8,7 +8,7 @@ use mathlib.Core.List.{List}
 use lib.Dec.{eqb, leb, ltb}
 use lib.ListN.{length}
 use borrow.Author.Tests.{eqb-true, eqb-false, eq-eqb, leb-true, ltb-true, ltb-false, lt-ltb, le-ltb, not-true, not-false}
-use Rattle.prelude.specs.Cases.{if◌then◌else◌, split_if, if_true, if_false, clash, both_true, either_true}
+use Rattle.prelude.specs.Cases.{if◌then◌otherwise◌, split_if, if_true, if_false, clash, both_true, either_true}
 use Rattle.records.specs.Record.{event_in}
 use Rattle.store.specs.Layout.{most_orders, most_requests}
 use Rattle.store.specs.Book.{Book, is_book, book_of, blank}
@@ -35,7 +35,7 @@ record_number r =
     split_if P _ (λ t. split_if P _ (λ u. inl refl) (λ u. inr (inr refl))) (λ t. inr (inl refl))
 
 asked_number : (b r a : List ℕ) (c : Change) → Asked b r a c → c.refusal ≡ first_no b r a
-unfolding first_no refusing if◌then◌else◌
+unfolding first_no refusing if◌then◌otherwise◌
 asked_number b r a c (broken k) = rw k refl
 asked_number b r a c (short k l) = rw (k, lt-ltb (length a) 1024 l) refl
 asked_number b r a c (unreadable k l n) = go (record_number r)
@@ -125,7 +125,7 @@ module _ (b r a : List ℕ) where
       go false k = refl
 
   numbers : Numbers b r a (first_no b r a)
-  unfolding first_no if◌then◌else◌
+  unfolding first_no if◌then◌otherwise◌
   numbers = record {
     most = known.most;
     one = (λ z. subst Says z known.says, λ z. rw (broken_check z) refl);

@@ -1,13 +1,13 @@
 -- Wish 12 on bytes: each call on a book that keeps its rules is the machine's, and where at most one adds a request the writes commute.
 -- Rests on Taken, Concern, Swapped, OpenQuantity and machine's Exchange.
 use Prim.Native.Nat.{ℕ, ◌≤◌, ◌+◌, ◌-◌, ◌<◌}
-use mathlib.Core.Path.{◌≡◌, sym, ap, ◌∙◌, subst, refl, ap₂}
+use mathlib.Core.Path.{◌≡◌, sym, ap, ◌∙◌, subst, ap₂}
 use mathlib.Core.Bool.{true, not, ◌||◌}
 use mathlib.Core.List.{List, [], ◌∷◌}
 use lib.Dec.{eqb, leb, ltb}
 use lib.ListN.{length}
 use borrow.Author.Tests.{eq-eqb, le-ltb, eqb-true, ne_eqb, ltb-true, lt-ltb}
-use Rattle.prelude.specs.Cases.{if◌then◌else◌, if_true, if_false, both_true, either_true, both_hold}
+use Rattle.prelude.specs.Cases.{if_true, if_false, both_true, either_true, both_hold}
 use Rattle.prelude.specs.Number.{Bytes}
 use Rattle.prelude.specs.Span.{span, splice}
 use Rattle.prelude.specs.Totals.{every[], every∷}
@@ -18,16 +18,15 @@ use Rattle.machine.specs.declared.Output.{Output}
 use Rattle.machine.specs.declared.Change.{Change}
 use Rattle.machine.specs.Changes.{Event, refusing}
 use Rattle.machine.specs.Machine.{step_of, after, book_after, has_room, change_of}
-use Rattle.machine.specs.Rules.{rules}
 use Rattle.machine.specs.History.{messages_of}
 use Rattle.machine.specs.Exchange.{SameOrder, open_of, Turned, OfTwoClients, Exchanged, concerns, client_at, turned_order}
 use Rattle.machine.proofs.Exchange.Whole.{two_clients}
 use Rattle.machine.proofs.Exchange.Places.{turned_book}
 use Rattle.opens.specs.Keeps.{keeps_of, opened}
 use Rattle.claims.specs.Claims.{Call}
-use Rattle.claims.specs.Exchange.{called, CallsOfTwoClients, CallsExchanged, TwoClientsOnBytes, after_two, lent, SameAnswer, SameBooks, turned_bytes}
+use Rattle.claims.specs.Exchange.{called, CallsOfTwoClients, CallsExchanged, TwoClientsOnBytes, after_two, lent, SameBooks, turned_bytes}
 use Rattle.claims.proofs.Taken.{Taken, call_taken, left, returned_is, outcome_taken, writes, keeps_after, keeps_sizes, step_room, whole_after, settled, check_kept}
-use Rattle.step.specs.Entries.{Outcome, call_of, book_with, check_of}
+use Rattle.step.specs.Entries.{Outcome, call_of, book_with}
 use Rattle.format.specs.Refusal.{event_refusal}
 use Rattle.opens.specs.Laws.Keeps.{keeps_held}
 use native.Mathlib.Decide.{ℕ_discrete}

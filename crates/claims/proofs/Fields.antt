@@ -9,7 +9,7 @@ use lib.Dec.{leb, ltb}
 use lib.ListN.{length, get_or}
 use borrow.Author.Tests.{leb-true, ltb-true, lt-ltb, not-true}
 use Rattle.prelude.specs.Below.{all_below, all_elim, count_ext}
-use Rattle.prelude.specs.Cases.{if◌then◌else◌, clash, both_true, either_true}
+use Rattle.prelude.specs.Cases.{if◌then◌otherwise◌, clash, both_true, either_true}
 use Rattle.bits.specs.Map.{bit, standing, contains}
 use Rattle.bits.specs.Laws.Map.{contains_bit}
 use Rattle.format.specs.Format.{fields, size, is_text_bit, is_kind, required_bits, allowed_bits, required, allowed, joined, bits_right}
@@ -18,7 +18,7 @@ use Rattle.format.specs.Wire.{encode, field_bytes}
 use Rattle.records.specs.Fields.{numbers_of, high_of, held_by, held}
 use Rattle.records.specs.Record.{is_record, is_message}
 use Rattle.records.specs.Answer.{are_messages}
-use Rattle.records.specs.Laws.Right.{Right, right, length_words}
+use Rattle.records.specs.Laws.Right.{right, length_words}
 use Rattle.machine.specs.Changes.{Message}
 use Rattle.needs.specs.Needs.{field_count}
 use Rattle.claims.specs.Needs.{written_fields}
@@ -58,7 +58,7 @@ module _ (m : Message) (ok : is_message m ≡ true) where
 
   -- a text has its length byte, a number its size
   encoded : (b : ℕ) → b < 32 → bit m.map b ≡ true → 0 < length (encode b (held m b))
-  unfolding encode held_by if◌then◌else◌
+  unfolding encode held_by if◌then◌otherwise◌
   encoded b l e = go (is_text_bit b) refl
     where
       go : (t : Bool) → is_text_bit b ≡ t → 0 < length (encode b (held m b))
@@ -66,7 +66,7 @@ module _ (m : Message) (ok : is_message m ≡ true) where
       go false t = rw t (omega (arith, length_words (size b) (get_or (numbers_of m) b 0) (high_of m), stands b l e))
 
   field : (b : ℕ) → b < 32 → ltb 0 (length (field_bytes m.map (held m) b)) ≡ bit m.map b
-  unfolding field_bytes if◌then◌else◌
+  unfolding field_bytes if◌then◌otherwise◌
   field b l = go (bit m.map b) refl
     where
       go : (t : Bool) → bit m.map b ≡ t → ltb 0 (length (field_bytes m.map (held m) b)) ≡ bit m.map b

@@ -9,7 +9,7 @@ use lib.Dec.{eqb}
 use lib.ListN.{length, length-replicate}
 use borrow.Author.Tests.{eq-eqb}
 use Rattle.prelude.specs.Below.{all_below, all_none}
-use Rattle.prelude.specs.Cases.{if◌then◌else◌, split_if, split_maybe}
+use Rattle.prelude.specs.Cases.{if◌then◌otherwise◌, split_if, split_maybe}
 use Rattle.prelude.specs.Lists.{list_below}
 use Rattle.prelude.specs.Number.{bytes_of, word16}
 use Rattle.prelude.specs.Span.{span, splice, length_splice, span_splice_before}
@@ -54,7 +54,7 @@ same_head b d h l o r = record {
 
 -- a count set
 set_head : (d : List ℕ) → length d ≡ book_size → (at n : ℕ) → at + 2 ≤ 256 → n ≤ 256 → word16 (set_count d at n) at ≡ n
-unfolding count_at if◌then◌else◌
+unfolding count_at if◌then◌otherwise◌
 set_head d l at n h k =
     let e : count_at at 65536 (set_count d at n) ≡ n = count_set_count d l at n h 65536 (omega arith) ∙ omega arith in
     let m : length (set_count d at n) ≡ book_size = length_set_count d l at n h in
@@ -62,19 +62,19 @@ set_head d l at n h k =
 
 module _ (b : List ℕ) (h : Headed b) where
   store_head : (i : ℕ) (o : Order) → WholeOrder o → Headed (store_order b i o)
-  unfolding store_order if◌then◌else◌
+  unfolding store_order if◌then◌otherwise◌
   store_head i o w =
-      in_table (λ t. Headed (if t then put_order b i o else b)) b 64 i
+      in_table (λ t. Headed (if t then put_order b i o otherwise b)) b 64 i
       (λ l k.
       same_head b (put_order b i o) h (length_put_order b l i k o w.fits) (span_put_order b l i k o w.fits 0 2 (inl (omega arith)))
       (span_put_order b l i k o w.fits 2 2 (inl (omega arith))))
       (λ d. h)
 
   add_order_head : (o : Order) → WholeOrder o → Headed (add_order b o)
-  unfolding add_order if◌then◌else◌
+  unfolding add_order if◌then◌otherwise◌
   add_order_head o w =
       let n : ℕ = order_count b in
-      in_table (λ t. Headed (if t then set_count (put_order b n o) 0 (n + 1) else b)) b 64 n
+      in_table (λ t. Headed (if t then set_count (put_order b n o) 0 (n + 1) otherwise b)) b 64 n
       (λ l k.
       let d : List ℕ = put_order b n o in
       let m : length d ≡ book_size = length_put_order b l n k o w.fits in
@@ -91,10 +91,10 @@ module _ (b : List ℕ) (h : Headed b) where
       (λ d. h)
 
   add_request_head : (origin : ℕ) (q : Request) → WholeRequest q → Headed (add_request b origin q)
-  unfolding add_request if◌then◌else◌
+  unfolding add_request if◌then◌otherwise◌
   add_request_head origin q w =
       let n : ℕ = request_count b in
-      in_table (λ t. Headed (if t then set_count (put_request b n origin q) 2 (n + 1) else b)) b 256 n
+      in_table (λ t. Headed (if t then set_count (put_request b n origin q) 2 (n + 1) otherwise b)) b 256 n
       (λ l k.
       let d : List ℕ = put_request b n origin q in
       let m : length d ≡ book_size = length_put_request b l n k origin q w in
@@ -111,11 +111,11 @@ module _ (b : List ℕ) (h : Headed b) where
       (λ d. h)
 
   mark_head : (i v : ℕ) → Headed (mark_answered b i v)
-  unfolding mark_answered if◌then◌else◌
+  unfolding mark_answered if◌then◌otherwise◌
   mark_head i v =
       let x : List ℕ = splice b (request_base i + request·answered) (1 ∷ []) in
       let w : List ℕ = settled_as b i v ∷ [] in
-      in_table (λ t. Headed (if t then splice x (request_base i + request·outcome) w else b)) b 256 i
+      in_table (λ t. Headed (if t then splice x (request_base i + request·outcome) w otherwise b)) b 256 i
       (λ l k.
       let m : length x ≡ book_size = length_splice b (request_base i + request·answered) (1 ∷ []) (omega arith) ∙ l in
       let same : (at : ℕ) → at + 2 ≤ 4 → span (splice x (request_base i + request·outcome) w) at 2 ≡ span b at 2 = λ at h.
@@ -171,7 +171,7 @@ module _ (setting : ℕ) where
   blank_head at l = zeros_head book_size (omega arith) (bytes_of 4 setting) refl at l
 
   blank_count : (at most : ℕ) → at + 2 ≤ 4 → count_at at most (blank setting) ≡ 0
-  unfolding count_at if◌then◌else◌
+  unfolding count_at if◌then◌otherwise◌
   blank_count at most l = rw (eq-eqb _ book_size (blank_length setting)) (omega (arith, blank_head at l))
 
   blank_empty : book_of (blank setting) ≡ empty_book (setting_of (blank setting))

@@ -1,6 +1,6 @@
 -- Marks over lists: a list of calls is a list of events and returns to books that pass, and a mark stands through what may happen meanwhile. Rests on Calls, Net
 -- and marks' laws.
-use Prim.Native.Nat.{ℕ, ◌<◌}
+use Prim.Native.Nat.{ℕ}
 use native.Mathlib.Omega.{arith}
 use mathlib.Core.Path.{◌≡◌, refl, sym, ap, ◌∙◌, subst}
 use mathlib.Core.Bool.{Bool, true, false}
@@ -8,25 +8,23 @@ use mathlib.Core.List.{List, [], ◌∷◌, ◌++◌}
 use lib.Dec.{eqb}
 use lib.ListN.{length}
 use borrow.Author.Tests.{eqb-true, eqb-false, eq-eqb}
-use Rattle.prelude.specs.Cases.{if◌then◌else◌, split_if, if_true}
+use Rattle.prelude.specs.Cases.{if◌then◌otherwise◌, split_if, if_true}
 use Rattle.prelude.specs.Number.{Bytes}
-use Rattle.store.specs.Book.{Book, book_of, blank, empty_book}
+use Rattle.store.specs.Book.{Book, book_of, empty_book}
 use Rattle.store.specs.Laws.Adds.{blank_book}
-use Rattle.store.specs.Laws.Kept.{bytes_blank}
-use Rattle.machine.specs.Calls.{line_at, Step, call, back, SinceReturn, state_of, follow, just_returned}
+use Rattle.machine.specs.Calls.{Step, call, back, SinceReturn, state_of, follow, just_returned}
 use Rattle.machine.specs.Since.{Demand3From}
 use Rattle.machine.proofs.Claim.Start.{from_start}
 use Rattle.opens.specs.Keeps.{keeps_of}
 use Rattle.opens.specs.Laws.Keeps.{keeps_held}
 use Rattle.store.specs.Layout.{book_size}
-use Rattle.step.specs.Entries.{start_of, start_refusal, event_of}
+use Rattle.step.specs.Entries.{start_of, start_refusal}
 use Rattle.marks.specs.Marks.{is_mark_name, Marked, marked, set_mark_of, return_of}
 use Rattle.marks.specs.Promise.{Stands}
 use Rattle.marks.specs.Laws.Calls.{set_ends}
-use Rattle.marks.specs.Laws.Stands.{calls_keep, marks_stand}
+use Rattle.marks.proofs.Laws.Stands.{calls_keep, marks_stand}
 use Rattle.claims.specs.Claims.{entries, Passes}
-use Rattle.claims.specs.Marks.{BookCall, event, set_mark, return_to, book_after, returns, lines, after_call, after_calls, SinceMark, Meanwhile, elsewhere, set_here, return_here, start, Both, both, goes_on, go_on, MarksOnBytes}
-use Rattle.claims.proofs.Header.{blank_keeps}
+use Rattle.claims.specs.Marks.{BookCall, event, set_mark, return_to, book_after, after_call, after_calls, SinceMark, Meanwhile, elsewhere, set_here, return_here, start, Both, both, goes_on, go_on, MarksOnBytes}
 use Rattle.claims.proofs.Taken.{check_kept, kept_check}
 use Rattle.claims.proofs.Calls.{start_is, passing, since_on_bytes}
 use Rattle.claims.proofs.Net.{net_since_on_bytes, start_passes}
@@ -56,10 +54,10 @@ call_passes b p (return_to name places bytes) = return_passes b name places p by
 
 -- ---- the calls as events and returns
 
-follow_more : (s : SinceReturn entries) (is js : List (Step entries Passes)) → follow entries s (is ++ js) ≡ follow entries (follow entries s is) js
-follow_more s [] js = refl
-follow_more s (call i ∷ is) js = follow_more _ is js
-follow_more s (back h g ∷ is) js = follow_more _ is js
+follow_more : (is : List (Step entries Passes)) (s : SinceReturn entries) (js : List (Step entries Passes)) → follow entries s (is ++ js) ≡ follow entries (follow entries s is) js
+follow_more [] s js = refl
+follow_more (call i ∷ is) s js = follow_more is _ js
+follow_more (back h g ∷ is) s js = follow_more is _ js
 
 -- what has happened is so many events and returns
 record Followed (b : List ℕ) (s : SinceReturn entries) : Type 0 where
@@ -69,7 +67,7 @@ record Followed (b : List ℕ) (s : SinceReturn entries) : Type 0 where
 
 module _ (b : List ℕ) (s : SinceReturn entries) (f : Followed b s) where
   one_more_lem : (step : Step entries Passes) → follow entries (just_returned entries b) (f.steps ++ (step ∷ [])) ≡ follow entries s (step ∷ [])
-  one_more_lem step = follow_more (just_returned entries b) f.steps (step ∷ []) ∙ ap (λ (x : SinceReturn entries). follow entries x (step ∷ [])) f.is
+  one_more_lem step = follow_more f.steps (just_returned entries b) (step ∷ []) ∙ ap (λ (x : SinceReturn entries). follow entries x (step ∷ [])) f.is
 
   -- the book is the same, and nothing was told
   unmoved : (held : List ℕ) → held ≡ s.held → Followed b (record { image = s.image; held = held; past = s.past })
@@ -80,7 +78,7 @@ module _ (b : List ℕ) (s : SinceReturn entries) (f : Followed b s) where
   }
 
   after_call_lem : (c : BookCall) → Followed b (after_call s c)
-  unfolding if◌then◌else◌
+  unfolding if◌then◌otherwise◌
   after_call_lem (event c) = record { steps = f.steps ++ (call c ∷ []); is = one_more_lem (call c); passes = call_passes s.held f.passes (event c) }
   after_call_lem (set_mark name places) = unmoved _ (calls_keep.same_book s.held name places)
   after_call_lem (return_to name places bytes) =

@@ -7,7 +7,7 @@ use mathlib.Core.List.{List, map}
 use lib.Dec.{eqb}
 use lib.ListN.{length, get_or}
 use borrow.Author.Tests.{eqb-true, eqb-false, eq-eqb, le-ltb}
-use Rattle.prelude.specs.Cases.{if◌then◌else◌}
+use Rattle.prelude.specs.Cases.{if◌then◌otherwise◌}
 use Rattle.prelude.specs.Number.{Bytes}
 use Rattle.prelude.specs.Span.{splice}
 use Rattle.records.specs.Record.{event_in}
@@ -37,7 +37,7 @@ use Rattle.claims.proofs.Demands.{demand1}
 -- ---- the same change
 
 same_call : (b r : List ℕ) (n : ℕ) → 1024 ≤ n → call_of b r n ≡ call_of b r 1024
-unfolding call_of if◌then◌else◌
+unfolding call_of if◌then◌otherwise◌
 same_call b r n h = rw (le-ltb n 1024 h) refl
 
 -- ---- the answer's length
@@ -65,11 +65,11 @@ module _ (a : List ℕ) (c : Change) (room : 1024 ≤ length a) where
 
 -- ---- requests
 
-added_is : (added : ℕ) → (if not (eqb added 0) then 1 else 0) ≡ added_count added
-unfolding added_count if◌then◌else◌
+added_is : (added : ℕ) → (if not (eqb added 0) then 1 otherwise 0) ≡ added_count added
+unfolding added_count if◌then◌otherwise◌
 added_is added = go (eqb added 0) refl
   where
-    go : (t : Bool) → eqb added 0 ≡ t → (if not (eqb added 0) then 1 else 0) ≡ added_count added
+    go : (t : Bool) → eqb added 0 ≡ t → (if not (eqb added 0) then 1 otherwise 0) ≡ added_count added
     go true e = rw e refl
     go false e = rw e refl
 

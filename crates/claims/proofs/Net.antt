@@ -1,12 +1,9 @@
 -- The net position over lists: the machine's law of bought and sold apart, tied to the lines of the call. Rests on Calls and net's laws.
-use Prim.Native.Nat.{ℕ, ◌+◌, ◌-◌, ◌≤◌, ◌<◌}
+use Prim.Native.Nat.{ℕ}
 use native.Mathlib.Nat.{zero-add}
-use native.Mathlib.Omega.{arith}
 use mathlib.Core.Path.{◌≡◌, refl, sym, ap, ◌∙◌, subst}
 use mathlib.Core.Bool.{true, false}
 use mathlib.Core.List.{List, [], ◌∷◌}
-use lib.ListN.{length}
-use Rattle.prelude.specs.Totals.{total_of}
 use Rattle.prelude.specs.declared.Text.{Text}
 use Rattle.counted.specs.declared.Counted.{Counted}
 use Rattle.store.specs.Book.{Book, book_of, blank, empty_book}
@@ -16,22 +13,22 @@ use Rattle.machine.specs.Calls.{Step, call, back, SinceReturn, state_of, follow,
 use Rattle.machine.specs.Since.{Net}
 use Rattle.step.specs.Entries.{start_of, start_refusal}
 use Rattle.net.specs.declared.Amounts.{Amounts}
-use Rattle.net.specs.Net.{netted, filled_in, net_for, read_lines, least_scratch, least_lines, Written, net_call}
+use Rattle.net.specs.Net.{netted, filled_in, net_for, read_lines, Written, net_call}
 use Rattle.net.specs.Promise.{IsWritten}
-use Rattle.net.specs.Laws.Sound.{net_right}
-use Rattle.net.specs.Laws.Ends.{sound_call}
+use Rattle.net.proofs.Laws.Sound.{net_right}
+use Rattle.net.proofs.Laws.Ends.{sound_call}
 use Rattle.claims.specs.Claims.{Call, entries, Passes}
-use Rattle.claims.specs.Net.{told, plus, said_net, Says, only_calls, start_calls, NetSinceOnBytes, NetOnBytes}
+use Rattle.claims.specs.Net.{told, plus, Says, only_calls, start_calls, NetSinceOnBytes, NetOnBytes}
 use Rattle.claims.proofs.Header.{blank_keeps}
 use Rattle.claims.proofs.Taken.{check_kept, kept_check}
 use Rattle.claims.proofs.Calls.{start_is, passing, since_on_bytes}
 
 -- ---- the book that is held passes
 
-held_passes : (s : SinceReturn entries) (is : List (Step entries Passes)) → Passes s.held → Passes (follow entries s is).held
-held_passes s [] p = p
-held_passes s (call c ∷ is) p = held_passes _ is (passing.stays s.held c p)
-held_passes s (back h g ∷ is) p = held_passes _ is g
+held_passes : (is : List (Step entries Passes)) (s : SinceReturn entries) → Passes s.held → Passes (follow entries s is).held
+held_passes [] s p = p
+held_passes (call c ∷ is) s p = held_passes is _ (passing.stays s.held c p)
+held_passes (back h g ∷ is) s p = held_passes is _ g
 
 -- ---- the call on a book that passes
 
@@ -61,13 +58,13 @@ pub net_since_on_bytes : NetSinceOnBytes
 net_since_on_bytes b p is =
     let s = follow entries (just_returned entries b) is in
     says_same s.held (filled_in (book_of s.held)) (λ client symbol. plus (filled_in (book_of s.image) client symbol) (told client symbol s.past))
-    (held_is (book_of s.image) s (since_on_bytes b p is).1) (says s.held (held_passes (just_returned entries b) is p))
+    (held_is (book_of s.image) s (since_on_bytes b p is).1) (says s.held (held_passes is (just_returned entries b) p))
 
 -- ---- from the empty book
 
-calls_image : (s : SinceReturn entries) (cs : List Call) → (follow entries s (only_calls cs)).image ≡ s.image
-calls_image s [] = refl
-calls_image s (c ∷ cs) = calls_image _ cs
+calls_image : (cs : List Call) (s : SinceReturn entries) → (follow entries s (only_calls cs)).image ≡ s.image
+calls_image [] s = refl
+calls_image (c ∷ cs) s = calls_image cs _
 
 pub start_passes : (b : List ℕ) (setting : ℕ) → start_refusal b ≡ 0 → Passes (start_of b setting)
 start_passes b setting z =
@@ -81,7 +78,7 @@ empty_filled setting client symbol x = λ i. record { bought = zero-add x.bought
 pub net_on_bytes : NetOnBytes
 net_on_bytes b setting small z cs =
     let s = start_calls b setting cs in
-    let e : book_of s.image ≡ empty_book setting = ap book_of (calls_image (just_returned entries (start_of b setting)) cs ∙ start_is b setting z) ∙ blank_book setting small in
+    let e : book_of s.image ≡ empty_book setting = ap book_of (calls_image cs (just_returned entries (start_of b setting)) ∙ start_is b setting z) ∙ blank_book setting small in
     says_same s.held (λ client symbol. plus (filled_in (book_of s.image) client symbol) (told client symbol s.past)) (λ client symbol. told client symbol s.past)
     (λ client symbol. ap (λ (x : Book). plus (filled_in x client symbol) (told client symbol s.past)) e ∙ empty_filled setting client symbol (told client symbol s.past))
     (net_since_on_bytes (start_of b setting) (start_passes b setting z) (only_calls cs))

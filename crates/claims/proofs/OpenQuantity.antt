@@ -5,7 +5,6 @@ use mathlib.Core.Path.{◌≡◌, refl, sym, ap, ◌∙◌, subst}
 use mathlib.Core.Bool.{Bool, true, false}
 use mathlib.Core.Option.{some}
 use mathlib.Core.List.{List, [], ◌∷◌}
-use lib.Dec.{eqb}
 use lib.ListN.{length}
 use borrow.Author.Tests.{eq-eqb}
 use Rattle.prelude.specs.Below.{all_intro}
@@ -24,11 +23,11 @@ use Rattle.outcomes.specs.Outcomes.{outcomes_right}
 use Rattle.opens.specs.Opens.{stored_open, open_right, opens_right}
 use Rattle.opens.specs.Keeps.{keeps_of, opened, open_call}
 use Rattle.opens.specs.Laws.Keeps.{keeps_stored, keeps_then}
-use Rattle.step.specs.Entries.{Outcome, event_of, check_of, start_of}
+use Rattle.step.specs.Entries.{Outcome, event_of, check_of}
 use Rattle.claims.specs.Claims.{Call, Exactly}
 use Rattle.claims.specs.Opens.{bytes_after, OpenRight, OpenOnBytes}
 use Rattle.claims.proofs.Header.{blank_keeps}
-use Rattle.claims.proofs.Taken.{check_kept, check_broken, kept_check, keeps_after, either_way}
+use Rattle.claims.proofs.Taken.{check_kept, check_broken, keeps_after, either_way}
 use Rattle.claims.proofs.Calls.{Good, faithful, start_is}
 use Rattle.claims.proofs.Demands.{demand1}
 

@@ -10,7 +10,7 @@ use lib.Dec.{eqb, leb, ltb}
 use lib.ListN.{length, get_or-eq_default}
 use borrow.Author.Tests.{eqb-true, eqb-false, eq-eqb, leb-true, le-leb, ltb-true, lt-ltb}
 use Rattle.prelude.specs.Below.{count_below, all_elim, all_intro}
-use Rattle.prelude.specs.Cases.{if◌then◌else◌, if_true, if_false, clash, both_true, both_hold, true_or_false}
+use Rattle.prelude.specs.Cases.{if◌then◌otherwise◌, if_true, if_false, clash, both_true, both_hold, true_or_false}
 use Rattle.prelude.specs.Number.{Bytes}
 use Rattle.prelude.specs.Span.{splice, length_splice, span_byte, span_splice_same, span_splice_before}
 use Rattle.prelude.specs.Texts.{same_text}
@@ -74,13 +74,13 @@ ruled : (q : Request) (n : ℕ) → outcome_rule q n ≡ true → Ruled (is_answ
 unfolding outcome_rule
 ruled q n e = go (is_answered q) e
   where
-    go : (a : Bool) → (if a then ltb 0 n && leb n 3 else eqb n 0) ≡ true → Ruled a n
+    go : (a : Bool) → (if a then ltb 0 n && leb n 3 otherwise eqb n 0) ≡ true → Ruled a n
     go true e =
-        let (u, v) = both_true (ltb 0 n) (leb n 3) (unfold if◌then◌else◌ in e) in
+        let (u, v) = both_true (ltb 0 n) (leb n 3) (unfold if◌then◌otherwise◌ in e) in
         let low : 0 < n = ltb-true 0 n u in
         record { most = leb-true n 3 v; some = λ y z. omega arith; none = λ y. clash true refl y }
     go false e =
-        let z : n ≡ 0 = eqb-true n 0 (unfold if◌then◌else◌ in e) in
+        let z : n ≡ 0 = eqb-true n 0 (unfold if◌then◌otherwise◌ in e) in
         record { most = omega arith; some = λ y. clash false y refl; none = λ y. z }
 
 outcome_ruled : (b : List ℕ) → keeps_of b ≡ true → (k : ℕ) → k < request_count b → Ruled (answered_in b k) (outcome_at b k)
@@ -193,7 +193,7 @@ first b g (i ∷ is) k u a = go (true_or_false (answered_in (next b g i) k)) (λ
 -- ---- the event's outcome, spelled out
 
 spelled : (e : Event) → Spelled e
-unfolding outcome_by if◌then◌else◌
+unfolding outcome_by if◌then◌otherwise◌
 spelled e = go (eqb e.kind 7) (eqb e.kind 4) (eqb e.exec.status rejected) (eqb e.exec.exectype exec_rejected) refl refl refl refl
   where
     go : (s t u v : Bool) → eqb e.kind 7 ≡ s → eqb e.kind 4 ≡ t → eqb e.exec.status rejected ≡ u → eqb e.exec.exectype exec_rejected ≡ v → Spelled e
@@ -241,9 +241,9 @@ count_less : (p : ℕ → Bool) (j k : ℕ) → j < k → p j ≡ true → count
 count_less p j zero l e = absurd (omega arith)
 count_less p j (suc k) l e = go (ℕ_discrete j k) (λ h. count_less p j k h e) (unfold count_below in refl)
   where
-    go : Dec (j ≡ k) → (j < k → count_below p j < count_below p k) → count_below p (suc k) ≡ count_below p k + (if p k then 1 else 0) → count_below p j < count_below p (suc k)
+    go : Dec (j ≡ k) → (j < k → count_below p j < count_below p k) → count_below p (suc k) ≡ count_below p k + (if p k then 1 otherwise 0) → count_below p j < count_below p (suc k)
     go (yes z) less one =
-        let here : ◌≡◌ {A = ℕ} (if p k then 1 else 0) 1 = if_true _ _ _ (ap p (sym z) ∙ e) in
+        let here : ◌≡◌ {A = ℕ} (if p k then 1 otherwise 0) 1 = if_true _ _ _ (ap p (sym z) ∙ e) in
         let same : count_below p j ≡ count_below p k = ap (count_below p) z in
         omega arith
     go (no z) less one = omega (arith, less (omega arith), one)
@@ -285,7 +285,7 @@ outcome_right : (q : Request) (n : ℕ) → Exactly (n ≡ 0) (is_answered q ≡
 unfolding outcome_rule
 outcome_right q n none most = go (is_answered q) refl (ℕ_discrete n 0)
   where
-    go : (a : Bool) → is_answered q ≡ a → Dec (n ≡ 0) → (if is_answered q then ltb 0 n && leb n 3 else eqb n 0) ≡ true
+    go : (a : Bool) → is_answered q ≡ a → Dec (n ≡ 0) → (if is_answered q then ltb 0 n && leb n 3 otherwise eqb n 0) ≡ true
     go true e (yes z) = clash _ e (none.0 z)
     go true e (no z) = if_true _ _ _ e ∙ both_hold _ _ (lt-ltb 0 n (omega arith)) (le-leb n 3 most)
     go false e z = if_false _ _ _ e ∙ eq-eqb n 0 (none.1 e)

@@ -11,7 +11,7 @@ use mathlib.Core.List.{List, [], ◌∷◌, ◌++◌}
 use lib.Dec.{eqb, ltb}
 use lib.ListN.{length}
 use borrow.Author.Tests.{eqb-false, eq-eqb, ne_eqb, le-leb, lt-ltb}
-use Rattle.prelude.specs.Cases.{if◌then◌else◌, split_if, if_true, if_false, maybe_some, both_hold}
+use Rattle.prelude.specs.Cases.{if◌then◌otherwise◌, split_if, if_true, if_false, maybe_some, both_hold}
 use Rattle.prelude.specs.Number.{bytes_of}
 use Rattle.prelude.specs.Totals.{Every, every[], every∷, every_map}
 use Rattle.store.specs.declared.Order.{Order}
@@ -44,7 +44,7 @@ order_write i o = write (order_base i) (encode_order o)
 
 -- the request of a link marked answered, and its outcome
 unfoldable mark_writes : (link outcome : ℕ) → List Write
-mark_writes k v = if eqb k 0 then [] else write (request_base (k - 1) + request·answered) (1 ∷ []) ∷ write (request_base (k - 1) + request·outcome) (v ∷ []) ∷ []
+mark_writes k v = if eqb k 0 then [] otherwise write (request_base (k - 1) + request·answered) (1 ∷ []) ∷ write (request_base (k - 1) + request·outcome) (v ∷ []) ∷ []
 
 -- where there is no link the outcome is no matter
 mark_values : (k v u : ℕ) → ((k ≡ 0 → ⊥) → v ≡ u) → mark_writes k v ≡ mark_writes k u
@@ -73,7 +73,7 @@ abbrev pub count_write : ℕ → Write
 count_write n = write header·requests (bytes_of 2 n)
 
 unfoldable pub add_writes : (t origin : ℕ) → Requests → List Write
-add_writes t origin r = if eqb r.added 0 then [] else request_write t origin r.request ∷ count_write (t + 1) ∷ []
+add_writes t origin r = if eqb r.added 0 then [] otherwise request_write t origin r.request ∷ count_write (t + 1) ∷ []
 
 pub none_added : (t origin : ℕ) (r : Requests) → r.added ≡ 0 → add_writes t origin r ≡ []
 unfolding add_writes
@@ -182,7 +182,7 @@ add_zones t origin r room whole =
 -- ---- a change on bytes is its writes
 
 module _ (b : List ℕ) (long : length b ≡ book_size) where
-  in_table : (i most : ℕ) → i < most → (x : List ℕ) → (if is_book b && ltb i most then x else b) ≡ x
+  in_table : (i most : ℕ) → i < most → (x : List ℕ) → (if is_book b && ltb i most then x otherwise b) ≡ x
   in_table i most h x = if_true _ _ _ (both_hold _ _ (eq-eqb (length b) book_size long) (lt-ltb i most h))
 
   mark_is : (k v : ℕ) → k ≤ most_requests → mark_link b k v ≡ put_all b (mark_writes k (settled_as b (k - 1) v))

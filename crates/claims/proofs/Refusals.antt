@@ -8,7 +8,7 @@ use lib.Dec.{eqb, leb, ltb}
 use lib.ListN.{length, length-append, length-set}
 use borrow.Author.Tests.{leb-true, leb-false, le-leb, lt-leb, lt-ltb, le-ltb, ne_eqb, not-true, not-false}
 use Rattle.prelude.specs.Below.{first_some}
-use Rattle.prelude.specs.Cases.{if◌then◌else◌, split_if, split_maybe, if_true, if_false, clash}
+use Rattle.prelude.specs.Cases.{if◌then◌otherwise◌, split_if, split_maybe, if_true, if_false, clash}
 use Rattle.prelude.specs.declared.Text.{Text}
 use Rattle.store.specs.declared.Order.{Order}
 use Rattle.store.specs.declared.Request.{Request}
@@ -88,13 +88,13 @@ module _ (b : Book) (e : Event) (p : ℕ) (small : p ≤ length b.orders) (order
   abbrev wrong : Bool
   wrong = not (already_taken f order e) && unrefused && not (priced_right (or_own e.terms.ordtype o.terms.ordtype) e)
 
-  told_if : (c : Change) → wrong ≡ false → Moves 2 f.place o c → Unbooked b (if wrong then 6 else 0) c
+  told_if : (c : Change) → wrong ≡ false → Moves 2 f.place o c → Unbooked b (if wrong then 6 otherwise 0) c
   told_if c w m = subst (λ (n : ℕ). Unbooked b n c) (sym (if_false wrong 6 0 w)) (findings_unbooked b 2 p o c small m)
 
-  replace_unbooked : Unbooked b (if wrong then 6 else 0) (replace f order full' o e)
+  replace_unbooked : Unbooked b (if wrong then 6 otherwise 0) (replace f order full' o e)
   unfolding replace
   replace_unbooked =
-      let T : Change → Type 0 = Unbooked b (if wrong then 6 else 0) in
+      let T : Change → Type 0 = Unbooked b (if wrong then 6 otherwise 0) in
       split_if T (already_taken f order e) (λ t. told_if _ (rw t refl) (status_moves f o e))
       (λ t. split_if T _ (λ u. told_if _ (rw (t, not-true unrefused u) refl) (told_refusal f o e _ _))
       (λ u. split_if T _ (λ v. subst (λ (n : ℕ). Unbooked b n (refusing 6)) (sym (if_true wrong 6 0 (rw (t, not-false unrefused u, v) refl))) (refusing_unbooked b 6))
@@ -113,7 +113,7 @@ mispriced_none b e n m = rw (n, m) refl
 
 module _ (b : Book) (r : Ruled b) (e : Event) (other : is_booking e ≡ false) where
   abbrev T : Change → Type 0
-  T = Unbooked b (if mispriced b e then 6 else 0)
+  T = Unbooked b (if mispriced b e then 6 otherwise 0)
 
   plain : (c : Change) → is_replacing e ≡ false → Unbooked b 0 c → T c
   plain c n t = subst (λ (k : ℕ). Unbooked b k c) (sym (if_false _ 6 0 (mispriced_none b e other n))) t
@@ -125,7 +125,7 @@ module _ (b : Book) (r : Ruled b) (e : Event) (other : is_booking e ≡ false) w
   replaces : is_replacing e ≡ true → T (amending replace b e)
   unfolding amending passed_all
   replaces m =
-      subst (λ (x : Bool). Unbooked b (if x then 6 else 0) (amending replace b e)) (sym (mispriced_replace b e other m))
+      subst (λ (x : Bool). Unbooked b (if x then 6 otherwise 0) (amending replace b e)) (sym (mispriced_replace b e other m))
       (replace_unbooked b e (order_of b e.client e.ids.origclordid) (order_small b r e e.client e.ids.origclordid) _ _ _)
 
   others_unbooked : T (change_of b e)
@@ -147,7 +147,7 @@ module _ (b : Book) (r : Ruled b) (e : Event) (other : is_booking e ≡ false) w
 
 -- the number of questions 5 and 6, and whether the change wants a new order record
 record Walked (b : Book) (e : Event) (c : Change) : Type 0 where
-  number : c.refusal ≡ (if used b e then 5 else if mispriced b e then 6 else 0)
+  number : c.refusal ≡ (if used b e then 5 otherwise if mispriced b e then 6 otherwise 0)
   place : c.refusal ≡ 0 → leb c.place (length b.orders) ≡ not (is_booking e)
 
 used_none : (b : Book) (e : Event) → is_booking e ≡ false → used b e ≡ false
@@ -167,7 +167,7 @@ module _ (b : Book) (e : Event) (book : is_booking e ≡ true) where
       last true = refl
       last false = refl
 
-  refused_walked : (n : ℕ) → (n ≡ 0 → ⊥) → n ≡ (if used b e then 5 else if mispriced b e then 6 else 0) → Walked b e (refusing n)
+  refused_walked : (n : ℕ) → (n ≡ 0 → ⊥) → n ≡ (if used b e then 5 otherwise if mispriced b e then 6 otherwise 0) → Walked b e (refusing n)
   unfolding refusing
   refused_walked n z w = record { number = w; place = λ y. absurd (z y) }
 
@@ -220,14 +220,14 @@ module _ (b : Book) (r : Ruled b) (e : Event) where
       (no_more (is_booking e) (leb 64 (length b.orders)) (eqb (change_of b e).requests.added 0) (leb 256 (length b.requests)))
 
   -- THE NUMBER of an event on a book that keeps its rules
-  pub step_number : (step_of b e).refusal ≡ (if used b e then 5 else if mispriced b e then 6 else if full b e then 7 else 0)
-  unfolding step_of if◌then◌else◌ refusing
+  pub step_number : (step_of b e).refusal ≡ (if used b e then 5 otherwise if mispriced b e then 6 otherwise if full b e then 7 otherwise 0)
+  unfolding step_of if◌then◌otherwise◌ refusing
   step_number = go (used b e) (mispriced b e) (full b e) refl refl refl
     where
       n : ℕ
       n = (change_of b e).refusal
 
-      go : (x y z : Bool) → used b e ≡ x → mispriced b e ≡ y → full b e ≡ z → (step_of b e).refusal ≡ (if x then 5 else if y then 6 else if z then 7 else 0)
+      go : (x y z : Bool) → used b e ≡ x → mispriced b e ≡ y → full b e ≡ z → (step_of b e).refusal ≡ (if x then 5 otherwise if y then 6 otherwise if z then 7 otherwise 0)
       go true y z h k l = let w : n ≡ 5 = rw h at (walked b r e).number in rw w refl
       go false true z h k l = let w : n ≡ 6 = rw (h, k) at (walked b r e).number in rw w refl
       go false false true h k l = let w : n ≡ 0 = rw (h, k) at (walked b r e).number in rw (room_is w, l, w) refl
@@ -240,8 +240,8 @@ unfolding answer_link
 answer_length k qs = split_if (λ (l : List Request). length l ≡ length qs) (eqb k 0) (λ z. refl) (λ z. simp length-set)
 
 -- n more exactly where the test holds
-orders_grow : (os : List Order) (c : Change) (t : Bool) → leb c.place (length os) ≡ not t → length (orders_after os c) ≡ length os + (if t then 1 else 0)
-unfolding orders_after if◌then◌else◌
+orders_grow : (os : List Order) (c : Change) (t : Bool) → leb c.place (length os) ≡ not t → length (orders_after os c) ≡ length os + (if t then 1 otherwise 0)
+unfolding orders_after if◌then◌otherwise◌
 orders_grow os c true h =
     let l : length os < c.place = leb-false c.place (length os) h in
     rw (ne_eqb c.place 0 (λ z. omega arith), h) (length-append os (c.order ∷ []))
@@ -251,8 +251,8 @@ orders_grow os c false h = go (eqb c.place 0) refl
     go true e = rw e (omega arith)
     go false e = rw (e, h) (omega (arith, length-set os (c.place - 1) c.order))
 
-pub requests_grow : (qs : List Request) (c : Change) → length (requests_after qs c) ≡ length qs + (if not (eqb c.requests.added 0) then 1 else 0)
-unfolding requests_after if◌then◌else◌
+pub requests_grow : (qs : List Request) (c : Change) → length (requests_after qs c) ≡ length qs + (if not (eqb c.requests.added 0) then 1 otherwise 0)
+unfolding requests_after if◌then◌otherwise◌
 requests_grow qs c = go (eqb c.requests.added 0) refl
   where
     settled : List Request
@@ -261,7 +261,7 @@ requests_grow qs c = go (eqb c.requests.added 0) refl
     same : length settled ≡ length qs
     same = answer_length c.requests.superseded _ ∙ answer_length c.requests.answered qs
 
-    go : (z : Bool) → eqb c.requests.added 0 ≡ z → length (requests_after qs c) ≡ length qs + (if not z then 1 else 0)
+    go : (z : Bool) → eqb c.requests.added 0 ≡ z → length (requests_after qs c) ≡ length qs + (if not z then 1 otherwise 0)
     go true e = rw e (omega (arith, same))
     go false e = rw e (omega (arith, same, length-append settled (c.requests.request ∷ [])))
 

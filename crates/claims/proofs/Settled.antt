@@ -11,7 +11,7 @@ use lib.Dec.{eqb, leb, ltb}
 use lib.ListN.{length}
 use borrow.Author.Tests.{eqb-true, eq-eqb, ne_eqb, leb-true, le-leb, ltb-true, lt-ltb}
 use Rattle.prelude.specs.Below.{all_elim, all_intro}
-use Rattle.prelude.specs.Cases.{if◌then◌else◌, split_if, split_maybe, if_true, if_false, maybe_some, clash, both_true, both_hold, either_true}
+use Rattle.prelude.specs.Cases.{if◌then◌otherwise◌, split_if, split_maybe, if_true, if_false, maybe_some, clash, both_true, both_hold, either_true}
 use Rattle.prelude.specs.Texts.{same_text}
 use Rattle.prelude.specs.declared.Text.{Text}
 use Rattle.store.specs.declared.Order.{Order}
@@ -58,11 +58,11 @@ module _ (b : List ℕ) (j : ℕ) (k : j < most_requests) where
 
 -- set once: of a request that is answered it stays
 unfoldable once : (answered settles : Bool) (v outcome : ℕ) → ℕ
-once answered settles v outcome = if answered then outcome else if settles then v else outcome
+once answered settles v outcome = if answered then outcome otherwise if settles then v otherwise outcome
 
 -- twice, of one that has 0 until it is answered
-settled_twice : (a f s : Bool) (v o : ℕ) → (a ≡ false → o ≡ 0) → once (a || f) s v (once a f v o) ≡ (if a then o else if (a || f) || s then v else 0)
-unfolding once if◌then◌else◌
+settled_twice : (a f s : Bool) (v o : ℕ) → (a ≡ false → o ≡ 0) → once (a || f) s v (once a f v o) ≡ (if a then o otherwise if (a || f) || s then v otherwise 0)
+unfolding once if◌then◌otherwise◌
 settled_twice true f s v o z = refl
 settled_twice false true s v o z = refl
 settled_twice false false true v o z = refl
@@ -73,11 +73,11 @@ module _ (v : ℕ) where
     few : k < most_requests
     few = omega (arith, l, count_most header·requests most_requests b)
 
-    pub settled_is : settled_as b k v ≡ (if is_answered (request_in (book_of b) k) then outcome_at b k else v)
-    unfolding settled_as is_answered if◌then◌else◌
-    settled_is = ap (λ (q : Request). if eqb q.answered 0 then v else outcome_at b k) (sym (request_in_lem b k l)) ∙ go (eqb (request_in (book_of b) k).answered 0)
+    pub settled_is : settled_as b k v ≡ (if is_answered (request_in (book_of b) k) then outcome_at b k otherwise v)
+    unfolding settled_as is_answered if◌then◌otherwise◌
+    settled_is = ap (λ (q : Request). if eqb q.answered 0 then v otherwise outcome_at b k) (sym (request_in_lem b k l)) ∙ go (eqb (request_in (book_of b) k).answered 0)
       where
-        go : (t : Bool) → (if t then v else outcome_at b k) ≡ (if not t then outcome_at b k else v)
+        go : (t : Bool) → (if t then v otherwise outcome_at b k) ≡ (if not t then outcome_at b k otherwise v)
         go true = refl
         go false = refl
 
@@ -97,7 +97,7 @@ module _ (v : ℕ) where
             ∙ ap (λ (i : ℕ). outcome_at (mark_answered b i v) k) w
             ∙ mark_outcome b k v long few
             ∙ settled_is
-            ∙ ap (λ (n : ℕ). if is_answered (request_in (book_of b) k) then outcome_at b k else n) (sym (if_true _ _ _ (eq-eqb link (k + 1) y)))
+            ∙ ap (λ (n : ℕ). if is_answered (request_in (book_of b) k) then outcome_at b k otherwise n) (sym (if_true _ _ _ (eq-eqb link (k + 1) y)))
         go (no z) (no y) =
             ap (λ (d : List ℕ). outcome_at d k) (if_false _ _ _ (ne_eqb link 0 z))
             ∙ (mark_beside_other b (link - 1) v k few (λ w. y (omega arith))).outcome
@@ -136,18 +136,18 @@ module _ (v : ℕ) where
       pub settled_again : settled_as (mark_link b link v) k v ≡ settled_as b k v
       settled_again =
           settled_is (mark_link b link v) link_long k link_in
-          ∙ ap₂ (λ (t : Bool) (n : ℕ). if t then n else v) (answered_then b long k l link) (link_outcome b long k l link)
+          ∙ ap₂ (λ (t : Bool) (n : ℕ). if t then n otherwise v) (answered_then b long k l link) (link_outcome b long k l link)
           ∙ go was (eqb link (k + 1))
           ∙ sym (settled_is b long k l)
         where
-          go : (a h : Bool) → (if a || h then once a h v (outcome_at b k) else v) ≡ (if a then outcome_at b k else v)
-          go true h = unfold once if◌then◌else◌ in refl
-          go false true = unfold once if◌then◌else◌ in refl
-          go false false = unfold once if◌then◌else◌ in refl
+          go : (a h : Bool) → (if a || h then once a h v (outcome_at b k) otherwise v) ≡ (if a then outcome_at b k otherwise v)
+          go true h = unfold once if◌then◌otherwise◌ in refl
+          go false true = unfold once if◌then◌otherwise◌ in refl
+          go false false = unfold once if◌then◌otherwise◌ in refl
 
     module _ (r : Requests) where
       marked_outcome : (was ≡ false → outcome_at b k ≡ 0)
-          → outcome_at (marked v b r) k ≡ (if was then outcome_at b k else if (was || eqb r.answered (k + 1)) || eqb r.superseded (k + 1) then v else 0)
+          → outcome_at (marked v b r) k ≡ (if was then outcome_at b k otherwise if (was || eqb r.answered (k + 1)) || eqb r.superseded (k + 1) then v otherwise 0)
       marked_outcome z =
           link_outcome (mark_link b r.answered v) (link_long r.answered) k (link_in r.answered) r.superseded
           ∙ ap₂ (λ (t : Bool) (n : ℕ). once t (eqb r.superseded (k + 1)) v n) (answered_then b long k l r.answered) (link_outcome b long k l r.answered)
@@ -160,7 +160,7 @@ module _ (v : ℕ) where
 pub settled_same : (v : ℕ) (b d : List ℕ) → length b ≡ book_size → length d ≡ book_size → (k : ℕ) → k < request_count b → k < request_count d
     → request_in (book_of d) k ≡ request_in (book_of b) k → outcome_at d k ≡ outcome_at b k → settled_as d k v ≡ settled_as b k v
 settled_same v b d l m k h g q o =
-    settled_is v d m k g ∙ ap₂ (λ (y : Request) (n : ℕ). if is_answered y then n else v) q o ∙ sym (settled_is v b l k h)
+    settled_is v d m k g ∙ ap₂ (λ (y : Request) (n : ℕ). if is_answered y then n otherwise v) q o ∙ sym (settled_is v b l k h)
 
 -- ---- the two rules, taken apart and put together
 
@@ -192,9 +192,9 @@ of_origin qs k link (inr r) =
     or_right (is_empty (at qs k).origclordid) (both (both (both (lt-ltb 0 link r.above) (le-leb link k r.within)) (eq-eqb _ _ r.order)) r.text)
 
 -- the outcome of a request: n before and v where it is settled now
-rule_after : (a y : Bool) (n v : ℕ) → (a ≡ true → y ≡ true) → (if a then ltb 0 n && leb n 3 else eqb n 0) ≡ true → ltb 0 v && leb v 3 ≡ true
-    → let m : ℕ = if a then n else if y then v else 0 in (if y then ltb 0 m && leb m 3 else eqb m 0) ≡ true
-unfolding if◌then◌else◌
+rule_after : (a y : Bool) (n v : ℕ) → (a ≡ true → y ≡ true) → (if a then ltb 0 n && leb n 3 otherwise eqb n 0) ≡ true → ltb 0 v && leb v 3 ≡ true
+    → let m : ℕ = if a then n otherwise if y then v otherwise 0 in (if y then ltb 0 m && leb m 3 otherwise eqb m 0) ≡ true
+unfolding if◌then◌otherwise◌
 rule_after true true n v f r s = r
 rule_after true false n v f r s = clash false (f refl) refl
 rule_after false true n v f r s = s
@@ -264,7 +264,7 @@ module _ (b : List ℕ) (e : Event) (c : Change) (long : length b ≡ book_size)
 
   unanswered_none : (k : ℕ) → k < request_count b → is_answered (request_in (book_of d) k) ≡ false → outcome_at d k ≡ 0
   unanswered_none k l z =
-      let rule : (if is_answered (request_in x k) then ltb 0 (outcome_at b k) && leb (outcome_at b k) 3 else eqb (outcome_at b k) 0) ≡ true = unfold outcome_rule in (rules_of k l).0 in
+      let rule : (if is_answered (request_in x k) then ltb 0 (outcome_at b k) && leb (outcome_at b k) 3 otherwise eqb (outcome_at b k) 0) ≡ true = unfold outcome_rule in (rules_of k l).0 in
       let was : is_answered (request_in x k) ≡ false = ap (λ (qs : List Request). is_answered (at qs k)) (sym d_requests) ∙ z in
       (d_beside k l).outcome ∙ eqb-true (outcome_at b k) 0 (sym (if_false _ _ _ was) ∙ rule)
 
@@ -272,9 +272,9 @@ module _ (b : List ℕ) (e : Event) (c : Change) (long : length b ≡ book_size)
   unfolding outcome_after
   mk_outcome k l =
       marked_outcome (outcome_by e) (few_outcomes e) d d_long k (omega (arith, l, d_count)) c.requests (unanswered_none k l)
-      ∙ ap₂ (λ (t : Bool) (n : ℕ). if t then n else if (t || eqb c.requests.answered (k + 1)) || eqb c.requests.superseded (k + 1) then outcome_by e else 0)
+      ∙ ap₂ (λ (t : Bool) (n : ℕ). if t then n otherwise if (t || eqb c.requests.answered (k + 1)) || eqb c.requests.superseded (k + 1) then outcome_by e otherwise 0)
       (ap (λ (qs : List Request). is_answered (at qs k)) d_requests) (d_beside k l).outcome
-      ∙ ap (λ (t : Bool). if is_answered (request_in x k) then outcome_at b k else if t then outcome_by e else 0) (sym (now_answered x c k (in_book k l)))
+      ∙ ap (λ (t : Bool). if is_answered (request_in x k) then outcome_at b k otherwise if t then outcome_by e otherwise 0) (sym (now_answered x c k (in_book k l)))
 
   mk_origin : (k : ℕ) → k < request_count b → origin_at mk k ≡ origin_at b k
   mk_origin k l = marked_origin (outcome_by e) (few_outcomes e) d d_long k (omega (arith, l, d_count)) c.requests ∙ (d_beside k l).origin
@@ -365,8 +365,8 @@ module _ (b : List ℕ) (e : Event) (c : Change) (long : length b ≡ book_size)
   unfolding outcome_rule outcome_after
   old_right k l =
       let m : k < length x.requests = in_book k l in
-      let rule : (if is_answered (request_in y k) then ltb 0 (outcome_at f k) && leb (outcome_at f k) 3 else eqb (outcome_at f k) 0) ≡ true =
-      subst (λ (n : ℕ). (if is_answered (request_in y k) then ltb 0 n && leb n 3 else eqb n 0) ≡ true) (sym (f_outcome k l))
+      let rule : (if is_answered (request_in y k) then ltb 0 (outcome_at f k) && leb (outcome_at f k) 3 otherwise eqb (outcome_at f k) 0) ≡ true =
+      subst (λ (n : ℕ). (if is_answered (request_in y k) then ltb 0 n && leb n 3 otherwise eqb n 0) ≡ true) (sym (f_outcome k l))
       (rule_after (is_answered (request_in x k)) (is_answered (request_in y k)) (outcome_at b k) (outcome_by e) (stays_answered x c k m) (rules_of k l).0 (one_to_three e)) in
       (rule, of_origin y.requests k (origin_at f k) (subst (Origin y.requests k) (sym (f_origin k l)) (moved (origin_of_lem x.requests k (origin_at b k) (rules_of k l).1))))
     where
@@ -430,17 +430,17 @@ module _ (b : List ℕ) (e : Event) (c : Change) (long : length b ≡ book_size)
 
   still_outcome : (k : ℕ) → k < request_count b → request_in y k ≡ request_in x k → outcome_at f k ≡ outcome_at b k
   still_outcome k l q =
-      let rule : (if is_answered (request_in x k) then ltb 0 (outcome_at b k) && leb (outcome_at b k) 3 else eqb (outcome_at b k) 0) ≡ true = unfold outcome_rule in (rules_of k l).0 in
-      let now : outcome_after x y e (outcome_at b) k ≡ (if is_answered (request_in x k) then outcome_at b k else if is_answered (request_in y k) then outcome_by e else 0) =
+      let rule : (if is_answered (request_in x k) then ltb 0 (outcome_at b k) && leb (outcome_at b k) 3 otherwise eqb (outcome_at b k) 0) ≡ true = unfold outcome_rule in (rules_of k l).0 in
+      let now : outcome_after x y e (outcome_at b) k ≡ (if is_answered (request_in x k) then outcome_at b k otherwise if is_answered (request_in y k) then outcome_by e otherwise 0) =
       unfold outcome_after in refl in
       f_outcome k l ∙ now
-      ∙ ap (λ (z : Request). if is_answered (request_in x k) then outcome_at b k else if is_answered z then outcome_by e else 0) q
+      ∙ ap (λ (z : Request). if is_answered (request_in x k) then outcome_at b k otherwise if is_answered z then outcome_by e otherwise 0) q
       ∙ go (is_answered (request_in x k)) rule
     where
-      go : (a : Bool) → (if a then ltb 0 (outcome_at b k) && leb (outcome_at b k) 3 else eqb (outcome_at b k) 0) ≡ true
-          → (if a then outcome_at b k else if a then outcome_by e else 0) ≡ outcome_at b k
-      go true r = unfold if◌then◌else◌ in refl
-      go false r = unfold if◌then◌else◌ in sym (eqb-true (outcome_at b k) 0 r)
+      go : (a : Bool) → (if a then ltb 0 (outcome_at b k) && leb (outcome_at b k) 3 otherwise eqb (outcome_at b k) 0) ≡ true
+          → (if a then outcome_at b k otherwise if a then outcome_by e otherwise 0) ≡ outcome_at b k
+      go true r = unfold if◌then◌otherwise◌ in refl
+      go false r = unfold if◌then◌otherwise◌ in sym (eqb-true (outcome_at b k) 0 r)
 
   pub change_settles : Settled b e c
   change_settles = record { old = f_outcome; new = λ k h l. new_outcome k (is_new k h l); same = still_outcome; right = all_right }

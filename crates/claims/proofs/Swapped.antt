@@ -12,7 +12,7 @@ use lib.Dec.{eqb}
 use lib.ListN.{length}
 use borrow.Author.Tests.{eqb-true, eq-eqb, ne_eqb}
 use Rattle.prelude.specs.Below.{first_below, First, first_elim, first_ext, first_some}
-use Rattle.prelude.specs.Cases.{if◌then◌else◌, maybe, if_false, clash}
+use Rattle.prelude.specs.Cases.{if◌then◌otherwise◌, maybe, if_false, clash}
 use Rattle.prelude.specs.Span.{span}
 use Rattle.prelude.specs.Totals.{Every, every[], every∷, every_map, total_ext}
 use Rattle.store.specs.declared.Order.{Order}
@@ -34,7 +34,7 @@ use Rattle.machine.specs.Exchange.{open_of}
 use Rattle.machine.proofs.Kept.Lift.{BookKept}
 use Rattle.machine.proofs.Claim.Records.{none_kept, added_long}
 use Rattle.machine.proofs.Exchange.Links.{Linked, same, cancels, replaces, same_place, same_requests, linked_equal}
-use Rattle.machine.proofs.Exchange.Frame.{Owned, Apart, apart, owned_at, owned_beside, clordid_same}
+use Rattle.machine.proofs.Exchange.Frame.{Owned, apart, owned_at, owned_beside, clordid_same}
 use Rattle.machine.proofs.Exchange.Commute.{count_two, first_at, second_at, others_at}
 use Rattle.machine.proofs.Exchange.Both.{next, Crossed, crossed_back}
 use Rattle.outcomes.specs.Outcomes.{outcome_by, origin_of}
@@ -42,7 +42,7 @@ use Rattle.step.specs.Entries.{book_with}
 use Rattle.claims.proofs.Written.{Writes}
 use Rattle.claims.proofs.Settled.{Settled, settled_same}
 use Rattle.claims.proofs.Splices.{Write, put, put_all, Inside, Beside, put_append, every_append, length_all, all_comm, put_over, span_put}
-use Rattle.claims.proofs.Placed.{order_write, rest_writes, rest_values, value_of, origin_by, request_write, count_write, add_writes, none_added, one_added, Zone, No, Mine, InOrder, InRest, InRequest, InAdded, in_count, zone_inside, zones_beside, order_zone, rest_zones, request_zone, behind_zone, count_zone, add_zones, change_is}
+use Rattle.claims.proofs.Placed.{order_write, rest_writes, rest_values, value_of, origin_by, request_write, count_write, add_writes, none_added, one_added, Zone, No, InOrder, InRest, InRequest, InAdded, in_count, zone_inside, zones_beside, order_zone, rest_zones, request_zone, behind_zone, count_zone, add_zones, change_is}
 
 -- ---- a client's first order
 
@@ -74,7 +74,7 @@ find_same x y l s client =
 
 -- what a client has open of an order
 abbrev part : ℕ → Order → ℕ
-part client o = if eqb o.client client then leaves_qty o else 0
+part client o = if eqb o.client client then leaves_qty o otherwise 0
 
 -- a link more or less is no matter to client and quantities
 linked_client : (t m n : ℕ) (c c' : Change) → Linked t m n c c' → c'.order.client ≡ c.order.client

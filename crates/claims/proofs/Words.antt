@@ -11,11 +11,11 @@ use lib.Dec.{eqb}
 use lib.ListN.{length}
 use borrow.Author.Tests.{eqb-true, eqb-false, eq-eqb}
 use Rattle.prelude.specs.Below.{First, first_some, all_intro}
-use Rattle.prelude.specs.Cases.{if◌then◌else◌, maybe, split_if, if_true, if_false, maybe_some}
+use Rattle.prelude.specs.Cases.{if◌then◌otherwise◌, maybe, split_if, if_true, if_false, maybe_some}
 use Rattle.prelude.specs.Lists.{first_in}
 use Rattle.prelude.specs.Totals.{total_of}
 use Rattle.store.specs.declared.Order.{Order}
-use Rattle.store.specs.Layout.{book_size, most_orders}
+use Rattle.store.specs.Layout.{most_orders}
 use Rattle.store.specs.Orders.{WholeOrder, no_order}
 use Rattle.store.specs.Requests.{WholeRequest}
 use Rattle.store.specs.Book.{Book, book_of, order_in, order_count, open_at, store_open}
@@ -116,7 +116,7 @@ module _ (b : List ℕ) (ev : Event) (c : Change) (keeps : keeps_of b ≡ true) 
   still z k =
       let os : left.orders ≡ (book_of b).orders = after_orders (book_of b) c ∙ orders_same (book_of b).orders c z in
       let is : f ≡ d = if_true _ _ _ (eq-eqb c.place 0 z) in
-      calm k (ap (λ (l : List Order). first_in no_order (is_clients k) l) os) (ap (λ (l : List Order). total_of (λ (o : Order). if eqb o.client k then leaves_qty o else 0) l) os)
+      calm k (ap (λ (l : List Order). first_in no_order (is_clients k) l) os) (ap (λ (l : List Order). total_of (λ (o : Order). if eqb o.client k then leaves_qty o otherwise 0) l) os)
       (λ j e. ap (λ (y : List ℕ). open_at y j) is ∙ table_word j (found_few k j e))
 
   -- ---- an order is placed

@@ -9,7 +9,7 @@ use lib.Dec.{eqb, leb, ltb}
 use lib.ListN.{length, get_or, set, length-append, length-set}
 use lib.Seq.{get_or_at, get_or-set_same}
 use borrow.Author.Tests.{eqb-false, leb-true, ltb-true, not-true}
-use Rattle.prelude.specs.Cases.{if◌then◌else◌, split_if, split_maybe, if_true, if_false, clash, both_true, either_true}
+use Rattle.prelude.specs.Cases.{if◌then◌otherwise◌, split_if, split_maybe, if_true, if_false, clash, both_true, either_true}
 use Rattle.prelude.specs.Number.{Bytes}
 use Rattle.store.specs.declared.Order.{Order}
 use Rattle.store.specs.declared.Request.{Request}
@@ -23,7 +23,7 @@ use Rattle.machine.specs.declared.Requests.{Requests}
 use Rattle.machine.specs.declared.Change.{Change}
 use Rattle.machine.specs.Changes.{Event}
 use Rattle.machine.specs.Machine.{has_room, answer_link, orders_after, requests_after, after}
-use Rattle.machine.specs.Rules.{gateway_range, rules}
+use Rattle.machine.specs.Rules.{gateway_range}
 use Rattle.machine.specs.Whole.{WholeBook}
 use Rattle.machine.proofs.Kept.Lift.{BookKept, book_kept}
 use Rattle.machine.proofs.Kept.Tables.{length_answer}
@@ -68,7 +68,7 @@ whole_held b h bytes =
 
 module _ (b : Book) (c : Change) (w : WholeBook (after b c)) where
   pub order_written : eqb c.place 0 ≡ false → WholeOrder c.order
-  unfolding after orders_after if◌then◌else◌
+  unfolding after orders_after if◌then◌otherwise◌
   order_written e = go (leb c.place (length b.orders)) refl
     where
       go : (t : Bool) → leb c.place (length b.orders) ≡ t → WholeOrder c.order
@@ -148,7 +148,7 @@ with_requests qs x = record { setting = x.setting; orders = x.orders; requests =
 
 pub place_book : (b : List ℕ) (c : Change) → length b ≡ book_size → leb c.place (length (book_of b).orders) || ltb (length (book_of b).orders) 64 ≡ true
     → (eqb c.place 0 ≡ false → WholeOrder c.order) → book_of (place_order b c.place c.order) ≡ with_orders (orders_after (book_of b).orders c) (book_of b)
-unfolding place_order orders_after if◌then◌else◌
+unfolding place_order orders_after if◌then◌otherwise◌
 place_book b c l room w = go (eqb c.place 0) (leb c.place (order_count b)) refl refl
   where
     go : (s t : Bool) → eqb c.place 0 ≡ s → leb c.place (order_count b) ≡ t
@@ -162,7 +162,7 @@ place_book b c l room w = go (eqb c.place 0) (leb c.place (order_count b)) refl 
 
 module _ (v : ℕ) where
   pub mark_link_book : (b : List ℕ) (k : ℕ) → book_of (mark_link b k v) ≡ with_requests (answer_link k (book_of b).requests) (book_of b)
-  unfolding mark_link answer_link if◌then◌else◌
+  unfolding mark_link answer_link if◌then◌otherwise◌
   mark_link_book b k = go (eqb k 0) refl
     where
       go : (t : Bool) → eqb k 0 ≡ t → book_of (mark_link b k v) ≡ with_requests (answer_link k (book_of b).requests) (book_of b)
@@ -183,7 +183,7 @@ module _ (v : ℕ) where
 
   requests_book : v ≤ 3 → (b : List ℕ) (origin : ℕ) (c : Change) → length b ≡ book_size → eqb c.requests.added 0 || ltb (length (book_of b).requests) 256 ≡ true
       → (eqb c.requests.added 0 ≡ false → WholeRequest c.requests.request) → book_of (place_requests b v origin c.requests) ≡ with_requests (requests_after (book_of b).requests c) (book_of b)
-  unfolding place_requests requests_after if◌then◌else◌
+  unfolding place_requests requests_after if◌then◌otherwise◌
   requests_book small b origin c l room w = go (eqb c.requests.added 0) refl
     where
       go : (t : Bool) → eqb c.requests.added 0 ≡ t → book_of (place_requests b v origin c.requests) ≡ with_requests (requests_after (book_of b).requests c) (book_of b)

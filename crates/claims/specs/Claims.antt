@@ -1,7 +1,7 @@
 -- Demands 1 and 3 on bytes: what holds of `start`, `check` and `event` for every input, and of every list of calls. Rests on Entries, Questions and machine's
 -- Claim. The proofs are in proofs/.
 use Rattle.std.specs.Prelude.{ℕ, ◌+◌, ◌^◌, ◌≤◌, ◌<◌, ◌≡◌, ◌⊎◌, true, false, not, List, [], eqb, ltb, length}
-use Rattle.prelude.specs.Cases.{if◌then◌else◌}
+use Rattle.prelude.specs.Cases.{if◌then◌otherwise◌}
 use Rattle.prelude.specs.Number.{Bytes}
 use Rattle.prelude.specs.Texts.{same_text}
 use Rattle.records.specs.Record.{event_in}
@@ -47,8 +47,8 @@ pub record Numbers (b r a : List ℕ) (n : ℕ) : Type 0 where
 
 -- what an event taken adds to the tables: an order exactly at a booking, a request exactly where `adds` says so
 pub record Grown (b : Book) (e : Event) (left : Book) : Type 0 where
-  pub orders : length left.orders ≡ length b.orders + (if is_booking e then 1 else 0)
-  pub requests : length left.requests ≡ length b.requests + (if adds b e then 1 else 0)
+  pub orders : length left.orders ≡ length b.orders + (if is_booking e then 1 otherwise 0)
+  pub requests : length left.requests ≡ length b.requests + (if adds b e then 1 otherwise 0)
 
 pub record Demand1 : Type 0 where
   -- start leaves a book that keeps its rules
@@ -95,14 +95,14 @@ pub record Call : Type 0 where
 unfoldable pub read_call : Call → Decoded
 read_call c =
     if ltb (length c.answer) 1024 then unread 2
-    else if not (eqb (event_refusal c.event) 0) then unread (event_refusal c.event)
-    else read_as (event_in c.event)
+    otherwise if not (eqb (event_refusal c.event) 0) then unread (event_refusal c.event)
+    otherwise read_as (event_in c.event)
 
 -- the messages that our reader reads from the answer buffer; that of a refused call is not read
 unfoldable pub heard_of : List ℕ → Call → List Message
 heard_of b c =
     let o = event_of b c.event c.answer in
-    if eqb o.returned 0 then answer_messages o.answer else []
+    if eqb o.returned 0 then answer_messages o.answer otherwise []
 
 -- the entries as they are called: the book's bytes go from call to call
 abbrev pub entries : Form Call (List ℕ)

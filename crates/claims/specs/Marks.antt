@@ -1,7 +1,7 @@
 -- MARKS OVER LISTS (change request 10), on bytes: what holds after any events, marks set and returns, since the last return; and that a mark comes back as it
 -- was set. Rests on Claims, Net and marks. The proofs are in proofs/Marks.
 use Rattle.std.specs.Prelude.{ℕ, ◌^◌, ◌<◌, ◌≡◌, Bool, false, List, [], ◌∷◌, ◌++◌, eqb}
-use Rattle.prelude.specs.Cases.{if◌then◌else◌}
+use Rattle.prelude.specs.Cases.{if◌then◌otherwise◌}
 use Rattle.prelude.specs.Number.{Bytes}
 use Rattle.store.specs.Book.{book_of}
 use Rattle.machine.specs.Calls.{line_at, SinceReturn, state_of, just_returned}
@@ -42,7 +42,7 @@ lines b (return_to name places _) = []
 abbrev pub after_call : SinceReturn entries → BookCall → SinceReturn entries
 after_call s c =
     if returns s.held c then just_returned entries (book_after s.held c)
-    else record { image = s.image; held = book_after s.held c; past = lines s.held c ++ s.past }
+    otherwise record { image = s.image; held = book_after s.held c; past = lines s.held c ++ s.past }
 
 abbrev pub after_calls : SinceReturn entries → List BookCall → SinceReturn entries
 after_calls s [] = s

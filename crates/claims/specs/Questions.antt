@@ -1,7 +1,7 @@
 -- docs/SCOPE.md, Questions: each as a test, and the number of the first no. What stands in quotes is the desk's wording. Rests on opens (question 1), records (3 and 4) and
 -- machine (the words of 5 to 7). `event` does not decide by this file: that it returns `first_no` is proved.
 use Rattle.std.specs.Prelude.{ℕ, Bool, not, ◌&&◌, ◌||◌, List, eqb, leb, ltb, length}
-use Rattle.prelude.specs.Cases.{if◌then◌else◌}
+use Rattle.prelude.specs.Cases.{if◌then◌otherwise◌}
 use Rattle.records.specs.Record.{event_in}
 use Rattle.store.specs.declared.Order.{Order}
 use Rattle.store.specs.Layout.{most_orders, most_requests}
@@ -52,10 +52,10 @@ full b e = (is_booking e && leb most_orders (length b.orders)) || (adds b e && l
 unfoldable pub first_no : (book event answer : List ℕ) → ℕ
 first_no b r a =
     if not (keeps_of b) then 1
-    else if ltb (length a) 1024 then 2
-    else if eqb (event_refusal r) 3 then 3
-    else if eqb (event_refusal r) 4 then 4
-    else if used (book_of b) (event_in r) then 5
-    else if mispriced (book_of b) (event_in r) then 6
-    else if full (book_of b) (event_in r) then 7
-    else 0
+    otherwise if ltb (length a) 1024 then 2
+    otherwise if eqb (event_refusal r) 3 then 3
+    otherwise if eqb (event_refusal r) 4 then 4
+    otherwise if used (book_of b) (event_in r) then 5
+    otherwise if mispriced (book_of b) (event_in r) then 6
+    otherwise if full (book_of b) (event_in r) then 7
+    otherwise 0

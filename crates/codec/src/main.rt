@@ -1,13 +1,17 @@
 // Reads items from standard input and holds the codec to their stored answers. An item is a tag, 1
 // event or 2 answer, a length of two bytes, that many bytes, and the refusal that they get. An
 // answer that is accepted is written again and compared. Rests on records and words.
+#![tactic(auto)]
+
 ghost use Rattle.std.specs.Prelude.{◌≤◌, length};
 
 use records::AnswerRead;
+use std::io;
+use std::io::Read;
 use std::num::wrapping_add_u32;
 
 // What was counted.
-#[derive(Drop)]
+#[derive(Clone, Copy)]
 struct Tally {
     events: u32,
     answers: u32,
@@ -15,7 +19,7 @@ struct Tally {
 }
 
 // The tally after one item, and whether there was one.
-#[derive(Drop)]
+#[derive(Clone, Copy)]
 struct Step {
     more: bool,
     tally: Tally,
@@ -89,36 +93,42 @@ fn right_item(tag: u8, s: &[u8], expected: u8) -> bool {
 }
 
 // The bytes and the refusal of an item.
-fn rest(t: Tally, tag: u8, size: usize, space: &mut [u8]) -> Step
+fn rest<R: Read>(
+    input: &mut R,
+    t: Tally,
+    tag: u8,
+    size: usize,
+    space: &mut [u8],
+) -> io::Result<Step>
     requires { size ≤ length space.old }
 {
-    let got = io::read_full(0, &mut space[..size]);
+    let got = input::read_full(input, &mut space[..size])?;
     let mut last = [0u8; 1];
-    let end = io::read_full(0, &mut last);
+    let _ = input::read_full(input, &mut last)?;
     let right = right_item(tag, &space[..size], last[0]);
     let tally = counted(t, tag, right);
-    Step {
+    Ok(Step {
         more: got == size,
         tally,
-    }
+    })
 }
 
 // The next item.
-fn item(t: Tally) -> Step {
+fn item<R: Read>(input: &mut R, t: Tally) -> io::Result<Step> {
     let mut head = [0u8; 3];
-    let n = io::read_full(0, &mut head);
+    let n = input::read_full(input, &mut head)?;
     if n < 3 {
-        return Step {
+        return Ok(Step {
             more: false,
             tally: t,
-        };
+        });
     }
     let size = words::number(head[1], head[2]);
-    let mut space = io::large_buffer();
-    rest(t, head[0], size, &mut space)
+    let mut space = [0u8; 65536];
+    rest(input, t, head[0], size, &mut space)
 }
 
-fn all() -> Tally {
+fn all<R: Read>(input: &mut R) -> io::Result<Tally> {
     let mut t = Tally {
         events: 0,
         answers: 0,
@@ -126,23 +136,20 @@ fn all() -> Tally {
     };
     let mut turns: usize = 0;
     while turns < 1000000 {
-        let s = item(t);
+        let s = item(input, t)?;
         t = s.tally;
         if !s.more {
             break;
         }
         turns += 1;
     }
-    t
+    Ok(t)
 }
 
-fn main() {
-    let t = all();
-    io::write_all(1, b"events ");
-    io::print_decimal(1, t.events as u64);
-    io::write_all(1, b" answers ");
-    io::print_decimal(1, t.answers as u64);
-    io::write_all(1, b" wrong ");
-    io::print_decimal(1, t.wrong as u64);
-    io::write_all(1, b"\n");
+fn main(rt: HostRuntime) -> io::Result<()> {
+    let t = all(&mut rt.reader())?;
+    let events = t.events;
+    let answers = t.answers;
+    let wrong = t.wrong;
+    println!(rt; "events {events} answers {answers} wrong {wrong}")
 }

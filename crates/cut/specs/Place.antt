@@ -1,6 +1,6 @@
 -- Where message n of an answer stands: behind the head the first, each other behind the one before it. Rests on records' Answer.
 use Rattle.std.specs.Prelude.{ℕ, zero, suc, ◌-◌, List, eqb, ltb}
-use Rattle.prelude.specs.Cases.{if◌then◌else◌}
+use Rattle.prelude.specs.Cases.{if◌then◌otherwise◌}
 use Rattle.format.specs.Places.{end_of}
 use Rattle.records.specs.Answer.{head_size, count_in, answer_in, answer_refusal}
 use Rattle.cut.specs.declared.Place.{Place}
@@ -20,5 +20,5 @@ stands from to = record { refusal = 0; at = from; length = to - from }
 unfoldable pub place_of : List ℕ → ℕ → Place
 place_of s n =
     if eqb (answer_refusal s) 0 then
-    (if ltb n (count_in s) then stands (start_from (answer_in s) head_size n) (start_from (answer_in s) head_size (suc n)) else nowhere 0) else
+    (if ltb n (count_in s) then stands (start_from (answer_in s) head_size n) (start_from (answer_in s) head_size (suc n)) otherwise nowhere 0) otherwise
     nowhere (answer_refusal s)

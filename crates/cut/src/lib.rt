@@ -1,5 +1,7 @@
 // Where message n of an answer stands, so that a host can cut it out: an answer's messages have no
 // lengths of their own. Rests on records, which says what an answer is, and on places.
+#![tactic(auto)]
+
 ghost use Rattle.std.specs.Prelude.{◌≡◌, ◌+◌, ◌<◌, ◌≤◌, length};
 ghost use Rattle.format.specs.Places.{end_of};
 ghost use Rattle.cut.specs.Place.{place_of, nowhere, stands};
@@ -7,7 +9,7 @@ ghost use Rattle.cut.specs.Place.{place_of, nowhere, stands};
 // The refusal, or 0 and where the message starts in the answer, with its length. Zeros with a
 // refusal; length 0 where the answer has no such message.
 #[repr(C)]
-#[derive(Drop)]
+#[derive(Clone, Copy)]
 pub struct Place {
     pub refusal: u32,
     pub at: u32,

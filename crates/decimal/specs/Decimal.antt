@@ -1,7 +1,7 @@
 -- Numbers in decimal: a count of 10^-places as it is written, alone or right-aligned in columns, and the number that bytes are read as.
 -- Rests on prelude's words.
 use Rattle.std.specs.Prelude.{ℕ, zero, suc, ◌+◌, ◌-◌, ◌*◌, ◌/◌, ◌%◌, List, [], ◌∷◌, ◌++◌, Bool, ◌&&◌, leb, ltb, length, replicate}
-use Rattle.prelude.specs.Cases.{if◌then◌else◌}
+use Rattle.prelude.specs.Cases.{if◌then◌otherwise◌}
 use Rattle.prelude.specs.Span.{splice}
 
 abbrev pub blank : ℕ
@@ -19,7 +19,7 @@ lowest n = 48 + n % 10
 -- the digits of n without leading zeros, the highest first; f is n or larger
 unfoldable pub digits_by : ℕ → ℕ → List ℕ
 digits_by zero n = lowest n ∷ []
-digits_by (suc f) n = if ltb n 10 then lowest n ∷ [] else digits_by f (n / 10) ++ (lowest n ∷ [])
+digits_by (suc f) n = if ltb n 10 then lowest n ∷ [] otherwise digits_by f (n / 10) ++ (lowest n ∷ [])
 
 unfoldable pub digits : ℕ → List ℕ
 digits n = digits_by n n
@@ -51,7 +51,7 @@ is_digit c = leb 48 c && leb c 57
 -- the digits among the bytes, behind the number a
 abbrev pub read_from : ℕ → List ℕ → ℕ
 read_from a [] = a
-read_from a (c ∷ s) = read_from (if is_digit c then a * 10 + (c - 48) else a) s
+read_from a (c ∷ s) = read_from (if is_digit c then a * 10 + (c - 48) otherwise a) s
 
 -- THE NUMBER that the digits among the bytes are: blanks and points do not count
 abbrev pub number_in : List ℕ → ℕ
@@ -61,4 +61,4 @@ number_in s = read_from 0 s
 
 -- the bytes at an index, where they have room; else nothing changes
 unfoldable pub written : List ℕ → ℕ → List ℕ → List ℕ
-written s at w = if leb (at + length w) (length s) then splice s at w else s
+written s at w = if leb (at + length w) (length s) then splice s at w otherwise s

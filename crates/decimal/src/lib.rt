@@ -2,6 +2,8 @@
 // columns. What is written, and that it is read back as the count, stands in specs/. The public
 // functions are total: where the text has no room, nothing is written. Rests on prelude's words; the
 // module `two_words` has the same for numbers of two words.
+#![tactic(auto)]
+
 ghost use Rattle.std.specs.Prelude.{◌≡◌, ◌+◌, ◌-◌, ◌≤◌, length, replicate};
 ghost use Rattle.prelude.specs.Span.{splice};
 ghost use Rattle.decimal.specs.Decimal.{blank, digits, low_digits, down, decimal, right, written};

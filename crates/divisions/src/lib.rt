@@ -1,11 +1,13 @@
 // The divisions of `wide`, and the price of a fill that an event takes, as C functions, for the test
 // and the bench of tests/divisions alone: they are no part of the gateway's library. Rests on wide.
+#![tactic(auto)]
+
 ghost use Rattle.std.specs.Prelude.{◌≡◌, ◌+◌, ◌*◌, ◌^◌};
 ghost use Rattle.wide.specs.Wide.{words, nearest, fill_price};
 
 // Two words, the low one first.
 #[repr(C)]
-#[derive(Drop)]
+#[derive(Clone, Copy)]
 pub struct Words {
     pub words: [u64; 2],
 }
@@ -40,7 +42,7 @@ pub extern "C" fn divide_either(low: u64, high: u64, d: u64) -> Words
 
 // A price in two words, the low one first, and its source.
 #[repr(C)]
-#[derive(Drop)]
+#[derive(Clone, Copy)]
 pub struct Price {
     pub words: [u64; 2],
     pub source: u64,

@@ -1,9 +1,14 @@
 // An evening: records from standard input, each after its length in two bytes, go to one book in
 // their order, as `day` takes them; then the book's page goes to standard output, and its net position
 // below it. A record that the end of the input cuts is left out. Rests on gateway, words and decimal.
+#![tactic(auto)]
+
 ghost use Rattle.std.specs.Prelude.{◌≤◌, ◌<◌, length};
 
-mod net; // the net position's lines
+use std::io;
+use std::io::{Read, Write};
+
+mod position; // the net position's lines
 
 // The most ClOrdIDs that a client may use.
 const SETTING: u32 = 10000;
@@ -14,41 +19,42 @@ const PAGE: usize = 5184;
 // One event; what it answers goes nowhere.
 fn take(book: &mut [u8], record: &[u8]) {
     let mut answer = [0u8; 1024];
-    let refusal = gateway::event(book, record, &mut answer);
+    let _ = gateway::event(book, record, &mut answer);
 }
 
 // Reads a record of `size` bytes and takes it. False where the input ends.
-fn read(book: &mut [u8], size: usize, space: &mut [u8]) -> bool
+fn read<R: Read>(input: &mut R, book: &mut [u8], size: usize, space: &mut [u8]) -> io::Result<bool>
     requires { size ≤ length space.old }
 {
-    let got = io::read_full(0, &mut space[..size]);
+    let got = input::read_full(input, &mut space[..size])?;
     if got < size {
-        return false;
+        return Ok(false);
     }
     take(book, &space[..size]);
-    true
+    Ok(true)
 }
 
 // The next record. False where the input ends.
-fn next(book: &mut [u8]) -> bool {
+fn next<R: Read>(input: &mut R, book: &mut [u8]) -> io::Result<bool> {
     let mut head = [0u8; 2];
-    let got = io::read_full(0, &mut head);
+    let got = input::read_full(input, &mut head)?;
     if got < 2 {
-        return false;
+        return Ok(false);
     }
     let size = words::number(head[0], head[1]);
-    let mut space = io::large_buffer();
-    read(book, size, &mut space)
+    let mut space = [0u8; 65536];
+    read(input, book, size, &mut space)
 }
 
 // The page of a book that was just run.
-fn print(book: &[u8]) {
+fn print<W: Write>(output: &mut W, book: &[u8]) -> io::Result<()> {
     let mut out = [0u8; PAGE];
     let counted = gateway::page(book, &mut out);
     let long = counted.number as usize;
     if long <= PAGE {
-        io::write_all(1, &out[..long]);
+        output.write_all(&out[..long])?;
     }
+    Ok(())
 }
 
 // How many events may come yet: none where the input has ended.
@@ -62,14 +68,16 @@ fn rest(left: u64, more: bool) -> u64
     0
 }
 
-fn main() {
-    let mut book = io::large_buffer();
-    let refusal = gateway::start(&mut book, SETTING);
+fn main(rt: HostRuntime) -> io::Result<()> {
+    let mut input = rt.reader();
+    let mut book = [0u8; 65536];
+    let _ = gateway::start(&mut book, SETTING);
     let mut left: u64 = 18446744073709551615;
     while 0 < left {
-        let more = next(&mut book);
+        let more = next(&mut input, &mut book)?;
         left = rest(left, more);
     }
-    print(&book);
-    net::print(&book);
+    let mut output = io::writer(&rt);
+    print(&mut output, &book)?;
+    position::print(&mut output, &book)
 }

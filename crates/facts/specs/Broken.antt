@@ -3,7 +3,7 @@
 -- The bounds of 64 orders and 256 requests are the last two; `ruled_of` (rules) asks them of the header's counts too.
 use Rattle.std.specs.Prelude.{ℕ, ◌+◌, ◌^◌, ◌≡◌, refl, Bool, true, false, List, [], ◌∷◌, ◌++◌, leb, ltb, length}
 use Rattle.prelude.specs.Below.{all_below}
-use Rattle.prelude.specs.Cases.{if◌then◌else◌}
+use Rattle.prelude.specs.Cases.{if◌then◌otherwise◌}
 use Rattle.prelude.specs.Texts.{text_of}
 use Rattle.prelude.specs.declared.Text.{Text}
 use Rattle.prelude.specs.declared.Terms.{Terms}
@@ -37,7 +37,7 @@ data Rule : Type 0 where
   namesDiffer clordidsDiffer : Rule
 
 abbrev unless : Bool → Rule → List Rule
-unless t r = if t then [] else r ∷ []
+unless t r = if t then [] otherwise r ∷ []
 
 abbrev breaks : Book → List Rule
 breaks b =

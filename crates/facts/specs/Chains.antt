@@ -4,10 +4,9 @@ use Rattle.std.specs.Prelude.{ℕ, ◌≡◌, refl, List, [], ◌∷◌, ◌++�
 use Rattle.std.proofs.Math.Option.{none}
 use Rattle.prelude.specs.Pieces.{joined}
 use Rattle.text.specs.Words.{no_text}
-use Rattle.store.specs.Book.{Book}
 use Rattle.store.specs.Finds.{find_clordid}
 use Rattle.chain.specs.Chain.{chain_from, called_by, chain_of, entry_fields}
-use Rattle.facts.specs.Play.{number, spelled, bytes, shares, money, X, X_, C, D, E, W, books, cancels, replaces, acknowledges, turns, rejects, gateway_cancels, called, empty, playing}
+use Rattle.facts.specs.Play.{number, spelled, bytes, shares, money, X_, C, D, E, W, books, acknowledges, turns, rejects, gateway_cancels, called, empty, playing}
 
 abbrev F : List ℕ
 F = 70 ∷ []

@@ -1,7 +1,7 @@
 -- docs/SCOPE.md, Days in small, as one table of facts: all lines but the last, which a program runs. Beside it, what is stated in passing. Rests on Play.
 -- Each row is an event beside the messages that it puts out, whole, the alarm, and the whole book as it is left: order X and its requests.
 use Rattle.std.specs.Prelude.{ℕ, ◌+◌, ◌^◌, ◌-◌, ◌≡◌, refl, true, false, List, [], ◌∷◌, ◌++◌}
-use Rattle.prelude.specs.Cases.{if◌then◌else◌}
+use Rattle.prelude.specs.Cases.{if◌then◌otherwise◌}
 use Rattle.records.specs.Record.{event_in}
 use Rattle.store.specs.Book.{Book}
 use Rattle.store.specs.declared.Order.{Order}
@@ -100,7 +100,7 @@ days = record {
 
 -- after report sequence 2^64 - 1 comes 0
 sequence : next_sequence (2 ^ 64 - 1) ≡ 0
-unfolding next_sequence if◌then◌else◌
+unfolding next_sequence if◌then◌otherwise◌
 sequence = refl
 
 -- a price only where the type is limit: with it, and without, for types 2 and 1

@@ -2,7 +2,7 @@
 -- Near readings that are wrong are ruled out: a 3 that is done, or leaves what is ordered less what is filled; one that is New, or PartiallyFilled, and repeats such an
 -- order; one that a fill takes away, or that turns PartiallyFilled by it; one that accepts no replace, or refuses no request; leaves 0 as a bound of what may be filled.
 use Rattle.std.specs.Prelude.{ℕ, ◌≡◌, refl, true, false, List, [], ◌∷◌}
-use Rattle.prelude.specs.Cases.{if◌then◌else◌}
+use Rattle.prelude.specs.Cases.{if◌then◌otherwise◌}
 use Rattle.store.specs.Book.{Book}
 use Rattle.store.specs.Orders.{no_pending}
 use Rattle.machine.specs.Orders.{as_asked}
@@ -19,7 +19,7 @@ record Asked : Type 0 where
   pending_cancel : as_asked 1 54 ≡ 54
 
 asked : Asked
-unfolding as_asked if◌then◌else◌
+unfolding as_asked if◌then◌otherwise◌
 asked = record { at_zero = refl; above = refl; pending_cancel = refl }
 
 -- ---- the events

@@ -1,7 +1,6 @@
 -- Open quantity by smallest lists of events: what is left of the ordered, by accepted terms, of the client's own orders; and that a refusal's status moves it without a
 -- report. Rests on Play and machine's `open_of`.
 use Rattle.std.specs.Prelude.{ℕ, ◌≡◌, refl, List, [], ◌∷◌}
-use Rattle.store.specs.Book.{Book}
 use Rattle.machine.specs.Changes.{Message}
 use Rattle.machine.specs.History.{messages_of}
 use Rattle.machine.specs.Exchange.{open_of}

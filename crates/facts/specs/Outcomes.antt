@@ -2,7 +2,6 @@
 -- as a failed send, an outcome that is set again, a cancel that is accepted by another's report, a settling without a status.
 use Rattle.std.specs.Prelude.{ℕ, ◌≡◌, refl, true, false, List, [], ◌∷◌, length}
 use Rattle.prelude.specs.Lists.{list_below}
-use Rattle.prelude.specs.Cases.{if◌then◌else◌}
 use Rattle.prelude.specs.Texts.{text_of}
 use Rattle.records.specs.Record.{event_in}
 use Rattle.text.specs.Words.{no_text}

@@ -3,7 +3,7 @@
 -- Order X of client 7 at venue 3, a limit to buy 100 of W at 10; the client's ClOrdIDs are C, then D, E and F.
 use Rattle.std.specs.Prelude.{ℕ, zero, suc, ◌+◌, ◌*◌, ◌^◌, Bool, false, List, [], ◌∷◌, ◌++◌, eqb, length}
 use Rattle.prelude.specs.Below.{all_below, first_below, count_below}
-use Rattle.prelude.specs.Cases.{if◌then◌else◌, maybe}
+use Rattle.prelude.specs.Cases.{if◌then◌otherwise◌, maybe}
 use Rattle.prelude.specs.Lists.{list_below}
 use Rattle.prelude.specs.Number.{bytes_of}
 use Rattle.prelude.specs.Span.{span}
@@ -11,7 +11,7 @@ use Rattle.prelude.specs.Texts.{text_of, contents, same_text, is_text}
 use Rattle.prelude.specs.declared.Terms.{Terms}
 use Rattle.prelude.specs.declared.Text.{Text}
 use Rattle.wide.specs.Wide.{fill_price, implied, by_last_px, nearest, up, at_half}
-use Rattle.format.specs.Codes.{sides, ordtypes, timesinforce, statuses, exectypes, is_side, is_ordtype, is_timeinforce, is_status, is_exectype, is_alnum, is_none, is_name, is_qty, is_price}
+use Rattle.format.specs.Codes.{sides, ordtypes, timesinforce, statuses, exectypes, is_side, is_ordtype, is_timeinforce, is_status, is_exectype, is_alnum, is_none, is_name}
 use Rattle.format.specs.Format.{in_range, fields, size, range, is_kind, required_bits, allowed_bits, required, allowed, joined, bits_right}
 use Rattle.format.specs.Places.{extent, next, start, strip, part, content, value, end_of, shaped, right_at}
 use Rattle.records.specs.Fields.{long_of, blank}
@@ -39,7 +39,6 @@ use Rattle.machine.specs.Machine.{order_of, latest_cancel, order_at_link, findin
 use Rattle.machine.specs.Ranges.{text_within, name_range}
 use Rattle.machine.specs.Rules.{rules, names_range, force_range, priced_range, terms_range, pending_range, gateway_range, order_range, request_range, linked, current_rule, cancel_rule, pending_rule, filled_rule, status_rule, done_rule, tries_rule, amendments_rule, order_rule, number_in, name_number, number_rule, in_flight_rule, request_rule, same_key}
 use Rattle.machine.specs.History.{Decoded, unread, read_as, comes_to, messages_of, left_by}
-use Rattle.records.specs.Answer.{chosen}
 use Rattle.machine.specs.declared.Change.{Change}
 
 -- ---- a record's bytes: its kind, the map of its bits, and its fields in the order of their bits
@@ -170,10 +169,10 @@ gateway_cancels = bytes 9 (spelled 2 X ∷ [])
 -- ---- a call: what the record reads as, and what comes of it. To unfold `called` is to open the reader, the rules and the machine.
 
 abbrev pub decoded : List ℕ → Decoded
-decoded s = if eqb (event_refusal s) 0 then read_as (event_in s) else unread (event_refusal s)
+decoded s = if eqb (event_refusal s) 0 then read_as (event_in s) otherwise unread (event_refusal s)
 
 unfoldable pub called : Book → List ℕ → Change
-unfolding event_in event_refusal record_at name_in ranged long_of blank extent next start strip part content value end_of shaped right_at in_range fields size range is_kind required_bits allowed_bits required allowed joined bits_right sides ordtypes timesinforce statuses exectypes is_side is_ordtype is_timeinforce is_status is_exectype is_alnum is_none is_name all_below first_below count_below if◌then◌else◌ maybe span list_below text_of contents same_text is_text numbered_text decimal digits_of fill_price implied by_last_px nearest up at_half one_more has_pending has_gateway limit_price is_done leaves_of leaves_qty as_asked status_at is_short unless_short short_alarm set_status kept_order_id record_venue_order_id pending_terms apply_replace next_sequence next_exec bit_if terms_bits note_bits report cancel_reject to_venue new_order cancel_request replace_request is_first is_replace is_gateway is_cancel is_answered unchanged refusing answering superseding adding telling alarming next_link next_number next_downstream next_request numbered_order outstanding_cancel gateway_cancel_in_flight begun try_sent given_up send_gateway_cancel cancel_order gateway_cancel_waiting resume_gateway_cancel stuck retry_gateway_cancel says_gone gateway_cancel_refused matches amend_refusal refuse redelivered_report already_taken cancel_refusal cancel_goes cancel or_own price_of verdict_text check_replace replace_refusal new_terms priced_right new_pending replace_goes replace not_pending refused_order refused_alarm refused_note refuse_request venue_note venue_cancel_reject send_refused first_failed send_failed resendable unsent says_unknown_at_venue unknown_at_venue is_rejection pending_here behind stale repeats dropped_stale dropped_repeat status_taken accepts answers_request ordered_qty reported_order fill_price_of report_note client_report settles apply_report venue_report find_name find_downstream find_clordid of_client count_clordids order_of latest_cancel order_at_link findings_of booked_order first_request unused book_order amending on_request on_report on_name change_of has_room step_of answer_link orders_after requests_after after text_within name_range rules names_range force_range priced_range terms_range pending_range gateway_range order_range request_range linked current_rule cancel_rule pending_rule filled_rule status_rule done_rule tries_rule amendments_rule order_rule number_in name_number number_rule in_flight_rule request_rule same_key comes_to messages_of left_by
+unfolding event_in event_refusal record_at name_in ranged long_of blank extent next start strip part content value end_of shaped right_at in_range fields size range is_kind required_bits allowed_bits required allowed joined bits_right sides ordtypes timesinforce statuses exectypes is_side is_ordtype is_timeinforce is_status is_exectype is_alnum is_none is_name all_below first_below count_below if◌then◌otherwise◌ maybe span list_below text_of contents same_text is_text numbered_text decimal digits_of fill_price implied by_last_px nearest up at_half one_more has_pending has_gateway limit_price is_done leaves_of leaves_qty as_asked status_at is_short unless_short short_alarm set_status kept_order_id record_venue_order_id pending_terms apply_replace next_sequence next_exec bit_if terms_bits note_bits report cancel_reject to_venue new_order cancel_request replace_request is_first is_replace is_gateway is_cancel is_answered unchanged refusing answering superseding adding telling alarming next_link next_number next_downstream next_request numbered_order outstanding_cancel gateway_cancel_in_flight begun try_sent given_up send_gateway_cancel cancel_order gateway_cancel_waiting resume_gateway_cancel stuck retry_gateway_cancel says_gone gateway_cancel_refused matches amend_refusal refuse redelivered_report already_taken cancel_refusal cancel_goes cancel or_own price_of verdict_text check_replace replace_refusal new_terms priced_right new_pending replace_goes replace not_pending refused_order refused_alarm refused_note refuse_request venue_note venue_cancel_reject send_refused first_failed send_failed resendable unsent says_unknown_at_venue unknown_at_venue is_rejection pending_here behind stale repeats dropped_stale dropped_repeat status_taken accepts answers_request ordered_qty reported_order fill_price_of report_note client_report settles apply_report venue_report find_name find_downstream find_clordid of_client count_clordids order_of latest_cancel order_at_link findings_of booked_order first_request unused book_order amending on_request on_report on_name change_of has_room step_of answer_link orders_after requests_after after text_within name_range rules names_range force_range priced_range terms_range pending_range gateway_range order_range request_range linked current_rule cancel_rule pending_rule filled_rule status_rule done_rule tries_rule amendments_rule order_rule number_in name_number number_rule in_flight_rule request_rule same_key comes_to messages_of left_by
 called b s = comes_to b (decoded s)
 
 abbrev pub empty : (setting : ℕ) → Book

@@ -12,7 +12,7 @@ use Rattle.machine.specs.Changes.{Message}
 use Rattle.machine.specs.Machine.{step_of}
 use Rattle.machine.specs.Rules.{rules}
 use Rattle.machine.specs.History.{messages_of, left_by}
-use Rattle.facts.specs.Play.{number, spelled, bytes, shares, money, X, X_, D, E, books, cancels, replaces, report_of, fills, turns, reject_of, rejects, gateway_cancels, called, empty, playing, standing, first, many_requests, send_fails, sends_again, Line, line_of, reported, order_x, state, links, request, C}
+use Rattle.facts.specs.Play.{number, spelled, bytes, shares, money, X, X_, D, E, books, cancels, replaces, report_of, fills, turns, reject_of, rejects, gateway_cancels, called, empty, playing, standing, first, many_requests, send_fails, sends_again, line_of, reported, order_x, state, links, request, C}
 use Rattle.machine.specs.declared.Change.{Change}
 use Rattle.store.specs.Orders.{no_pending, no_gateway}
 

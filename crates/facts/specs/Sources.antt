@@ -2,7 +2,7 @@
 -- venue report. Rests on Play.
 use Rattle.std.specs.Prelude.{ℕ, ◌+◌, ◌-◌, ◌*◌, ◌^◌, ◌≡◌, refl, true, false, List, [], ◌∷◌, eqb}
 use Rattle.prelude.specs.Below.{all_below}
-use Rattle.prelude.specs.Cases.{if◌then◌else◌}
+use Rattle.prelude.specs.Cases.{if◌then◌otherwise◌}
 use Rattle.bits.specs.Map.{digit}
 use Rattle.format.specs.Format.{fields, range, in_range, is_kind, required_bits, allowed_bits, required, allowed, joined, bits_right}
 use Rattle.machine.specs.Changes.{Message}
@@ -75,10 +75,10 @@ record Bit : Type 0 where
   reject_with : bits_right 17 (required 17 + 2 ^ 20 + 2 ^ 31) ≡ false
   event_with : bits_right 4 (required 4 + 2 ^ 31) ≡ false
   -- of all kinds, just a report's map may have it
-  reports_alone : all_below (λ k. eqb (digit (required k + allowed k) 31) (if eqb k 16 then 1 else 0)) 32 ≡ true
+  reports_alone : all_below (λ k. eqb (digit (required k + allowed k) 31) (if eqb k 16 then 1 otherwise 0)) 32 ≡ true
   most : in_range (range 31) 3 ≡ true
   above : in_range (range 31) 4 ≡ false
 
 bit : Bit
-unfolding all_below bits_right is_kind required allowed required_bits allowed_bits joined range fields in_range if◌then◌else◌
+unfolding all_below bits_right is_kind required allowed required_bits allowed_bits joined range fields in_range if◌then◌otherwise◌
 bit = record { in_report = refl; report_without = refl; reject = refl; reject_with = refl; event_with = refl; reports_alone = refl; most = refl; above = refl }

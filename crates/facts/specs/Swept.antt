@@ -1,6 +1,6 @@
 -- A day of an order with a value of its own in each field, whose record and requests stand behind another client's: every message whole, both alarms, and the
 -- whole book after each event. It rules out a field taken for its neighbour, a bit that is missing and a link counted from the wrong end. Rests on Play.
-use Rattle.std.specs.Prelude.{ℕ, ◌+◌, ◌≡◌, refl, true, false, List, [], ◌∷◌, ◌++◌, replicate}
+use Rattle.std.specs.Prelude.{ℕ, ◌≡◌, refl, true, false, List, [], ◌∷◌, ◌++◌, replicate}
 use Rattle.prelude.specs.Texts.{text_of}
 use Rattle.prelude.specs.declared.Terms.{Terms}
 use Rattle.bits.specs.Map.{map_of}

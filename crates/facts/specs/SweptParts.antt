@@ -1,6 +1,6 @@
 -- The machine's parts on small values: the ranges at their ends, each rule's test with one part wrong, a change with one part anew, what stands for none, and the
 -- tops of the fields. Rests on Play. docs/SCOPE.md, Records and Rules, has the ranges.
-use Rattle.std.specs.Prelude.{ℕ, ◌+◌, ◌*◌, ◌^◌, ◌≡◌, refl, Bool, true, false, List, [], ◌∷◌, ◌++◌, replicate}
+use Rattle.std.specs.Prelude.{ℕ, ◌+◌, ◌*◌, ◌^◌, ◌≡◌, refl, Bool, true, false, List, [], ◌∷◌, replicate}
 use Rattle.prelude.specs.Texts.{text_of}
 use Rattle.prelude.specs.declared.Terms.{Terms}
 use Rattle.prelude.specs.declared.Text.{Text}

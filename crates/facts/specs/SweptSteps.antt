@@ -1,7 +1,7 @@
 -- One event on a small book that is spelled out, beside all that comes of it: messages, alarm and the whole book. Near and wrong definitions that no list of
 -- events in the other files tells from the right ones. Rests on Play.
 -- The books keep their rules, and some are reached by no list: an entry takes any book that keeps them. Question 1 is not asked here.
-use Rattle.std.specs.Prelude.{ℕ, ◌≡◌, refl, true, false, List, [], ◌∷◌, ◌++◌, replicate}
+use Rattle.std.specs.Prelude.{ℕ, ◌≡◌, refl, true, false, List, [], ◌∷◌, replicate}
 use Rattle.prelude.specs.Texts.{text_of}
 use Rattle.bits.specs.Map.{map_of}
 use Rattle.records.specs.Record.{event_in}

@@ -3,7 +3,6 @@
 -- Rests on Play. Question 1 is not asked here.
 use Rattle.std.specs.Prelude.{ℕ, zero, suc, ◌≡◌, refl, true, false, List, [], ◌∷◌, map}
 use Rattle.prelude.specs.Texts.{text_of}
-use Rattle.prelude.specs.declared.Text.{Text}
 use Rattle.records.specs.Record.{event_in}
 use Rattle.store.specs.declared.GatewayCancel.{GatewayCancel}
 use Rattle.store.specs.declared.Pending.{Pending}

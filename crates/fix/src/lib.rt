@@ -1,10 +1,12 @@
-// FIX 4.4 messages of our records, for a host that calls these entries as C functions on byte slices:
+// FIX 4.4 messages of our records, on byte slices; fix_c lends these entries to a host as C functions:
 // `fix_write` writes the message of a record, `fix_read` gives the fields of a message, and `message_at`
 // says where message n of an answer stands. What messages are stands in fix_words, with its laws; what
 // the entries return and what is promised of it in fix_claims; the modules do the writing, fix_reader
 // the reading, and each entry equals a definition. Each is total: whatever the bytes, it returns its
 // number, and a refused call has written nothing. Rests on records, cut, decimal, fix_claims, fix_table
 // and fix_reader.
+#![tactic(auto)]
+
 ghost use Rattle.std.specs.Prelude.{◌≡◌};
 ghost use Rattle.cut.specs.Place.{place_of};
 ghost use Rattle.fix_words.specs.Record.{session};
@@ -22,8 +24,7 @@ mod write;
 
 // Writes the FIX message of a message record to the front of `out`, with the session's comp IDs,
 // sequence number and time text.
-#[unsafe(no_mangle)]
-pub extern "C" fn fix_write(
+pub fn fix_write(
     record: &[u8],
     sender: &[u8],
     target: &[u8],
@@ -37,16 +38,14 @@ pub extern "C" fn fix_write(
 }
 
 // The fields of a FIX message that a writing yields; 3 for all other bytes.
-#[unsafe(no_mangle)]
-pub extern "C" fn fix_read(message: &[u8]) -> FixFields
+pub fn fix_read(message: &[u8]) -> FixFields
     ensures { result ≡ fields_read message.now }
 {
     fix_reader::read(message)
 }
 
 // Where message n of an answer stands, counted from 0.
-#[unsafe(no_mangle)]
-pub extern "C" fn message_at(answer: &[u8], n: u32) -> Place
+pub fn message_at(answer: &[u8], n: u32) -> Place
     ensures { result ≡ place_of answer.now n }
 {
     cut::message_at(answer, n)

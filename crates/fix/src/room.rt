@@ -9,7 +9,7 @@ ghost use Rattle.fix_table.specs.Table.{spoken};
 use crate::value::{Value, value_at};
 
 // Whether what was counted fits, and the room behind it.
-#[derive(Drop)]
+#[derive(Clone, Copy)]
 pub(crate) struct Room {
     pub fits: bool,
     pub left: usize,

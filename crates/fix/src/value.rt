@@ -7,7 +7,7 @@ use fix_table::form_of;
 
 // `form` is 0 for none, 1 for bytes of a buffer, 2 for a number of two words, 3 for words of our own,
 // 4 for bytes of a buffer, a point and a number.
-#[derive(Drop)]
+#[derive(Clone, Copy)]
 pub(crate) struct Value {
     pub form: u8,
     pub from: usize,

@@ -15,7 +15,7 @@ use fix_claims::Written;
 use fix_table::form_of;
 
 // What was decided before a byte is written: a refusal, or the record's parts and the body's length.
-#[derive(Drop)]
+#[derive(Clone, Copy)]
 pub(crate) struct Plan {
     pub refusal: u32,
     pub map: u32,

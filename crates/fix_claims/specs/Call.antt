@@ -1,6 +1,6 @@
 -- The call `fix_write`: what it returns, and what it leaves in the lent buffer. Rests on Record.
 use Rattle.std.specs.Prelude.{ℕ, List, eqb, length}
-use Rattle.prelude.specs.Cases.{if◌then◌else◌}
+use Rattle.prelude.specs.Cases.{if◌then◌otherwise◌}
 use Rattle.prelude.specs.Span.{splice}
 use Rattle.fix_claims.specs.declared.Written.{Written}
 use Rattle.fix_words.specs.Record.{Session, write_refusal, write_of}
@@ -18,4 +18,4 @@ unfoldable pub write_call : List ℕ → Session → List ℕ → Wrote
 write_call s n out =
     if eqb (write_refusal s n (length out)) 0
     then wrote (record { refusal = 0; length = length (write_of s n) }) (splice out 0 (write_of s n))
-    else wrote (record { refusal = write_refusal s n (length out); length = 0 }) out
+    otherwise wrote (record { refusal = write_refusal s n (length out); length = 0 }) out

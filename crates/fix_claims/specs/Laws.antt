@@ -1,3 +1,1 @@
-pub mod Table
 pub mod Texts
-pub mod Claimed

@@ -1,7 +1,7 @@
 -- What the reader gives a host: for each field its tag, where its value stands in the message, and its length; zeros behind them.
 -- Rests on Message.
 use Rattle.std.specs.Prelude.{ℕ, ◌+◌, List, [], ltb, length, get_or, take}
-use Rattle.prelude.specs.Cases.{if◌then◌else◌}
+use Rattle.prelude.specs.Cases.{if◌then◌otherwise◌}
 use Rattle.prelude.specs.Lists.{list_below}
 use Rattle.decimal.specs.Decimal.{digits}
 use Rattle.fix_claims.specs.declared.FixFields.{FixFields}
@@ -19,7 +19,7 @@ length_of fs i = length (get_or fs i no_field).value
 
 -- where the value of field i stands: behind the fields before it, its tag and '='
 unfoldable pub place_of : List Field → ℕ → ℕ
-place_of fs i = if ltb i (length fs) then length (spellings (take i fs)) + length (digits (tag_of fs i)) + 1 else 0
+place_of fs i = if ltb i (length fs) then length (spellings (take i fs)) + length (digits (tag_of fs i)) + 1 otherwise 0
 
 -- at most 32 fields, as numbers
 unfoldable pub tabled : ℕ → List Field → FixFields

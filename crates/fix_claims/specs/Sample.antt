@@ -1,7 +1,7 @@
 -- The reader's answer to a message in small, as the entry returns it, computed: an order, read field by field, and the same with another checksum.
 -- Rests on Reading and fix_words' Ascii.
 use Rattle.std.specs.Prelude.{ℕ, ◌≡◌, refl, List, [], ◌∷◌, ◌++◌}
-use Rattle.prelude.specs.Cases.{if◌then◌else◌, maybe}
+use Rattle.prelude.specs.Cases.{if◌then◌otherwise◌, maybe}
 use Rattle.prelude.specs.Below.{all_below, first_below}
 use Rattle.prelude.specs.Bytes.{zeros}
 use Rattle.prelude.specs.Lists.{list_below}
@@ -36,5 +36,5 @@ record Samples : Type 0 where
   refused : fields_read wrong_sum ≡ record { refusal = 3; count = 0; tag = zeros 32; at = zeros 32; length = zeros 32 }
 
 samples : Samples
-unfolding if◌then◌else◌ maybe size range fields in_range value required allowed required_bits allowed_bits all_below first_below list_below is_side sides is_ordtype ordtypes is_timeinforce timesinforce is_status statuses is_exectype exectypes is_alnum digits_by digits low_digits down decimal before after pieces piece spellings field_in fields_in body value_in tables rows types type_of kind_of texts words_of word_number is_plain places spelling value_of unspelled held_in unsaid contents inner front framed fields_of bytes_for paired shaped ranged texted typed is_writing loose_of is_message read_of place_of tabled fields_read
+unfolding if◌then◌otherwise◌ maybe size range fields in_range value required allowed required_bits allowed_bits all_below first_below list_below is_side sides is_ordtype ordtypes is_timeinforce timesinforce is_status statuses is_exectype exectypes is_alnum digits_by digits low_digits down decimal before after pieces piece spellings field_in fields_in body value_in tables rows types type_of kind_of texts words_of word_number is_plain places spelling value_of unspelled held_in unsaid contents inner front framed fields_of bytes_for paired shaped ranged texted typed is_writing loose_of is_message read_of place_of tabled fields_read
 samples = record { taken = refl; refused = refl }

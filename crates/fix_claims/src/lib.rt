@@ -1,9 +1,10 @@
 // What `fix_write` and `fix_read` return to a host, and in specs/ the definitions that their contracts
 // cite, the promises and the proofs of them. No code. Rests on fix_words and cut.
+#![tactic(auto)]
 
 // The refusal, or 0 and the length of what was written. With a refusal the length is 0.
 #[repr(C)]
-#[derive(Drop)]
+#[derive(Clone, Copy)]
 pub struct Written {
     pub refusal: u32,
     pub length: u64,
@@ -12,7 +13,7 @@ pub struct Written {
 // The fields of a message: each one's tag, where its value stands and how long it is; zeros behind
 // them and with a refusal.
 #[repr(C)]
-#[derive(Drop)]
+#[derive(Clone, Copy)]
 pub struct FixFields {
     pub refusal: u32,
     pub count: u32,

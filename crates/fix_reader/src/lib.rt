@@ -2,6 +2,8 @@
 // with 3. The bytes are cut into fields (`pieces`), then asked what the writer would have asked: the
 // header, each value by its row (`walk`, `values`), the end (`ending`). What is asked is specs/Laws/Checks;
 // that it is exactly the writer's image is proved there. Rests on fix_table, decimal and places.
+#![tactic(auto)]
+
 ghost use Rattle.std.specs.Prelude.{◌≡◌};
 ghost use Rattle.fix_claims.specs.Reading.{fields_read};
 ghost use Rattle.fix_reader.specs.Laws.Checks.{checks};
@@ -19,14 +21,14 @@ mod values; // texts, codes, numbers, names
 mod walk;
 
 // A tag, 0 where there is none, and where its value starts.
-#[derive(Drop)]
+#[derive(Clone, Copy)]
 struct Tag {
     tag: u32,
     at: usize,
 }
 
 // A field: its tag, 0 where there is none, where its value starts, and where it ends.
-#[derive(Drop)]
+#[derive(Clone, Copy)]
 struct Piece {
     tag: u32,
     at: usize,
@@ -34,14 +36,14 @@ struct Piece {
 }
 
 // A number below 2^64, where it fits.
-#[derive(Drop)]
+#[derive(Clone, Copy)]
 struct Parsed {
     fits: bool,
     value: u64,
 }
 
 // How far the rows have taken the fields, and whether the venue's text stood.
-#[derive(Drop)]
+#[derive(Clone, Copy)]
 struct Taken {
     goes: bool,
     next: usize,

@@ -10,7 +10,7 @@ ghost use Rattle.fix_reader.specs.Laws.Wrapping.{two_low, step_high};
 use crate::values;
 
 // Ten times a word and a digit: the low word, and what goes over into the next.
-#[derive(Drop)]
+#[derive(Clone, Copy)]
 struct Tenfold {
     low: u64,
     over: u64,

@@ -1,7 +1,7 @@
 // What the value of a field is: a text, a code, a number spelled as the writer spells, a name, or words
 // of our own. Rests on decimal, words and fix_table's `spoken`.
 ghost use Rattle.std.specs.Prelude.{◌≡◌, ◌<◌, true, ◌&&◌, length, ◌==◌, ◌≢◌, nat_le, nat_lt, slice_index};
-ghost use Rattle.prelude.specs.Cases.{if◌then◌else◌};
+ghost use Rattle.prelude.specs.Cases.{if◌then◌otherwise◌};
 ghost use Rattle.prelude.specs.Number.{bound};
 ghost use Rattle.decimal.specs.Decimal.{is_digit, decimal, number_in};
 ghost use Rattle.format.specs.Codes.{within, is_alnum};
@@ -246,7 +246,7 @@ fn is_none(v: &[u8]) -> bool
 
 // Whether a value is an order's name; in a reject it may be NONE.
 pub(crate) fn name_fits(kind: u8, v: &[u8]) -> bool
-    ensures { result ≡ (if same v.now none_word then (kind == 17) else (within 1 20 (length v.now) && every is_alnum v.now)) }
+    ensures { result ≡ (if same v.now none_word then (kind == 17) otherwise (within 1 20 (length v.now) && every is_alnum v.now)) }
 {
     if is_none(v) {
         return kind == 17;

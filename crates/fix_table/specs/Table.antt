@@ -1,6 +1,6 @@
 -- What the tables in code hold, beside the rows of fix_words: how each bit is written, and the words of our own. Rests on fix_words' Values.
 use Rattle.std.specs.Prelude.{ℕ, true, List, [], ◌∷◌, ◌++◌, slice_index_or}
-use Rattle.prelude.specs.Cases.{if◌then◌else◌}
+use Rattle.prelude.specs.Cases.{if◌then◌otherwise◌}
 use Rattle.format.specs.Codes.{within}
 use Rattle.format.specs.Format.{range, is_text_bit, side, status}
 use Rattle.fix_words.specs.Rows.{Row}
@@ -15,7 +15,7 @@ row_at k j = slice_index_or (rows k) j no_row
 
 -- how a bit is written: 2 a text, 1 a code, else a number with so many decimals
 unfoldable pub form_of : ℕ → ℕ
-form_of b = if is_text_bit b then 2 else if within side status (range b) then 1 else places b
+form_of b = if is_text_bit b then 2 otherwise if within side status (range b) then 1 otherwise places b
 
 -- the fixed texts, and NONE behind them
 unfoldable pub spoken : List (List ℕ)

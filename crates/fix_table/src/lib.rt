@@ -2,6 +2,8 @@
 // types, how each bit is written, the words of our own (`spoken`) and the checksum (`sum`). Each function
 // is total and equals a definition of specs/Table or of fix_words. Tables are `match`es: an array would be
 // built on the stack at each call. Rests on fix_words.
+#![tactic(auto)]
+
 ghost use Rattle.std.specs.Prelude.{◌≡◌, ◌<◌, ◌≤◌, length};
 ghost use Rattle.fix_words.specs.Values.{rows, type_of, kind_of};
 ghost use Rattle.fix_table.specs.Table.{row_at, form_of};
@@ -11,7 +13,7 @@ pub mod spoken;
 pub mod sum;
 
 // A row: a field's tag, its bit in the record, and whether it must stand.
-#[derive(Drop)]
+#[derive(Clone, Copy)]
 pub struct Row {
     pub tag: u64,
     pub bit: usize,

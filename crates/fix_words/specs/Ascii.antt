@@ -2,10 +2,10 @@
 use Rattle.std.specs.Prelude.{ℕ, List, [] as ended, ◌∷◌ as ◌then◌, eqb}
 use Prim.Native.Char.{code}
 use Prim.Native.String.{String, [], ◌∷◌}
-use Rattle.prelude.specs.Cases.{if◌then◌else◌}
+use Rattle.prelude.specs.Cases.{if◌then◌otherwise◌}
 
 abbrev byte_of : ℕ → ℕ
-byte_of c = if eqb c 124 then 1 else c
+byte_of c = if eqb c 124 then 1 otherwise c
 
 abbrev pub ascii : String → List ℕ
 ascii [] = ended

@@ -1,7 +1,7 @@
 -- What a message carries, said from the record's side: for each bit its tag, and how the value under it reads. Nothing here asks the tables of
 -- rows or how a value is spelled. Rests on Record, Number and format.
 use Rattle.std.specs.Prelude.{ℕ, zero, suc, ◌<◌, ◌≡◌, List, [], ◌∷◌, ◌++◌, Bool, true, false, not, ◌&&◌, ◌||◌, eqb, leb, get_or}
-use Rattle.prelude.specs.Cases.{if◌then◌else◌}
+use Rattle.prelude.specs.Cases.{if◌then◌otherwise◌}
 use Rattle.prelude.specs.Number.{number}
 use Rattle.bits.specs.Map.{bit}
 use Rattle.format.specs.Codes.{listed}
@@ -23,7 +23,7 @@ tags =
     ∷ 14 ∷ 6 ∷ 37 ∷ 103 ∷ 58 ∷ 0 ∷ 0 ∷ 0 ∷ 151 ∷ 17 ∷ 31 ∷ 58 ∷ 0 ∷ 434 ∷ 41 ∷ 0 ∷ []
 
 unfoldable pub tag_for : ℕ → ℕ → ℕ
-tag_for k b = if eqb k 17 && eqb b 19 then 102 else get_or tags b 0
+tag_for k b = if eqb k 17 && eqb b 19 then 102 otherwise get_or tags b 0
 
 -- not carried: client, venue, whose a reason is, the price's source; in an OrderCancelRequest type, price and time in force. A reject's fixed
 -- text stands at the place of its text.
@@ -44,7 +44,7 @@ row_for k b = record { tag = tag_for k b; bit = b; must = must_stand k b }
 -- THE ROWS OF A KIND as the bits give them: of n bits from b on, in their order
 abbrev pub rows_from : ℕ → ℕ → ℕ → List Row
 rows_from k b zero = []
-rows_from k b (suc n) = if is_told k b then row_for k b ∷ rows_from k (suc b) n else rows_from k (suc b) n
+rows_from k b (suc n) = if is_told k b then row_for k b ∷ rows_from k (suc b) n otherwise rows_from k (suc b) n
 
 -- ---- what a value holds
 
@@ -95,7 +95,7 @@ in_turn parts b (suc n) = parts b ++ in_turn parts (suc b) n
 
 -- 60 in D, F and G
 abbrev pub stamps : ℕ → List ℕ → List Field
-stamps k time = if leb 18 k then field 60 time ∷ [] else []
+stamps k time = if leb 18 k then field 60 time ∷ [] otherwise []
 
 -- THE FIELDS OF A MESSAGE, spelled one behind the other, are the session's, then those of the record's bits in turn, then 60 and 10
 pub record Carried (s : List ℕ) (n : Session) (x : List ℕ) (fs : List Field) : Type 0 where

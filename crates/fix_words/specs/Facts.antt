@@ -3,7 +3,7 @@
 use Rattle.std.specs.Prelude.{ℕ, ◌≡◌, refl, List, [], ◌∷◌, ◌++◌, Bool, true, false, eqb, take}
 use Prim.Native.String.{String}
 use Rattle.std.proofs.Math.Option.{Option, none, some}
-use Rattle.prelude.specs.Cases.{if◌then◌else◌, maybe}
+use Rattle.prelude.specs.Cases.{if◌then◌otherwise◌, maybe}
 use Rattle.prelude.specs.Below.{all_below, first_below}
 use Rattle.prelude.specs.Number.{bytes_of}
 use Rattle.prelude.specs.Span.{span}
@@ -49,7 +49,7 @@ record Words : Type 0 where
   text19 : words_of 19 ≡ []
 
 words : Words
-unfolding if◌then◌else◌ texts words_of
+unfolding if◌then◌otherwise◌ texts words_of
 words = record {
   text0 = refl;
   text1 = refl;
@@ -165,7 +165,7 @@ record Answers : Type 0 where
   nine_first : write_refusal least (session [] (ascii "T") 702 (ascii "t")) 0 ≡ 9
 
 answers : Answers
-unfolding if◌then◌else◌ encode size range fields in_range value required allowed required_bits allowed_bits all_below is_side sides is_ordtype ordtypes is_timeinforce timesinforce is_status statuses is_exectype exectypes is_alnum is_none is_name is_kind joined bits_right span extent next start strip part content end_of right_at recordShaped message_shaped text_of name_in recordRanged whole_message digits_by digits low_digits down decimal piece spellings body tables rows types type_of texts words_of is_plain places spelling value_of inner front framed fields_of bytes_for texted field_at write_refusal
+unfolding if◌then◌otherwise◌ encode size range fields in_range value required allowed required_bits allowed_bits all_below is_side sides is_ordtype ordtypes is_timeinforce timesinforce is_status statuses is_exectype exectypes is_alnum is_none is_name is_kind joined bits_right span extent next start strip part content end_of right_at recordShaped message_shaped text_of name_in recordRanged whole_message digits_by digits low_digits down decimal piece spellings body tables rows types type_of texts words_of is_plain places spelling value_of inner front framed fields_of bytes_for texted field_at write_refusal
 answers = record {
   taken = refl;
   nothing = refl;
@@ -247,7 +247,7 @@ record Orders : Type 0 where
   no_time : reads "8=FIX.4.4|9=78|35=D|49=GW|56=DSK|34=702|52=t1|11=A|55=X|54=1|40=2|38=100.0000|44=10.00000000|10=183|" ≡ 3
 
 orders : Orders
-unfolding if◌then◌else◌ maybe size range fields in_range value required allowed required_bits allowed_bits all_below first_below is_side sides is_ordtype ordtypes is_timeinforce timesinforce is_status statuses is_exectype exectypes is_alnum digits_by digits low_digits down decimal before after pieces piece spellings field_in fields_in body value_in tables rows types type_of kind_of texts words_of word_number is_plain places spelling value_of unspelled held_in unsaid contents inner front framed fields_of bytes_for paired shaped ranged texted typed is_writing loose_of is_message read_of
+unfolding if◌then◌otherwise◌ maybe size range fields in_range value required allowed required_bits allowed_bits all_below first_below is_side sides is_ordtype ordtypes is_timeinforce timesinforce is_status statuses is_exectype exectypes is_alnum digits_by digits low_digits down decimal before after pieces piece spellings field_in fields_in body value_in tables rows types type_of kind_of texts words_of word_number is_plain places spelling value_of unspelled held_in unsaid contents inner front framed fields_of bytes_for paired shaped ranged texted typed is_writing loose_of is_message read_of
 orders = record {
   order = refl;
   zero_in_tag = refl;
@@ -290,7 +290,7 @@ record Ends : Type 0 where
   nothing : reads "" ≡ 3
 
 ends : Ends
-unfolding if◌then◌else◌ maybe size range fields in_range value required allowed required_bits allowed_bits all_below first_below is_side sides is_ordtype ordtypes is_timeinforce timesinforce is_status statuses is_exectype exectypes is_alnum digits_by digits low_digits down decimal before after pieces piece spellings field_in fields_in body value_in tables rows types type_of kind_of texts words_of word_number is_plain places spelling value_of unspelled held_in unsaid contents inner front framed fields_of bytes_for paired shaped ranged texted typed is_writing loose_of is_message read_of
+unfolding if◌then◌otherwise◌ maybe size range fields in_range value required allowed required_bits allowed_bits all_below first_below is_side sides is_ordtype ordtypes is_timeinforce timesinforce is_status statuses is_exectype exectypes is_alnum digits_by digits low_digits down decimal before after pieces piece spellings field_in fields_in body value_in tables rows types type_of kind_of texts words_of word_number is_plain places spelling value_of unspelled held_in unsaid contents inner front framed fields_of bytes_for paired shaped ranged texted typed is_writing loose_of is_message read_of
 ends = record {
   length_less = refl;
   length_with_zero = refl;
@@ -312,7 +312,7 @@ record Rejects : Type 0 where
   cancel_with_type : reads "8=FIX.4.4|9=82|35=F|49=GW|56=DSK|34=702|52=t1|11=A-1|55=X|54=5|40=2|38=0.0001|37=NONE|41=A|60=t1|10=006|" ≡ 3
 
 rejects : Rejects
-unfolding if◌then◌else◌ maybe size range fields in_range value required allowed required_bits allowed_bits all_below first_below is_side sides is_ordtype ordtypes is_timeinforce timesinforce is_status statuses is_exectype exectypes is_alnum digits_by digits low_digits down decimal before after pieces piece spellings field_in fields_in body value_in tables rows types type_of kind_of texts words_of word_number is_plain places spelling value_of unspelled held_in unsaid contents inner front framed fields_of bytes_for paired shaped ranged texted typed is_writing loose_of is_message read_of
+unfolding if◌then◌otherwise◌ maybe size range fields in_range value required allowed required_bits allowed_bits all_below first_below is_side sides is_ordtype ordtypes is_timeinforce timesinforce is_status statuses is_exectype exectypes is_alnum digits_by digits low_digits down decimal before after pieces piece spellings field_in fields_in body value_in tables rows types type_of kind_of texts words_of word_number is_plain places spelling value_of unspelled held_in unsaid contents inner front framed fields_of bytes_for paired shaped ranged texted typed is_writing loose_of is_message read_of
 rejects = record {
   no_text_lem = refl;
   response_3 = refl;
@@ -333,7 +333,7 @@ record Reports : Type 0 where
   named_none : shape_at 16 2 (read_as 2 "NONE") ≡ false
   fixed_late : range_at 27 (read_as 27 "blocked") ≡ true
   text_late : range_at 27 (read_as 27 "ok") ≡ false
-  one_text : paired 16 (λ b. if eqb b 27 then none else some []) ≡ true
+  one_text : paired 16 (λ b. if eqb b 27 then none otherwise some []) ≡ true
   two_texts : paired 16 (λ b. some []) ≡ false
   exec : exec_again "A" "A.300" ≡ true
   exec_of_another : exec_again "A" "B.300" ≡ false
@@ -343,7 +343,7 @@ record Reports : Type 0 where
   exec_with_blank : exec_again "A" "A. 300" ≡ false
 
 reports : Reports
-unfolding if◌then◌else◌ maybe size range fields in_range value required allowed required_bits allowed_bits all_below first_below is_alnum digits_by digits before after texts words_of word_number is_plain unspelled held_in paired
+unfolding if◌then◌otherwise◌ maybe size range fields in_range value required allowed required_bits allowed_bits all_below first_below is_alnum digits_by digits before after texts words_of word_number is_plain unspelled held_in paired
 reports = record {
   named = refl;
   named_none = refl;

@@ -4,11 +4,5 @@ pub mod Number
 pub mod Spelling
 pub mod Rows
 pub mod Held
-pub mod Kinds
-pub mod Again
-pub mod Trip
 pub mod Map
-pub mod Taken
-pub mod Made
 pub mod Counting
-pub mod Carried

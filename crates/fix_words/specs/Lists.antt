@@ -1,6 +1,6 @@
 -- Lists of bytes as a FIX message needs them: a test of every byte, a cut at a byte, equality as a test. Rests on prelude.
 use Rattle.std.specs.Prelude.{ℕ, List, [], ◌∷◌, Bool, true, false, not, ◌&&◌, eqb, leb}
-use Rattle.prelude.specs.Cases.{if◌then◌else◌}
+use Rattle.prelude.specs.Cases.{if◌then◌otherwise◌}
 
 -- every byte passes
 abbrev pub every : (ℕ → Bool) → List ℕ → Bool
@@ -19,11 +19,11 @@ is_not x c = not (eqb c x)
 
 unfoldable pub before : ℕ → List ℕ → List ℕ
 before x [] = []
-before x (c ∷ s) = if eqb c x then [] else c ∷ before x s
+before x (c ∷ s) = if eqb c x then [] otherwise c ∷ before x s
 
 unfoldable pub after : ℕ → List ℕ → List ℕ
 after x [] = []
-after x (c ∷ s) = if eqb c x then s else after x s
+after x (c ∷ s) = if eqb c x then s otherwise after x s
 
 -- ---- the pieces between bytes x
 
@@ -34,7 +34,7 @@ glue c (p ∷ ps) = (c ∷ p) ∷ ps
 -- each piece is ended by x; what stands behind the last x is a piece too
 unfoldable pub pieces : ℕ → List ℕ → List (List ℕ)
 pieces x [] = []
-pieces x (c ∷ s) = if eqb c x then [] ∷ pieces x s else glue c (pieces x s)
+pieces x (c ∷ s) = if eqb c x then [] ∷ pieces x s otherwise glue c (pieces x s)
 
 -- ---- equality as a test
 

@@ -1,7 +1,7 @@
 -- A FIX 4.4 message: what is written, the writer's questions, and the reader. Rests on Values.
 use Rattle.std.specs.Prelude.{ℕ, ◌%◌, List, [], ◌∷◌, ◌++◌, Bool, true, false, not, ◌&&◌, ◌||◌, eqb, leb, ltb, length, get_or, drop}
 use Rattle.std.proofs.Math.Option.{Option, none, some}
-use Rattle.prelude.specs.Cases.{if◌then◌else◌, is_some}
+use Rattle.prelude.specs.Cases.{if◌then◌otherwise◌, is_some}
 use Rattle.prelude.specs.Below.{all_below}
 use Rattle.prelude.specs.Number.{bound}
 use Rattle.prelude.specs.Totals.{total_of}
@@ -32,7 +32,7 @@ version = 70 ∷ 73 ∷ 88 ∷ 46 ∷ 52 ∷ 46 ∷ 52 ∷ []
 
 -- 60 in D, F and G
 abbrev pub stamp : ℕ → List ℕ → List Field → List Field
-stamp k time fs = if leb 18 k then field 60 time ∷ fs else fs
+stamp k time fs = if leb 18 k then field 60 time ∷ fs otherwise fs
 
 -- what 9 counts: from 35 to the last field before 10
 unfoldable pub inner : Writing → List Field
@@ -74,8 +74,8 @@ shape_at k b (some c) = (bit (required k) b || bit (allowed k) b) && (every (λ 
 -- a reason and its origin stand together; at most one text, in a reject exactly one
 unfoldable pub paired : ℕ → Values → Bool
 paired k at =
-    if eqb k 16 then (if is_some (at 19) then is_some (at 28) else not (is_some (at 28))) && not (is_some (at 20) && is_some (at 27)) else
-    if eqb k 17 then (if is_some (at 20) then not (is_some (at 27)) else is_some (at 27)) else
+    if eqb k 16 then (if is_some (at 19) then is_some (at 28) otherwise not (is_some (at 28))) && not (is_some (at 20) && is_some (at 27)) otherwise
+    if eqb k 17 then (if is_some (at 20) then not (is_some (at 27)) otherwise is_some (at 27)) otherwise
     true
 
 unfoldable pub shaped : ℕ → Values → Bool
@@ -139,4 +139,4 @@ pub record Read : Type 0 where
   pub fields : List Field
 
 unfoldable pub read_of : List ℕ → Read
-read_of s = if is_message s then record { refusal = 0; fields = fields_in s } else record { refusal = 3; fields = [] }
+read_of s = if is_message s then record { refusal = 0; fields = fields_in s } otherwise record { refusal = 3; fields = [] }

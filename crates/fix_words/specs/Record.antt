@@ -1,11 +1,10 @@
 -- The writer on a record's bytes and a session's texts: what each bit holds, the answer, and the bytes. Rests on Message and format's Refusal.
 use Rattle.std.specs.Prelude.{ℕ, ◌≡◌, List, [], Bool, true, not, ltb, length}
 use Rattle.std.proofs.Math.Option.{none, some}
-use Rattle.prelude.specs.Cases.{if◌then◌else◌}
+use Rattle.prelude.specs.Cases.{if◌then◌otherwise◌}
 use Rattle.prelude.specs.Number.{Bytes}
 use Rattle.bits.specs.Map.{bit}
 use Rattle.format.specs.Places.{content, kind_at, map_at}
-use Rattle.format.specs.Wire.{bytes}
 use Rattle.format.specs.Refusal.{ranged as recordRanged}
 use Rattle.records.specs.Parts.{whole_message}
 use Rattle.fix_words.specs.Rows.{Values}
@@ -13,7 +12,7 @@ use Rattle.fix_words.specs.Message.{Writing, bytes_for, texted, typed}
 
 -- what each bit of the record holds
 unfoldable pub field_at : List ℕ → Values
-field_at s b = if bit (map_at s 0) b then some (content s 0 (map_at s 0) b) else none
+field_at s b = if bit (map_at s 0) b then some (content s 0 (map_at s 0) b) otherwise none
 
 -- the session's part of a writing
 pub record Session : Type 0 where
@@ -31,10 +30,10 @@ writing_of s n = record { kind = kind_at s 0; at = field_at s; sender = n.sender
 -- THE WRITER'S ANSWER: 3 and 4 as docs/SCOPE.md has them for messages, then 9, then 10
 unfoldable pub write_refusal : List ℕ → Session → ℕ → ℕ
 write_refusal s n room =
-    if not (whole_message s) then 3 else
-    if not (recordRanged s 0) then 4 else
-    if not (texted (writing_of s n)) then 9 else
-    if ltb room (length (bytes_for (writing_of s n))) then 10 else
+    if not (whole_message s) then 3 otherwise
+    if not (recordRanged s 0) then 4 otherwise
+    if not (texted (writing_of s n)) then 9 otherwise
+    if ltb room (length (bytes_for (writing_of s n))) then 10 otherwise
     0
 
 -- the session's texts are bytes, and its sequence is one word

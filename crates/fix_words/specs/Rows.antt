@@ -2,7 +2,7 @@
 -- Rests on Spelling.
 use Rattle.std.specs.Prelude.{ℕ, List, [], ◌∷◌, Bool, false, ◌||◌, eqb}
 use Rattle.std.proofs.Math.Option.{Option, none, some}
-use Rattle.prelude.specs.Cases.{if◌then◌else◌}
+use Rattle.prelude.specs.Cases.{if◌then◌otherwise◌}
 use Rattle.fix_words.specs.Spelling.{Field, field}
 
 pub record Row : Type 0 where
@@ -44,8 +44,8 @@ rest (f ∷ fs) = fs
 unfoldable pub value_in : List Row → List Field → ℕ → Option (List ℕ)
 value_in [] fs b = none
 value_in (r ∷ rows) fs b =
-    if leads r.tag fs then (if eqb r.bit b then first fs else value_in rows (rest fs) b) else
-    if eqb r.bit b then none else
+    if leads r.tag fs then (if eqb r.bit b then first fs otherwise value_in rows (rest fs) b) otherwise
+    if eqb r.bit b then none otherwise
     value_in rows fs b
 
 -- a row of the table has bit b

@@ -4,7 +4,7 @@ use Rattle.std.specs.Prelude.{ℕ, ◌≡◌, refl, List, [], ◌∷◌, ◌++�
 use Prim.Native.String.{String}
 use Rattle.std.proofs.Common.{ap, lit<}
 use Rattle.prelude.specs.Number.{bytes_of}
-use Rattle.prelude.specs.Cases.{if◌then◌else◌}
+use Rattle.prelude.specs.Cases.{if◌then◌otherwise◌}
 use Rattle.prelude.specs.Below.{all_below}
 use Rattle.prelude.specs.Span.{span}
 use Rattle.prelude.specs.Texts.{text_of}
@@ -94,7 +94,7 @@ record Samples : Type 0 where
   replace : writes replace "8=FIX.4.4|9=101|35=G|49=GW|56=DSK|34=702|52=t1|11=A-2|55=X|54=2|40=2|38=0.0005|44=0.00000001|59=3|37=V9|41=A-1|60=t1|10=082|" ≡ true
 
 samples : Samples
-unfolding if◌then◌else◌ encode size range fields in_range value required allowed required_bits allowed_bits all_below is_side sides is_ordtype ordtypes is_timeinforce timesinforce is_status statuses is_exectype exectypes is_alnum is_none is_name is_kind joined bits_right span extent next start strip part content end_of right_at recordShaped message_shaped text_of name_in recordRanged whole_message digits_by digits low_digits down decimal piece spellings body tables rows types type_of texts words_of is_plain places spelling value_of inner front framed fields_of bytes_for texted field_at write_refusal
+unfolding if◌then◌otherwise◌ encode size range fields in_range value required allowed required_bits allowed_bits all_below is_side sides is_ordtype ordtypes is_timeinforce timesinforce is_status statuses is_exectype exectypes is_alnum is_none is_name is_kind joined bits_right span extent next start strip part content end_of right_at recordShaped message_shaped text_of name_in recordRanged whole_message digits_by digits low_digits down decimal piece spellings body tables rows types type_of texts words_of is_plain places spelling value_of inner front framed fields_of bytes_for texted field_at write_refusal
 samples = record { order = refl; timed = refl; report = refl; told = refl; ended = refl; reject = refl; refused = refl; cancel = refl; replace = refl }
 
 -- ---- numbers
@@ -104,7 +104,7 @@ whole_most : digits 3402823669209384634633746074317 ≡ digits_by 30 34028236692
 whole_most = digits_short 30 3402823669209384634633746074317 (lit< tt)
 
 largest : decimal 8 340282366920938463463374607431768211455 ≡ ascii "3402823669209384634633746074317.68211455"
-unfolding decimal down low_digits digits_by if◌then◌else◌
+unfolding decimal down low_digits digits_by if◌then◌otherwise◌
 largest = ap (λ (d : List ℕ). d ++ (46 ∷ low_digits 8 340282366920938463463374607431768211455)) whole_most
 
 -- the largest quantity
@@ -112,10 +112,10 @@ quantity_whole : digits 100000000 ≡ digits_by 8 100000000
 quantity_whole = digits_short 8 100000000 (lit< tt)
 
 quantity_most : decimal 4 1000000000000 ≡ ascii "100000000.0000"
-unfolding decimal down low_digits digits_by if◌then◌else◌
+unfolding decimal down low_digits digits_by if◌then◌otherwise◌
 quantity_most = ap (λ (d : List ℕ). d ++ (46 ∷ low_digits 4 1000000000000)) quantity_whole
 
 -- no price
 price_none : same (spelling 17 (bytes_of 8 0)) (ascii "0.00000000") ≡ true
-unfolding if◌then◌else◌ size range fields digits_by digits low_digits down decimal is_plain places spelling
+unfolding if◌then◌otherwise◌ size range fields digits_by digits low_digits down decimal is_plain places spelling
 price_none = refl

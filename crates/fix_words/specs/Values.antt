@@ -1,7 +1,7 @@
 -- What a record's fields are in FIX: the table of each kind, the value of each bit, and what a value holds. Rests on Rows and format.
 use Rattle.std.specs.Prelude.{ℕ, ◌-◌, List, [], ◌∷◌, ◌++◌, Bool, true, false, ◌||◌, eqb, get_or}
 use Rattle.std.proofs.Math.Option.{Option, none, some}
-use Rattle.prelude.specs.Cases.{if◌then◌else◌, maybe}
+use Rattle.prelude.specs.Cases.{if◌then◌otherwise◌, maybe}
 use Rattle.prelude.specs.Below.{first_below}
 use Rattle.prelude.specs.Number.{number, bytes_of}
 use Rattle.bits.specs.Map.{bit}
@@ -42,11 +42,11 @@ type_of k = get_or types (k - 16) 0
 
 unfoldable pub kind_of : ℕ → ℕ
 kind_of c =
-    if eqb c 56 then 16 else
-    if eqb c 57 then 17 else
-    if eqb c 68 then 18 else
-    if eqb c 70 then 19 else
-    if eqb c 71 then 20 else
+    if eqb c 56 then 16 otherwise
+    if eqb c 57 then 17 otherwise
+    if eqb c 68 then 18 otherwise
+    if eqb c 70 then 19 otherwise
+    if eqb c 71 then 20 otherwise
     0
 
 -- ---- words
@@ -94,10 +94,10 @@ is_plain b = is_text_bit b || within side status (range b)
 
 -- quantities have four decimals, prices eight, 26 among them
 unfoldable pub places : ℕ → ℕ
-places b = if eqb (range b) quantity then 4 else if eqb (range b) price || eqb b 26 then 8 else 0
+places b = if eqb (range b) quantity then 4 otherwise if eqb (range b) price || eqb b 26 then 8 otherwise 0
 
 unfoldable pub spelling : ℕ → List ℕ → List ℕ
-spelling b c = if is_plain b then c else decimal (places b) (number c)
+spelling b c = if is_plain b then c otherwise decimal (places b) (number c)
 
 abbrev pub over : (List ℕ → List ℕ) → Option (List ℕ) → Option (List ℕ)
 over f none = none
@@ -121,35 +121,35 @@ fixed_words c = words_of (get_or c 0 0)
 -- the FIX value of bit b, from what each bit of the record holds; a reject (17) names an order or NONE, and has one text of either kind
 unfoldable pub value_of : ℕ → Values → ℕ → Option (List ℕ)
 value_of k at b =
-    if eqb b 2 then (if eqb k 17 then some (or_else none_word (at 2)) else at 2) else
-    if eqb b 20 then (if eqb k 17 then either (at 20) (over fixed_words (at 27)) else at 20) else
-    if eqb b 25 then over (exec_id (at 2)) (at 25) else
-    if eqb b 27 then over fixed_words (at 27) else
+    if eqb b 2 then (if eqb k 17 then some (or_else none_word (at 2)) otherwise at 2) otherwise
+    if eqb b 20 then (if eqb k 17 then either (at 20) (over fixed_words (at 27)) otherwise at 20) otherwise
+    if eqb b 25 then over (exec_id (at 2)) (at 25) otherwise
+    if eqb b 27 then over fixed_words (at 27) otherwise
     over (spelling b) (at b)
 
 -- ---- what a value holds, read loosely
 
 unfoldable pub unspelled : ℕ → List ℕ → List ℕ
-unspelled b v = if is_plain b then v else bytes_of (size b) (number_in v)
+unspelled b v = if is_plain b then v otherwise bytes_of (size b) (number_in v)
 
 abbrev pub unless_none : Option (List ℕ) → Option (List ℕ)
 unless_none none = none
-unless_none (some v) = if same v none_word then none else some v
+unless_none (some v) = if same v none_word then none otherwise some v
 
 -- what bit b holds, from its FIX value
 unfoldable pub held_in : ℕ → Option (List ℕ) → Option (List ℕ)
 held_in b v =
-    if eqb b 2 then unless_none v else
-    if eqb b 25 then over (λ x. bytes_of 8 (number_in (after 46 x))) v else
-    if eqb b 27 then over (λ x. word_number x ∷ []) v else
+    if eqb b 2 then unless_none v otherwise
+    if eqb b 25 then over (λ x. bytes_of 8 (number_in (after 46 x))) v otherwise
+    if eqb b 27 then over (λ x. word_number x ∷ []) v otherwise
     over (unspelled b) v
 
 -- a bit that is not carried: where it must stand, some value in its range; the origin stands with its reason
 unfoldable pub unsaid : ℕ → Option (List ℕ) → ℕ → Option (List ℕ)
 unsaid k reason b =
-    if eqb b 28 then over (λ v. 1 ∷ []) reason else
-    if bit (required k) b then some (bytes_of (size b) (if eqb b 8 then 49 else 0)) else
+    if eqb b 28 then over (λ v. 1 ∷ []) reason otherwise
+    if bit (required k) b then some (bytes_of (size b) (if eqb b 8 then 49 otherwise 0)) otherwise
     none
 
 unfoldable pub contents : ℕ → Values → ℕ → Option (List ℕ)
-contents k vs b = if in_rows (rows k) b then held_in b (vs b) else unsaid k (vs 19) b
+contents k vs b = if in_rows (rows k) b then held_in b (vs b) otherwise unsaid k (vs 19) b

@@ -1,6 +1,6 @@
 -- Small records as bytes, and what is said of each: the refusals, computed. Rests on Refusal.
 use Rattle.std.specs.Prelude.{ℕ, ◌≡◌, refl, List, [], ◌∷◌, ◌++◌, length, replicate}
-use Rattle.prelude.specs.Cases.{if◌then◌else◌}
+use Rattle.prelude.specs.Cases.{if◌then◌otherwise◌}
 use Rattle.prelude.specs.Below.{all_below}
 use Rattle.prelude.specs.Span.{span}
 use Rattle.prelude.specs.Texts.{text_of}
@@ -49,7 +49,7 @@ pub record Facts : Type 0 where
   pub both : event_refusal (cancel none ++ (0 ∷ [])) ≡ 3
 
 pub facts : Facts
-unfolding event_refusal shaped ranged name_in bits_right is_kind required allowed required_bits allowed_bits joined end_of start next extent size range fields right_at content strip part span value in_range is_name is_alnum is_none text_of all_below if◌then◌else◌
+unfolding event_refusal shaped ranged name_in bits_right is_kind required allowed required_bits allowed_bits joined end_of start next extent size range fields right_at content strip part span value in_range is_name is_alnum is_none text_of all_below if◌then◌otherwise◌
 facts = record {
   whole = refl;
   nothing = refl;

@@ -1,6 +1,6 @@
 -- The table of the format: what each field takes and may hold, and which bits each kind of record has. Rests on Codes and bits.
 use Rattle.std.specs.Prelude.{ℕ, ◌+◌, List, [], ◌∷◌, Bool, true, ◌&&◌, ◌||◌, get_or, eqb, leb}
-use Rattle.prelude.specs.Cases.{if◌then◌else◌}
+use Rattle.prelude.specs.Cases.{if◌then◌otherwise◌}
 use Rattle.bits.specs.Map.{digit, map_of, contains}
 use Rattle.format.specs.Codes.{within, is_side, is_ordtype, is_timeinforce, is_status, is_exectype, is_qty, is_price}
 
@@ -61,22 +61,22 @@ source = 16
 -- whether a number, or the length of a text, is in a range
 unfoldable pub in_range : ℕ → ℕ → Bool
 in_range g v =
-    if eqb g any then true else
-    if eqb g quantity then is_qty v else
-    if eqb g price then is_price v else
-    if eqb g side then is_side v else
-    if eqb g ordtype then is_ordtype v else
-    if eqb g timeinforce then is_timeinforce v else
-    if eqb g exectype then is_exectype v else
-    if eqb g status then is_status v else
-    if eqb g verdict then leb v 7 else
-    if eqb g fixedtext then within 1 18 v else
-    if eqb g either then within 1 2 v else
-    if eqb g to16 then within 1 16 v else
-    if eqb g to20 then within 1 20 v else
-    if eqb g to32 then within 1 32 v else
-    if eqb g to64 then within 1 64 v else
-    if eqb g source then leb v 3 else
+    if eqb g any then true otherwise
+    if eqb g quantity then is_qty v otherwise
+    if eqb g price then is_price v otherwise
+    if eqb g side then is_side v otherwise
+    if eqb g ordtype then is_ordtype v otherwise
+    if eqb g timeinforce then is_timeinforce v otherwise
+    if eqb g exectype then is_exectype v otherwise
+    if eqb g status then is_status v otherwise
+    if eqb g verdict then leb v 7 otherwise
+    if eqb g fixedtext then within 1 18 v otherwise
+    if eqb g either then within 1 2 v otherwise
+    if eqb g to16 then within 1 16 v otherwise
+    if eqb g to20 then within 1 20 v otherwise
+    if eqb g to32 then within 1 32 v otherwise
+    if eqb g to64 then within 1 64 v otherwise
+    if eqb g source then leb v 3 otherwise
     leb v 32
 
 -- the bytes of a number, or `text`: a length byte and as many bytes
@@ -190,8 +190,8 @@ allowed k = map_of (get_or allowed_bits k [])
 -- a report has a reason with its origin, and at most one text; a cancel reject has exactly one
 unfoldable pub joined : ℕ → ℕ → Bool
 joined k m =
-    if eqb k 16 then eqb (digit m 19) (digit m 28) && leb (digit m 20 + digit m 27) 1 else
-    if eqb k 17 then eqb (digit m 20 + digit m 27) 1 else
+    if eqb k 16 then eqb (digit m 19) (digit m 28) && leb (digit m 20 + digit m 27) 1 otherwise
+    if eqb k 17 then eqb (digit m 20 + digit m 27) 1 otherwise
     true
 
 -- the kind is one of the list, and the map has the bits that it must have and none that it may not

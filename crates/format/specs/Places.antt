@@ -1,6 +1,6 @@
 -- Where the fields of a record stand in a buffer, and what they hold. Rests on Format.
 use Rattle.std.specs.Prelude.{ℕ, zero, suc, ◌+◌, ◌-◌, List, Bool, true, ◌&&◌, length, get_or, take, drop, leb}
-use Rattle.prelude.specs.Cases.{if◌then◌else◌}
+use Rattle.prelude.specs.Cases.{if◌then◌otherwise◌}
 use Rattle.prelude.specs.Span.{span}
 use Rattle.prelude.specs.Number.{number, word32}
 use Rattle.bits.specs.Map.{bit}
@@ -8,11 +8,11 @@ use Rattle.format.specs.Format.{size, range, is_text_bit, in_range, bits_right}
 
 -- the bytes that field b takes where it starts at `at`; past the end a length byte counts as 0
 unfoldable pub extent : List ℕ → ℕ → ℕ → ℕ
-extent s b at = if is_text_bit b then 1 + get_or s at 0 else size b
+extent s b at = if is_text_bit b then 1 + get_or s at 0 otherwise size b
 
 -- where the field after b starts
 unfoldable pub next : List ℕ → ℕ → ℕ → ℕ → ℕ
-next s m b at = if bit m b then at + extent s b at else at
+next s m b at = if bit m b then at + extent s b at otherwise at
 
 -- where field b starts, in a record with the map m that starts at o
 unfoldable pub start : List ℕ → ℕ → ℕ → ℕ → ℕ
@@ -21,7 +21,7 @@ start s o m (suc b) = next s m b (start s o m b)
 
 -- a field's bytes without the length of a text
 unfoldable pub strip : ℕ → List ℕ → List ℕ
-strip b l = if is_text_bit b then drop 1 l else l
+strip b l = if is_text_bit b then drop 1 l otherwise l
 
 -- the bytes of field b, none where its bit does not stand, and what it holds
 unfoldable pub part : List ℕ → ℕ → ℕ → ℕ → List ℕ
@@ -32,7 +32,7 @@ content s o m b = strip b (part s o m b)
 
 -- the number that a field holds, the low word of a longer one; of a text its length
 unfoldable pub value : ℕ → List ℕ → ℕ
-value b l = if is_text_bit b then length l else number (take 8 l)
+value b l = if is_text_bit b then length l otherwise number (take 8 l)
 
 -- ---- a record at o
 
@@ -52,4 +52,4 @@ shaped s o = leb (o + 5) (length s) && (bits_right (kind_at s o) (map_at s o) &&
 
 -- a field that stands is in its range
 unfoldable pub right_at : List ℕ → ℕ → ℕ → ℕ → Bool
-right_at s o m b = if bit m b then in_range (range b) (value b (content s o m b)) else true
+right_at s o m b = if bit m b then in_range (range b) (value b (content s o m b)) otherwise true

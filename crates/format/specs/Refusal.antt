@@ -1,6 +1,6 @@
 -- Whether bytes are a record, and why not: 3 for the shape of the whole, before 4 for a range. Rests on Places and Codes.
 use Rattle.std.specs.Prelude.{ℕ, List, Bool, true, ◌&&◌, length, eqb, leb}
-use Rattle.prelude.specs.Cases.{if◌then◌else◌}
+use Rattle.prelude.specs.Cases.{if◌then◌otherwise◌}
 use Rattle.prelude.specs.Below.{all_below}
 use Rattle.prelude.specs.Texts.{text_of}
 use Rattle.prelude.specs.declared.Text.{Text}
@@ -10,7 +10,7 @@ use Rattle.format.specs.Places.{content, kind_at, map_at, end_of, shaped, right_
 
 -- an order name is one
 unfoldable pub name_in : ℕ → Text → Bool
-name_in m t = if bit m 2 then is_name t else true
+name_in m t = if bit m 2 then is_name t otherwise true
 
 -- every field is in its range
 unfoldable pub ranged : List ℕ → ℕ → Bool
@@ -18,7 +18,7 @@ ranged s o = all_below (right_at s o (map_at s o)) 32 && name_in (map_at s o) (t
 
 -- 3 for the shape of the whole record, before 4 for a range
 abbrev pub refusal_by : Bool → Bool → ℕ
-refusal_by shape range = if shape then (if range then 0 else 4) else 3
+refusal_by shape range = if shape then (if range then 0 otherwise 4) otherwise 3
 
 unfoldable pub record_refusal : List ℕ → ℕ → ℕ
 record_refusal s o = refusal_by (shaped s o) (ranged s o)

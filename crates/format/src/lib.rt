@@ -1,5 +1,7 @@
 // The format of records, as far as no buffer is needed: code lists, order names, and the bits of each
 // kind. Rests on prelude and bits.
+#![tactic(auto)]
+
 ghost use Rattle.std.specs.Prelude.{◌≡◌, ◌<◌, ◌+◌};
 ghost use Rattle.format.specs.Codes.{in_map, is_side, is_ordtype, is_timeinforce, is_status, is_exectype, is_alnum, is_none, is_name};
 ghost use Rattle.format.specs.Format.{required, allowed, is_kind, joined, bits_right};

@@ -1,10 +1,12 @@
-// The entries of the gateway's book, for a host that calls them as C functions on byte slices:
+// The entries of the gateway's book, on byte slices; gateway_c lends them to a host as C functions:
 // `start` makes an empty book, `event` takes one record and writes the answer, `check` says whether a
 // book keeps its rules, `page` prints the evening page, `open_quantity` gives a client's open quantity,
 // `net_position` writes the net position's lines, `set_mark` marks the book and `return_to_mark` makes it
 // what it was then, `needs` gives what an event will need, `chain` writes the chain of a ClOrdID. Each
 // is total: whatever the bytes, it returns its number, and a refused call has written nothing. Rests on
 // step, outcomes, opens, records, store, page, net, marks, needs and chain.
+#![tactic(auto)]
+
 ghost use Rattle.std.specs.Prelude.{◌≡◌};
 ghost use Rattle.step.specs.Entries.{start_of, start_refusal, check_of, outcome, event_of};
 ghost use Rattle.page.specs.Page.{paged, page_call};
@@ -23,8 +25,7 @@ mod beside; // what goes beside the requests' fields, by value
 mod write; // a change written into the book
 
 // Makes an empty book: zeros but for the setting, the most ClOrdIDs that a client may use.
-#[unsafe(no_mangle)]
-pub extern "C" fn start(book: &mut [u8], setting: u32) -> u32
+pub fn start(book: &mut [u8], setting: u32) -> u32
     ensures { (result ≡ start_refusal book.old) × (book.new ≡ start_of book.old setting) }
 {
     if book.len() != layout::BOOK {
@@ -35,8 +36,7 @@ pub extern "C" fn start(book: &mut [u8], setting: u32) -> u32
 }
 
 // Takes the event in `record`: the book changes, and the answer stands at the start of `answer`.
-#[unsafe(no_mangle)]
-pub extern "C" fn event(book: &mut [u8], record: &[u8], answer: &mut [u8]) -> u32
+pub fn event(book: &mut [u8], record: &[u8], answer: &mut [u8]) -> u32
     ensures { outcome result book.new answer.new ≡ event_of book.old «record».now answer.old }
 {
     let c = step::call_of(book, record, answer.len());
@@ -58,8 +58,7 @@ pub extern "C" fn event(book: &mut [u8], record: &[u8], answer: &mut [u8]) -> u3
 }
 
 // Whether the book keeps its rules: 0, or 1.
-#[unsafe(no_mangle)]
-pub extern "C" fn check(book: &[u8]) -> u32
+pub fn check(book: &[u8]) -> u32
     ensures { result ≡ check_of book.now }
 {
     if opens::keeps(book) {
@@ -69,24 +68,21 @@ pub extern "C" fn check(book: &[u8]) -> u32
 }
 
 // Prints the evening page of the book to the front of `out`; the number is the page's length.
-#[unsafe(no_mangle)]
-pub extern "C" fn page(book: &[u8], out: &mut [u8]) -> Counted
+pub fn page(book: &[u8], out: &mut [u8]) -> Counted
     ensures { paged result out.new ≡ page_call book.now out.old }
 {
     page::page(book, out)
 }
 
 // The open quantity of a client: the sum of LeavesQty over its orders, 0 for one without orders.
-#[unsafe(no_mangle)]
-pub extern "C" fn open_quantity(book: &[u8], client: u16) -> Opened
+pub fn open_quantity(book: &[u8], client: u16) -> Opened
     ensures { result ≡ open_call book.now client }
 {
     opens::open_quantity(book, client)
 }
 
 // Writes a line for each client and symbol to the front of `lines`; the number is their count.
-#[unsafe(no_mangle)]
-pub extern "C" fn net_position(book: &[u8], scratch: &mut [u64], lines: &mut [u8]) -> Counted
+pub fn net_position(book: &[u8], scratch: &mut [u64], lines: &mut [u8]) -> Counted
     ensures { IsNet book.now scratch.old lines.old result scratch.new lines.new }
 {
     net::net_position(book, scratch, lines)
@@ -94,8 +90,7 @@ pub extern "C" fn net_position(book: &[u8], scratch: &mut [u64], lines: &mut [u8
 
 // Sets a mark in `places`: the name and an image of the book, in the first place of that name, else in
 // the first free one.
-#[unsafe(no_mangle)]
-pub extern "C" fn set_mark(book: &[u8], name: &[u8], places: &mut [u8]) -> u32
+pub fn set_mark(book: &[u8], name: &[u8], places: &mut [u8]) -> u32
     ensures { marked result book.now places.new ≡ set_mark_of book.now name.now places.old }
 {
     marks::set_mark(book, name, places)
@@ -103,8 +98,7 @@ pub extern "C" fn set_mark(book: &[u8], name: &[u8], places: &mut [u8]) -> u32
 
 // Returns to a mark: the book becomes the image of the first place of that name whose image keeps the
 // rules.
-#[unsafe(no_mangle)]
-pub extern "C" fn return_to_mark(book: &mut [u8], name: &[u8], places: &[u8]) -> u32
+pub fn return_to_mark(book: &mut [u8], name: &[u8], places: &[u8]) -> u32
     ensures { marked result book.new places.now ≡ return_of book.old name.now places.now }
 {
     marks::return_to_mark(book, name, places)
@@ -112,8 +106,7 @@ pub extern "C" fn return_to_mark(book: &mut [u8], name: &[u8], places: &[u8]) ->
 
 // What the event in `record` will need of an answer buffer of 1,024 bytes and of the book: its own
 // refusal, or the length of the answer, the records that it adds, and the fields of each message.
-#[unsafe(no_mangle)]
-pub extern "C" fn needs(book: &[u8], record: &[u8]) -> needs::Needs
+pub fn needs(book: &[u8], record: &[u8]) -> needs::Needs
     ensures { result ≡ needs_call book.now «record».now }
 {
     needs::needs_of(book, record)
@@ -121,8 +114,7 @@ pub extern "C" fn needs(book: &[u8], record: &[u8]) -> needs::Needs
 
 // Writes the chain of a client's ClOrdID back to the first to the front of `list`, 34 bytes for each
 // request; the number is their count, 0 for a name that the client never used.
-#[unsafe(no_mangle)]
-pub extern "C" fn chain(book: &[u8], client: u16, name: &[u8], list: &mut [u8]) -> Counted
+pub fn chain(book: &[u8], client: u16, name: &[u8], list: &mut [u8]) -> Counted
     ensures { chained result list.new ≡ chain_call book.now client name.now list.old }
 {
     chain::chain(book, client, name, list)

@@ -1,6 +1,6 @@
 // A change written into the book's bytes. Rests on store.
 ghost use Rattle.std.specs.Prelude.{◌≡◌, eqb};
-ghost use Rattle.prelude.specs.Cases.{if◌then◌else◌};
+ghost use Rattle.prelude.specs.Cases.{if◌then◌otherwise◌};
 ghost use Rattle.store.specs.Book.{store_open};
 ghost use Rattle.step.specs.Entries.{place_order, mark_link, place_requests};
 
@@ -46,7 +46,7 @@ pub(crate) fn place_requests(book: &mut [u8], outcome: u8, origin: u16, r: Reque
 
 // The open quantity of the client of the order at `place`, 0 for none, goes to its word.
 pub(crate) fn place_open(book: &mut [u8], place: u16, opening: Word)
-    ensures { book.new ≡ (if eqb place 0 then book.old else store_open book.old opening.at opening.quantity) }
+    ensures { book.new ≡ (if eqb place 0 then book.old otherwise store_open book.old opening.at opening.quantity) }
 {
     if place == 0 {
         return;

@@ -1,6 +1,8 @@
 // src/book/gateway_cancel.rs: the gateway cancelling an order itself, as functions over structs by
 // value. Each equals its definition in machine's GatewayCancel; `tries` alone lends a record, a
 // gateway cancel, by `&mut`. Rests on orders.
+#![tactic(auto)]
+
 ghost use Rattle.std.specs.Prelude.{◌≡◌};
 ghost use Rattle.machine.specs.GatewayCancel.{outstanding_cancel, gateway_cancel_in_flight, begun, try_sent, given_up, send_gateway_cancel, cancel_order, gateway_cancel_waiting, resume_gateway_cancel, stuck, retry_gateway_cancel, says_gone, gateway_cancel_refused};
 

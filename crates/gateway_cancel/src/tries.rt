@@ -1,6 +1,6 @@
 // The tries of a gateway cancel, changed through a reference to its record: a try goes out (`send`),
 // and its send has failed (`fail`). Above each step stands a function that takes and gives the
-// record by value. The four are proved by hand; their callers need no such proof. Rests on orders.
+// record by value. Rests on orders.
 ghost use Rattle.std.specs.Prelude.{◌≡◌};
 ghost use Rattle.machine.specs.Amend.{send_refused};
 ghost use Rattle.gateway_cancel.specs.Tries.{sent_once};

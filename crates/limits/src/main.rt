@@ -1,5 +1,8 @@
 // The book's limits, run through `event`: how many bookings are taken before one gets 7, and how many
 // requests, and what an event that adds none gets then. Rests on gateway.
+#![tactic(auto)]
+
+use std::io;
 
 // A booking of order Nab by client 1: ClOrdID Cab, symbol S, buy 100 at 10.
 fn booking(i: u8) -> [u8; 37] {
@@ -69,43 +72,41 @@ fn cancels(book: &mut [u8]) -> u16 {
     i
 }
 
-fn say(what: &[u8], n: u64) {
-    io::write_all(1, what);
-    io::print_decimal(1, n);
-    io::write_all(1, b"\n");
+fn say(rt: &impl Print, what: &str, n: u64) -> io::Result<()> {
+    println!(rt; "{what}: {n}")
 }
 
-fn say_booking(book: &mut [u8], what: &[u8], i: u8) {
+fn say_booking(rt: &impl Print, book: &mut [u8], what: &str, i: u8) -> io::Result<()> {
     let r = booking(i);
     let refusal = taken(book, &r);
-    say(what, refusal as u64);
+    say(rt, what, refusal as u64)
 }
 
-fn say_cancel(book: &mut [u8], i: u16) {
+fn say_cancel(rt: &impl Print, book: &mut [u8], i: u16) -> io::Result<()> {
     let r = cancel(i);
     let refusal = taken(book, &r);
-    say(b"another cancel: ", refusal as u64);
+    say(rt, "another cancel", refusal as u64)
 }
 
-fn say_report(book: &mut [u8]) {
+fn say_report(rt: &impl Print, book: &mut [u8]) -> io::Result<()> {
     let r = report();
     let refusal = taken(book, &r);
-    say(b"a report: ", refusal as u64);
+    say(rt, "a report", refusal as u64)
 }
 
-fn main() {
-    let mut book = io::large_buffer();
-    let full = gateway::start(&mut book, 10000);
+fn main(rt: HostRuntime) -> io::Result<()> {
+    let mut book = [0u8; 65536];
+    let _ = gateway::start(&mut book, 10000);
     let orders = bookings(&mut book);
-    say(b"bookings taken: ", orders as u64);
-    say_booking(&mut book, b"another booking: ", 65);
-    say_cancel(&mut book, 0);
-    let again = gateway::start(&mut book, 10000);
-    say_booking(&mut book, b"a booking: ", 0);
+    say(&rt, "bookings taken", orders as u64)?;
+    say_booking(&rt, &mut book, "another booking", 65)?;
+    say_cancel(&rt, &mut book, 0)?;
+    let _ = gateway::start(&mut book, 10000);
+    say_booking(&rt, &mut book, "a booking", 0)?;
     let requests = cancels(&mut book);
-    say(b"cancels taken: ", requests as u64);
-    say_cancel(&mut book, 990);
-    say_booking(&mut book, b"a booking: ", 1);
-    say_report(&mut book);
-    say(b"check: ", gateway::check(&book) as u64);
+    say(&rt, "cancels taken", requests as u64)?;
+    say_cancel(&rt, &mut book, 990)?;
+    say_booking(&rt, &mut book, "a booking", 1)?;
+    say_report(&rt, &mut book)?;
+    say(&rt, "check", gateway::check(&book) as u64)
 }

@@ -4,7 +4,7 @@ use mathlib.Core.Path.{◌≡◌, refl, sym, ap, ◌∙◌}
 use mathlib.Core.Bool.{Bool, true, false, not, ◌&&◌, ◌||◌}
 use lib.Dec.{eqb}
 use borrow.Author.Tests.{eqb-true}
-use Rattle.prelude.specs.Cases.{if◌then◌else◌, split_if, if_false, both_true}
+use Rattle.prelude.specs.Cases.{if◌then◌otherwise◌, split_if, if_false, both_true}
 use Rattle.format.specs.Codes.{pending_new, new, partially_filled, pending_cancel, pending_replace, rejected, done_for_day, exec_status, exec_rejected}
 use Rattle.store.specs.declared.Order.{Order}
 use Rattle.store.specs.declared.Request.{Request}
@@ -22,10 +22,10 @@ use Rattle.machine.specs.DoneForDay.{Stands, TakenAs, asked_report, asked_order,
 
 left : (s qty cumqty : ℕ) → is_done s ≡ false → eqb s done_for_day ≡ false → leaves_of s qty cumqty ≡ qty - cumqty
 unfolding leaves_of
-left s qty cumqty a b = rw (a, b) (unfold if◌then◌else◌ in refl)
+left s qty cumqty a b = rw (a, b) (unfold if◌then◌otherwise◌ in refl)
 
 pub stands : Stands
-unfolding is_done leaves_of set_status status_at unless_short is_short if◌then◌else◌
+unfolding is_done leaves_of set_status status_at unless_short is_short if◌then◌otherwise◌
 stands = record { live = refl; leaves = λ qty cumqty. refl; others = left; set = λ o. refl }
 
 -- ---- as it is asked
@@ -41,18 +41,18 @@ tested t a b cumqty s =
 
 as_above : (cumqty : ℕ) → eqb cumqty 0 ≡ false → as_asked cumqty done_for_day ≡ partially_filled
 unfolding as_asked
-as_above cumqty a = rw a (unfold if◌then◌else◌ in refl)
+as_above cumqty a = rw a (unfold if◌then◌otherwise◌ in refl)
 
 pub taken_as : TakenAs
 unfolding as_asked
-taken_as = record { zero = unfold if◌then◌else◌ in refl; above = as_above; others = λ cumqty s a. if_false _ _ _ a }
+taken_as = record { zero = unfold if◌then◌otherwise◌ in refl; above = as_above; others = λ cumqty s a. if_false _ _ _ a }
 
 -- asked again it is the same
 again : (cumqty s : ℕ) → as_asked cumqty (as_asked cumqty s) ≡ as_asked cumqty s
 unfolding as_asked
 again cumqty s =
     split_if (λ (n : ℕ). as_asked cumqty n ≡ n) (eqb s done_for_day)
-    (λ y. split_if (λ (n : ℕ). as_asked cumqty n ≡ n) (eqb cumqty 0) (λ z. unfold if◌then◌else◌ in refl) (λ z. unfold if◌then◌else◌ in refl))
+    (λ y. split_if (λ (n : ℕ). as_asked cumqty n ≡ n) (eqb cumqty 0) (λ z. unfold if◌then◌otherwise◌ in refl) (λ z. unfold if◌then◌otherwise◌ in refl))
     (λ y. if_false _ _ _ y)
 
 unknown : (e : Event) → says_unknown_at_venue e ≡ says_unknown_at_venue (asked_report e)
@@ -76,8 +76,8 @@ stale_asked k q o e = rw (behind_asked k q o e)
 abbrev taking : ℕ → Order → Event → ℕ → Bool
 taking k o e s = pending_here k o && not (is_rejection e) && (not (eqb s 0) && not (eqb s pending_replace))
 
-taking_asked : (k : ℕ) (o : Order) (e : Event) (b : Bool) → taking k o e (if b then 0 else e.exec.status) ≡ taking k o e (if b then 0 else as_asked e.exec.cumqty e.exec.status)
-unfolding if◌then◌else◌
+taking_asked : (k : ℕ) (o : Order) (e : Event) (b : Bool) → taking k o e (if b then 0 otherwise e.exec.status) ≡ taking k o e (if b then 0 otherwise as_asked e.exec.cumqty e.exec.status)
+unfolding if◌then◌otherwise◌
 taking_asked k o e true = refl
 taking_asked k o e false = tested (taking k o e) refl refl e.exec.cumqty e.exec.status
 

@@ -7,7 +7,7 @@ use mathlib.Core.Logic.{◌⊎◌, inl, inr}
 use mathlib.Core.Bool.{Bool, true, false, not, ◌&&◌, ◌||◌}
 use lib.Dec.{eqb, ltb}
 use borrow.Author.Tests.{eqb-true, ltb-false, leb-false, not-false, not-true}
-use Rattle.prelude.specs.Cases.{if◌then◌else◌, split_if, clash, both_true, either_false, if_false}
+use Rattle.prelude.specs.Cases.{if◌then◌otherwise◌, split_if, clash, both_true, either_false, if_false}
 use Rattle.store.specs.declared.Order.{Order}
 use Rattle.store.specs.declared.Request.{Request}
 use Rattle.store.specs.Requests.{no_request}
@@ -40,7 +40,7 @@ says m a = record { count = 1; first = m; second = no_message; alarm = a; alarm2
 
 -- the gateway cannot cancel the order: its alarm, behind the one that is there
 abbrev pub stuck_behind : (alarm : ℕ) → Output
-stuck_behind a = record { count = 0; first = no_message; second = no_message; alarm = if eqb a 0 then stuck_cancel else a; alarm2 = if eqb a 0 then 0 else stuck_cancel }
+stuck_behind a = record { count = 0; first = no_message; second = no_message; alarm = if eqb a 0 then stuck_cancel otherwise a; alarm2 = if eqb a 0 then 0 otherwise stuck_cancel }
 
 -- the order that is left, the links of the requests answered and superseded, and what is put out. No request is added.
 abbrev pub left : (place : ℕ) → Order → (answered superseded : ℕ) → Output → Change
@@ -59,7 +59,7 @@ module _ (k : ℕ) (q : Request) (o : Order) (e : Event) where
 
   -- what refuses the request
   pub data From : Refused → Type 0 where
-    by_report : From (record { status = if eqb e.exec.status rejected then 0 else e.exec.status; venueorderid = e.ids.venueorderid; note = text_note e })
+    by_report : From (record { status = if eqb e.exec.status rejected then 0 otherwise e.exec.status; venueorderid = e.ids.venueorderid; note = text_note e })
     by_reject : From (record { status = e.exec.status; venueorderid = e.ids.venueorderid; note = venue_note e })
     by_failure : {n : Note} → Failure n → From (record { status = o.state.status; venueorderid = no_text; note = n })
 
@@ -165,7 +165,7 @@ status_told o e = report (next_exec o) e.ids.clordid e.ids.origclordid exec_stat
 -- a refusal of ours, told
 abbrev pub refusal_told : (place responseto : ℕ) → Order → Event → Refusal → Message
 refusal_told p responseto o e r =
-    cancel_reject e.client o.names.name (if eqb p 0 then rejected else o.state.status) e.ids.clordid e.ids.origclordid responseto
+    cancel_reject e.client o.names.name (if eqb p 0 then rejected otherwise o.state.status) e.ids.clordid e.ids.origclordid responseto
     (record { text = no_long_text; fixedtext = r.fixedtext; reason = r.reason; origin = ours })
 
 module _ (order : ℕ) (full : Bool) (o : Order) (e : Event) (p : ℕ) (x : Request) (m n : ℕ) where
@@ -193,8 +193,8 @@ pub not_kind : (e : Event) (n m : ℕ) → eqb e.kind n ≡ true → eqb n m ≡
 not_kind e n m k z = ap (λ (x : ℕ). eqb x m) (eqb-true e.kind n k) ∙ z
 
 module _ {A : Type 0} (R : A → A → Type 0) where
-  pub split_two : (b : Bool) {x y x' y' : A} → (b ≡ true → R x x') → (b ≡ false → R y y') → R (if b then x else y) (if b then x' else y')
-  unfolding if◌then◌else◌
+  pub split_two : (b : Bool) {x y x' y' : A} → (b ≡ true → R x x') → (b ≡ false → R y y') → R (if b then x otherwise y) (if b then x' otherwise y')
+  unfolding if◌then◌otherwise◌
   split_two true f g = f refl
   split_two false f g = g refl
 
@@ -254,9 +254,9 @@ module _ (k : ℕ) (q : Request) (o : Order) (e : Event) (p : ℕ) (x : Request)
       (λ first. split_two N _ (λ z. none)
       (λ there. split_two N _ (λ z. none)
       (λ un. let u : Open k q o e = record { later = first; there = not-false _ there; unanswered = un } in
-      split_two N _ (λ g. unfold alarming answering unchanged if◌then◌else◌ in quietly (gone w u (both_true (is_gateway q) _ g).0))
-      (λ z. split_two N _ (λ g. unfold alarming answering unchanged if◌then◌else◌ in gateway_made r.note w u g)
-      (λ g. unfold telling alarming answering unchanged if◌then◌else◌ in quietly (told w u g))))))
+      split_two N _ (λ g. unfold alarming answering unchanged if◌then◌otherwise◌ in quietly (gone w u (both_true (is_gateway q) _ g).0))
+      (λ z. split_two N _ (λ g. unfold alarming answering unchanged if◌then◌otherwise◌ in gateway_made r.note w u g)
+      (λ g. unfold telling alarming answering unchanged if◌then◌otherwise◌ in quietly (told w u g))))))
     where
       none : N (unchanged p o) (unchanged p o)
       none = unfold unchanged in quietly still
@@ -277,7 +277,7 @@ module _ (k : ℕ) (q : Request) (o : Order) (e : Event) (p : ℕ) (x : Request)
   -- ---- reports
 
   here : (a : ℕ) → a ≤ most_alarm → M (alarming a (unchanged p o)) (alarming a (unchanged p o))
-  unfolding alarming unchanged if◌then◌else◌
+  unfolding alarming unchanged if◌then◌otherwise◌
   here a l = stays (alarms a l)
 
   none : M (unchanged p o) (unchanged p o)
@@ -299,11 +299,11 @@ module _ (k : ℕ) (q : Request) (o : Order) (e : Event) (p : ℕ) (x : Request)
   Aloud c = Quiet (telling (client_report (answers_request k q o) (e.exec.cumqty - o.state.cumqty) q (fill_price_of o e) (next_exec (reported k q o e)) e) c)
 
   quiet : Applied k q o e → e.exec.cumqty ≡ o.state.cumqty → (j s : ℕ) → Settles k q o e j s → Quiet (left p (reported k q o e) j s (calm 0))
-  unfolding alarming if◌then◌else◌
+  unfolding alarming if◌then◌otherwise◌
   quiet a z j s t = stays (applies a z t)
 
   aloud : Applied k q o e → (j s : ℕ) → Settles k q o e j s → Aloud (left p (next_exec (reported k q o e)) j s (calm 0))
-  unfolding alarming telling if◌then◌else◌
+  unfolding alarming telling if◌then◌otherwise◌
   aloud a j s t = stays (informs a t)
 
   apply_made : Applied k q o e → M (alarming (reported_alarm k q o e) (apply_report f k q o e)) (alarming (reported_alarm k q o e) (apply_report f' k q o e))
@@ -350,7 +350,7 @@ module _ (k : ℕ) (q : Request) (o : Order) (e : Event) (p : ℕ) (x : Request)
       (λ g. unfold answering unchanged in rests (fell (not-false _ there) g (other_false (is_gateway q) (is_answered q) g a) (not-false _ (other_false (is_gateway q) _ g h))))
       (λ g. split_two F _ (λ t. client_failed g (refuse_made (by_failure w)))
       (λ t. split_two F _ (λ z. same)
-      (λ z. unfold telling answering unchanged if◌then◌else◌ in rests (ended w (not-false _ t) g (not-false _ (either_false (is_answered q) _ z).1))))))))
+      (λ z. unfold telling answering unchanged if◌then◌otherwise◌ in rests (ended w (not-false _ t) g (not-false _ (either_false (is_answered q) _ z).1))))))))
     where
       same : F (unchanged p o) (unchanged p o)
       same = unfold unchanged in rests unfailed
@@ -368,9 +368,9 @@ module _ (k : ℕ) (q : Request) (o : Order) (e : Event) (p : ℕ) (x : Request)
   unsent_resends : G (unsent f k q e.venue o) (unsent f' k q e.venue o)
   unfolding unsent
   unsent_resends =
-      split_two G _ (λ h. unfold telling unchanged if◌then◌else◌ in rests new_again)
-      (λ h. split_two G (resendable q e.venue o && is_cancel q) (λ t. unfold telling unchanged if◌then◌else◌ in rests (cancel_again (both_true (resendable q e.venue o) _ t).1))
-      (λ t. split_two G _ (λ u. unfold telling unchanged if◌then◌else◌ in rests (replace_again (both_true (resendable q e.venue o && is_replace q) _ u).1))
+      split_two G _ (λ h. unfold telling unchanged if◌then◌otherwise◌ in rests new_again)
+      (λ h. split_two G (resendable q e.venue o && is_cancel q) (λ t. unfold telling unchanged if◌then◌otherwise◌ in rests (cancel_again (both_true (resendable q e.venue o) _ t).1))
+      (λ t. split_two G _ (λ u. unfold telling unchanged if◌then◌otherwise◌ in rests (replace_again (both_true (resendable q e.venue o && is_replace q) _ u).1))
       (λ u. failing_again t (failed_fails not_sent))))
 
   pub failed_made : eqb e.kind 7 ≡ true → M (send_failed f k q e.venue (text_note e) o) (send_failed f' k q e.venue (text_note e) o)
@@ -404,14 +404,14 @@ module _ (order : ℕ) (full : Bool) (o : Order) (e : Event) (p : ℕ) (x : Requ
   pub cancel_made : eqb e.kind 2 ≡ true → D (cancel (findings p x m) order full o e) (cancel (findings p x n) order full o e)
   unfolding cancel already_taken amend_refusal cancel_refusal gateway_cancel_in_flight outstanding_cancel redelivered_report refuse
   cancel_made z =
-      split_two D _ (λ h. unfold telling unchanged if◌then◌else◌ in repeated h)
-      (λ h. split_two D _ (λ t. unfold telling unchanged if◌then◌else◌ in turned of_cancel t) (cancel_sent z))
+      split_two D _ (λ h. unfold telling unchanged if◌then◌otherwise◌ in repeated h)
+      (λ h. split_two D _ (λ t. unfold telling unchanged if◌then◌otherwise◌ in turned of_cancel t) (cancel_sent z))
 
   pub replace_made : D (replace (findings p x m) order full o e) (replace (findings p x n) order full o e)
   unfolding replace already_taken amend_refusal replace_refusal gateway_cancel_in_flight outstanding_cancel redelivered_report refuse
   replace_made =
-      split_two D _ (λ h. unfold telling unchanged if◌then◌else◌ in repeated h)
-      (λ h. split_two D _ (λ t. unfold telling unchanged if◌then◌else◌ in turned of_replace t) (λ t. split_two D _ (λ u. unpriced t) (λ u. replace_sent t (not-false _ u))))
+      split_two D _ (λ h. unfold telling unchanged if◌then◌otherwise◌ in repeated h)
+      (λ h. split_two D _ (λ t. unfold telling unchanged if◌then◌otherwise◌ in turned of_replace t) (λ t. split_two D _ (λ u. unpriced t) (λ u. replace_sent t (not-false _ u))))
 
 -- ---- a property of the order that is left, and of the links: P of two changes, by S of the order
 

@@ -5,14 +5,14 @@ use native.Mathlib.Decide.{dec_lt}
 use native.Mathlib.Omega.{arith}
 use mathlib.Core.Path.{◌≡◌, refl, sym, ap, subst, ◌∙◌}
 use mathlib.Core.Logic.{◌⊎◌, inl, inr}
-use mathlib.Core.Bool.{true, false, ◌&&◌}
+use mathlib.Core.Bool.{true, false}
 use mathlib.Core.List.{List, [], ◌∷◌, ◌++◌}
 use lib.Dec.{eqb, leb, ltb}
 use lib.ListN.{length, get_or, take, replicate, length-take, get_or-eq_default}
 use lib.Seq.{ext_get_or, get_or-take, length-take-le}
 use borrow.Author.Tests.{eqb-true, eq-eqb, leb-true, le-leb, le-ltb, ltb-true, ltb-false}
 use Rattle.prelude.specs.Below.{all_below, all_elim, all_intro}
-use Rattle.prelude.specs.Cases.{if◌then◌else◌, split_if, clash, both_true, both_hold, either_true, true_or_false}
+use Rattle.prelude.specs.Cases.{split_if, clash, both_true, both_hold, either_true, true_or_false}
 use Rattle.prelude.specs.Texts.{contents, text_of, is_text, filled_at, agree_at, same_text, same_text_lem, WholeText}
 use Rattle.prelude.specs.declared.Text.{Text}
 use Rattle.format.specs.Codes.{is_alnum, alnum_at, is_name, within}

@@ -8,7 +8,7 @@ use mathlib.Core.Option.{none, some}
 use lib.Dec.{eqb, leb}
 use lib.ListN.{length}
 use borrow.Author.Tests.{eqb-true, eqb-false, not-false}
-use Rattle.prelude.specs.Cases.{if◌then◌else◌, split_if, split_maybe}
+use Rattle.prelude.specs.Cases.{if◌then◌otherwise◌, split_if, split_maybe}
 use Rattle.store.specs.declared.Order.{Order}
 use Rattle.store.specs.declared.Request.{Request}
 use Rattle.store.specs.Book.{Book, order_in, request_in}
@@ -53,7 +53,7 @@ pub record Ways (P : Change → Type 0) (b : Book) (e : Event) : Type 0 where
   pub asks : ByName e → (i : ℕ) → find_name b e.ids.name ≡ some i → (c c' : Change) → AskedBy (findings_of b (i + 1)) (order_in b i) c c' → P c
 
 none_at : (b : Book) → no_order ≡ order_at_link b 0
-unfolding order_at_link if◌then◌else◌
+unfolding order_at_link if◌then◌otherwise◌
 none_at b = refl
 
 past : (n k : ℕ) → eqb k (suc n) ≡ false → n < k → suc n < k

@@ -1,11 +1,10 @@
 -- src/book/amend.rs: cancels and replaces, what refuses them, and sends that failed. Rests on GatewayCancel.
-use Rattle.std.specs.Prelude.{ℕ, ◌+◌, ◌-◌, ◌/◌, ◌%◌, ◌^◌, Bool, true, false, not, ◌&&◌, ◌||◌, List, [], ◌∷◌, eqb, leb, ltb}
+use Rattle.std.specs.Prelude.{ℕ, ◌+◌, ◌-◌, Bool, true, false, not, ◌&&◌, ◌||◌, eqb, leb, ltb}
 use Rattle.std.proofs.Math.Option.{Option, none, some}
 use Rattle.bits.specs.Map.{bit}
-use Rattle.prelude.specs.Cases.{if◌then◌else◌, maybe}
+use Rattle.prelude.specs.Cases.{if◌then◌otherwise◌}
 use Rattle.prelude.specs.Texts.{same_text}
 use Rattle.prelude.specs.declared.Terms.{Terms}
-use Rattle.prelude.specs.declared.Text.{Text}
 use Rattle.store.specs.declared.GatewayCancel.{GatewayCancel}
 use Rattle.store.specs.declared.Pending.{Pending}
 use Rattle.store.specs.declared.Order.{Order}
@@ -13,10 +12,10 @@ use Rattle.store.specs.declared.Request.{Request}
 use Rattle.text.specs.Words.{no_text}
 use Rattle.machine.specs.Constants.{cancel_kind, replace_kind, too_late, unknown, already_pending, duplicate, other, ours, venues, text_cancelling, text_replace_pending, text_below_filled, text_blocked, text_duplicate, text_unknown_order, text_done, text_too_many, text_side_or_symbol, text_rejected, text_not_sent}
 use Rattle.format.specs.Codes.{pending_new, new, partially_filled, pending_cancel, pending_replace, rejected, exec_rejected, exec_status, limit}
-use Rattle.machine.specs.Orders.{one_more, has_pending, has_gateway, limit_price, is_done, short_alarm, set_status, record_venue_order_id, pending_terms, next_exec, with_pending, with_gateway, is_empty}
+use Rattle.machine.specs.Orders.{one_more, has_pending, has_gateway, limit_price, is_done, short_alarm, set_status, record_venue_order_id, pending_terms, next_exec, with_pending, with_gateway}
 use Rattle.store.specs.Orders.{no_pending}
 use Rattle.machine.specs.Messages.{no_price, report, cancel_reject, new_order, cancel_request, replace_request, no_note, no_long_text}
-use Rattle.machine.specs.Changes.{Event, unchanged, refusing, with_order, answering, adding, telling, alarming, is_first, is_replace, is_gateway, is_cancel, is_answered, next_link, next_downstream, next_request, numbered_order}
+use Rattle.machine.specs.Changes.{Event, unchanged, refusing, answering, adding, telling, alarming, is_first, is_replace, is_gateway, is_cancel, is_answered, next_link, next_downstream, next_request, numbered_order}
 use Rattle.machine.specs.GatewayCancel.{gateway_cancel_in_flight, gateway_cancel_refused, resume_gateway_cancel}
 use Rattle.machine.specs.declared.Findings.{Findings}
 use Rattle.machine.specs.declared.Note.{Note}
@@ -47,17 +46,17 @@ matches o e = eqb o.terms.side e.terms.side && same_text o.names.symbol e.ids.sy
 unfoldable pub amend_refusal : Findings → (order : ℕ) (full : Bool) → Order → Event → Refusal → Refusal
 amend_refusal f order full o e own =
     if not (eqb order 0) then refusal duplicate text_duplicate
-    else if eqb f.place 0 then refusal unknown text_unknown_order
-    else if is_done o.state.status then refusal too_late text_done
-    else if full then refusal other text_too_many
-    else if not (matches o e) then refusal other text_side_or_symbol
-    else own
+    otherwise if eqb f.place 0 then refusal unknown text_unknown_order
+    otherwise if is_done o.state.status then refusal too_late text_done
+    otherwise if full then refusal other text_too_many
+    otherwise if not (matches o e) then refusal other text_side_or_symbol
+    otherwise own
 
 -- a refusal of ours, told to the client. Where there is no order its status is Rejected.
 unfoldable pub refuse : Findings → (responseto : ℕ) → Order → Event → Refusal → Change
 refuse f responseto o e r =
     telling
-    (cancel_reject e.client o.names.name (if eqb f.place 0 then rejected else o.state.status) e.ids.clordid e.ids.origclordid responseto
+    (cancel_reject e.client o.names.name (if eqb f.place 0 then rejected otherwise o.state.status) e.ids.clordid e.ids.origclordid responseto
     (record { text = no_long_text; fixedtext = r.fixedtext; reason = r.reason; origin = ours }))
     (unchanged f.place o)
 
@@ -75,8 +74,8 @@ abbrev pub amendable : Findings → (responseto order : ℕ) (full : Bool) → O
 amendable f responseto order full o e own goes =
     let r = amend_refusal f order full o e own in
     if already_taken f order e then redelivered_report f o e
-    else if not (eqb r.fixedtext 0) then refuse f responseto o e r
-    else goes
+    otherwise if not (eqb r.fixedtext 0) then refuse f responseto o e r
+    otherwise goes
 
 -- `number`: the request is recorded under the order's next numbered downstream ClOrdID, and the order is left as given
 abbrev pub number : Findings → (kind : ℕ) → Order → Event → (left : Order) → Change
@@ -85,7 +84,7 @@ number f kind o e left = adding (next_request f o kind e.ids.clordid e.ids.origc
 -- ---- `cancel`
 
 unfoldable pub cancel_refusal : Findings → Order → Refusal
-cancel_refusal f o = if gateway_cancel_in_flight f o then refusal already_pending text_cancelling else passes
+cancel_refusal f o = if gateway_cancel_in_flight f o then refusal already_pending text_cancelling otherwise passes
 
 -- the cancel goes out
 unfoldable pub cancel_goes : Findings → Order → Event → Change
@@ -100,10 +99,10 @@ cancel f order full o e = amendable f cancel_kind order full o e (cancel_refusal
 
 -- `ord_type.unwrap_or(..)`, `time_in_force.or(..)`: what the event does not name is the order's
 unfoldable pub or_own : (given own : ℕ) → ℕ
-or_own given own = if eqb given 0 then own else given
+or_own given own = if eqb given 0 then own otherwise given
 
 unfoldable pub price_of : Event → Option ℕ
-price_of e = if has e 10 then some e.terms.price else none
+price_of e = if has e 10 then some e.terms.price otherwise none
 
 -- two prices, or none, that are the same
 abbrev pub same_price : Option ℕ → Option ℕ → Bool
@@ -114,23 +113,23 @@ same_price (some p) (some q) = eqb p q
 
 -- the text of a verdict: 11 more, or the last text at the top of the field's range, which the format keeps away
 unfoldable pub verdict_text : ℕ → ℕ
-verdict_text v = if ltb v 244 then 11 + v else 255
+verdict_text v = if ltb v 244 then 11 + v otherwise 255
 
 -- `check_replace`: the verdict that the event brings, passed over where no risk is added
 unfoldable pub check_replace : Order → Event → Refusal
 check_replace o e =
     if same_price (limit_price (or_own e.terms.ordtype o.terms.ordtype) (price_of e)) (limit_price o.terms.ordtype (some o.terms.price))
     && leb e.terms.qty o.terms.qty then passes
-    else if eqb e.verdict 0 then passes
-    else refusal other (verdict_text e.verdict)
+    otherwise if eqb e.verdict 0 then passes
+    otherwise refusal other (verdict_text e.verdict)
 
 unfoldable pub replace_refusal : Findings → Order → Event → Refusal
 replace_refusal f o e =
     if gateway_cancel_in_flight f o then refusal already_pending text_cancelling
-    else if has_pending o then refusal already_pending text_replace_pending
-    else if ltb e.terms.qty o.state.cumqty then refusal other text_below_filled
-    else if ltb o.terms.qty e.terms.qty && has e 22 then refusal other text_blocked
-    else check_replace o e
+    otherwise if has_pending o then refusal already_pending text_replace_pending
+    otherwise if ltb e.terms.qty o.state.cumqty then refusal other text_below_filled
+    otherwise if ltb o.terms.qty e.terms.qty && has e 22 then refusal other text_blocked
+    otherwise check_replace o e
 
 -- the terms that the replace asks for
 unfoldable pub new_terms : Order → Event → Terms
@@ -144,7 +143,7 @@ new_terms o e = record {
 
 -- question 6: a price exactly where the type is limit
 unfoldable pub priced_right : (ordtype : ℕ) → Event → Bool
-priced_right ordtype e = if eqb ordtype limit then has e 10 else not (has e 10)
+priced_right ordtype e = if eqb ordtype limit then has e 10 otherwise not (has e 10)
 
 unfoldable pub new_pending : Findings → Terms → Pending
 new_pending f t = record { request = next_link f; qty = t.qty; price = t.price; ordtype = t.ordtype; timeinforce = t.timeinforce }
@@ -158,7 +157,7 @@ replace_goes f o e =
 unfoldable pub replace : Findings → (order : ℕ) (full : Bool) → Order → Event → Change
 replace f order full o e =
     amendable f replace_kind order full o e (replace_refusal f o e)
-    (if not (priced_right (or_own e.terms.ordtype o.terms.ordtype) e) then refusing 6 else replace_goes f o e)
+    (if not (priced_right (or_own e.terms.ordtype o.terms.ordtype) e) then refusing 6 otherwise replace_goes f o e)
 
 -- ---- `refuse_request`
 
@@ -166,29 +165,29 @@ replace f order full o e =
 unfoldable pub not_pending : Order → Order
 not_pending o =
     if eqb o.state.status pending_cancel || eqb o.state.status pending_replace
-    then set_status (if ltb 0 o.state.cumqty then partially_filled else new) o
-    else o
+    then set_status (if ltb 0 o.state.cumqty then partially_filled otherwise new) o
+    otherwise o
 
 -- the order once its request k is refused: done stays done
 unfoldable pub refused_order : ℕ → Refused → Order → Order
 refused_order k r o =
     let named = record_venue_order_id r.venueorderid false o in
-    let o' = with_pending (if eqb o.pending.request k then no_pending else o.pending) named in
+    let o' = with_pending (if eqb o.pending.request k then no_pending otherwise o.pending) named in
     if is_done o.state.status then o'
-    else if not (eqb r.status 0) then set_status r.status o'
-    else not_pending o'
+    otherwise if not (eqb r.status 0) then set_status r.status o'
+    otherwise not_pending o'
 
 -- a short Filled that would be set
 unfoldable pub refused_alarm : Refused → Order → ℕ
-refused_alarm r o = if is_done o.state.status then 0 else short_alarm o.terms.qty o.state.cumqty r.status
+refused_alarm r o = if is_done o.state.status then 0 otherwise short_alarm o.terms.qty o.state.cumqty r.status
 
 -- what the client is told: the text that came, or that the venue rejected it; the venue's reason, or Other
 unfoldable pub refused_note : Note → Note
 refused_note n = record {
   text = n.text;
-  fixedtext = if eqb n.text.len 0 && eqb n.fixedtext 0 then text_rejected else n.fixedtext;
-  reason = if eqb n.origin 0 then other else n.reason;
-  origin = if eqb n.origin 0 then ours else n.origin;
+  fixedtext = if eqb n.text.len 0 && eqb n.fixedtext 0 then text_rejected otherwise n.fixedtext;
+  reason = if eqb n.origin 0 then other otherwise n.reason;
+  origin = if eqb n.origin 0 then ours otherwise n.origin;
 }
 
 unfoldable pub refuse_request : Findings → ℕ → Request → (venue : ℕ) → Refused → Order → Change
@@ -196,16 +195,16 @@ refuse_request f k q venue r o =
     let o' = refused_order k r o in
     let c = alarming (refused_alarm r o) (answering k (unchanged f.place o')) in
     if is_first q then unchanged f.place o
-    else if not (eqb o.venue venue) then unchanged f.place o
-    else if is_answered q then unchanged f.place o
-    else if is_gateway q && not (eqb o.links.cancel k) then c
-    else if is_gateway q then gateway_cancel_refused f r.note c
-    else telling (cancel_reject o.client o.names.name o'.state.status q.clordid q.origclordid q.kind (refused_note r.note)) c
+    otherwise if not (eqb o.venue venue) then unchanged f.place o
+    otherwise if is_answered q then unchanged f.place o
+    otherwise if is_gateway q && not (eqb o.links.cancel k) then c
+    otherwise if is_gateway q then gateway_cancel_refused f r.note c
+    otherwise telling (cancel_reject o.client o.names.name o'.state.status q.clordid q.origclordid q.kind (refused_note r.note)) c
 
 -- ---- `venue_cancel_reject`, of a request that the book knows
 
 unfoldable pub venue_note : Event → Note
-venue_note e = record { text = e.text; fixedtext = 0; reason = e.reason; origin = if has e 19 then venues else 0 }
+venue_note e = record { text = e.text; fixedtext = 0; reason = e.reason; origin = if has e 19 then venues otherwise 0 }
 
 unfoldable pub venue_cancel_reject : Findings → ℕ → Request → Order → Event → Change
 venue_cancel_reject f k q o e =
@@ -235,12 +234,12 @@ first_failed f k n o =
 unfoldable pub send_failed : Findings → ℕ → Request → (venue : ℕ) → Note → Order → Change
 send_failed f k q venue n o =
     if not (eqb o.venue venue) then unchanged f.place o
-    else if is_gateway q && is_answered q then unchanged f.place o
-    else if is_gateway q && not (has_gateway o) then answering k (unchanged f.place o)
-    else if is_gateway q then answering k (unchanged f.place (with_gateway (send_refused o.gateway) o))
-    else if not (is_first q) then refuse_request f k q venue (record { status = o.state.status; venueorderid = no_text; note = n }) o
-    else if is_answered q || not (eqb o.state.status pending_new) then unchanged f.place o
-    else first_failed f k n o
+    otherwise if is_gateway q && is_answered q then unchanged f.place o
+    otherwise if is_gateway q && not (has_gateway o) then answering k (unchanged f.place o)
+    otherwise if is_gateway q then answering k (unchanged f.place (with_gateway (send_refused o.gateway) o))
+    otherwise if not (is_first q) then refuse_request f k q venue (record { status = o.state.status; venueorderid = no_text; note = n }) o
+    otherwise if is_answered q || not (eqb o.state.status pending_new) then unchanged f.place o
+    otherwise first_failed f k n o
 
 -- ---- `unsent`: a request is sent again, or its send has failed
 
@@ -250,7 +249,7 @@ resendable q venue o = not (is_answered q) && not (is_done o.state.status) && eq
 unfoldable pub unsent : Findings → ℕ → Request → (venue : ℕ) → Order → Change
 unsent f k q venue o =
     if resendable q venue o && is_first q && eqb o.state.status pending_new then telling (new_order o q.downstream) (unchanged f.place o)
-    else if resendable q venue o && is_cancel q then telling (cancel_request o q.downstream) (unchanged f.place o)
-    else if resendable q venue o && is_replace q && eqb o.pending.request k
+    otherwise if resendable q venue o && is_cancel q then telling (cancel_request o q.downstream) (unchanged f.place o)
+    otherwise if resendable q venue o && is_replace q && eqb o.pending.request k
     then telling (replace_request o q.downstream (pending_terms o)) (unchanged f.place o)
-    else send_failed f k q venue (record { text = no_long_text; fixedtext = text_not_sent; reason = 0; origin = 0 }) o
+    otherwise send_failed f k q venue (record { text = no_long_text; fixedtext = text_not_sent; reason = 0; origin = 0 }) o

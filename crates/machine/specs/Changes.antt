@@ -1,13 +1,12 @@
 -- A change: what an event does, as a value, and how one is put together. Rests on Messages.
-use Rattle.std.specs.Prelude.{ℕ, ◌+◌, ◌-◌, Bool, true, false, not, ◌&&◌, eqb}
-use Rattle.prelude.specs.Cases.{if◌then◌else◌}
+use Rattle.std.specs.Prelude.{ℕ, ◌-◌, Bool, not, ◌&&◌, eqb}
+use Rattle.prelude.specs.Cases.{if◌then◌otherwise◌}
 use Rattle.prelude.specs.declared.Text.{Text}
 use Rattle.records.specs.declared.Record.{Record}
 use Rattle.store.specs.declared.Order.{Order}
 use Rattle.store.specs.declared.Request.{Request}
 use Rattle.store.specs.Orders.{no_order}
 use Rattle.store.specs.Requests.{no_request}
-use Rattle.text.specs.Words.{no_text}
 use Rattle.text.specs.Numbered.{numbered_text}
 use Rattle.machine.specs.Constants.{first_kind, cancel_kind, replace_kind, gateway_kind}
 use Rattle.machine.specs.Orders.{one_more, with_links}
@@ -98,9 +97,9 @@ telling m c = record {
   order = c.order;
   requests = c.requests;
   output = record {
-    count = if eqb c.output.count 0 then 1 else 2;
-    first = if eqb c.output.count 0 then m else c.output.first;
-    second = if eqb c.output.count 0 then c.output.second else m;
+    count = if eqb c.output.count 0 then 1 otherwise 2;
+    first = if eqb c.output.count 0 then m otherwise c.output.first;
+    second = if eqb c.output.count 0 then c.output.second otherwise m;
     alarm = c.output.alarm;
     alarm2 = c.output.alarm2;
   };
@@ -117,8 +116,8 @@ alarming a c = record {
     count = c.output.count;
     first = c.output.first;
     second = c.output.second;
-    alarm = if eqb c.output.alarm 0 then a else c.output.alarm;
-    alarm2 = if eqb c.output.alarm 0 then c.output.alarm2 else a;
+    alarm = if eqb c.output.alarm 0 then a otherwise c.output.alarm;
+    alarm2 = if eqb c.output.alarm 0 then c.output.alarm2 otherwise a;
   };
 }
 
@@ -151,6 +150,6 @@ numbered_order f cancels o =
     (record {
       amendments = next_number o;
       current = o.links.current;
-      cancel = if cancels then next_link f else o.links.cancel;
+      cancel = if cancels then next_link f otherwise o.links.cancel;
     })
     o

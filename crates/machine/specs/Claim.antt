@@ -3,7 +3,7 @@
 -- is spoken of is read. What stands in quotes is the desk's wording; docs/SCOPE.md, Demand 3, has all of it. An order is known by its name: names are distinct.
 use Rattle.std.specs.Prelude.{ℕ, ◌+◌, ◌≤◌, ◌<◌, ◌≡◌, Bool, true, false, not, ◌&&◌, List, [], ◌∷◌, ◌++◌, eqb, length}
 use Rattle.std.proofs.Math.Option.{Option, none, some}
-use Rattle.prelude.specs.Cases.{if◌then◌else◌, maybe}
+use Rattle.prelude.specs.Cases.{if◌then◌otherwise◌, maybe}
 use Rattle.prelude.specs.Texts.{same_text}
 use Rattle.prelude.specs.Totals.{total_of, some_of, how_many, those, Every}
 use Rattle.prelude.specs.declared.Text.{Text}
@@ -21,7 +21,7 @@ use Rattle.machine.specs.History.{Decoded, unread, read_as, comes_to, Entry, lin
 
 -- "An order's reports are the messages 16 with its client and name": the LastQty of such a message
 abbrev pub last_qty : (client : ℕ) (name : Text) → Message → ℕ
-last_qty client name m = if eqb m.kind report_kind && (eqb m.client client && same_text m.ids.name name) then m.exec.lastqty else 0
+last_qty client name m = if eqb m.kind report_kind && (eqb m.client client && same_text m.ids.name name) then m.exec.lastqty otherwise 0
 
 -- the LastQty of all reports sent, added up
 abbrev pub last_qty_of : (client : ℕ) (name : Text) → List Entry → ℕ
@@ -61,12 +61,12 @@ holds d = some_of (same_text d)
 -- the downstream ClOrdIDs of the messages 19
 unfoldable pub cancels_in : List Message → List Text
 cancels_in [] = []
-cancels_in (m ∷ ms) = if eqb m.kind cancel_request_kind then m.ids.downstream ∷ cancels_in ms else cancels_in ms
+cancels_in (m ∷ ms) = if eqb m.kind cancel_request_kind then m.ids.downstream ∷ cancels_in ms otherwise cancels_in ms
 
 -- "All messages 19 with one downstream ClOrdID are one cancel request", within one answer too
 unfoldable pub once : List Text → List Text
 once [] = []
-once (d ∷ ds) = if holds d ds then once ds else d ∷ once ds
+once (d ∷ ds) = if holds d ds then once ds otherwise d ∷ once ds
 
 -- a message 19 with that ClOrdID has been sent
 abbrev pub sent : Text → List Entry → Bool
@@ -79,12 +79,12 @@ is_for name b d = maybe false (λ k. bears_name name (order_in b (request_in b k
 -- the gateway's for that order that the line puts out, of those not known before it: "put out by the first of them: the client's if that
 -- message answers an event 2, else the gateway's"
 unfoldable pub put_out_by : (known : Text → List Entry → Bool) → Text → Entry → (earlier : List Entry) → List Text
-put_out_by known name e earlier = if of_kind 2 e.input then [] else those (λ d. is_for name e.left d && not (known d earlier)) (once (cancels_in e.messages))
+put_out_by known name e earlier = if of_kind 2 e.input then [] otherwise those (λ d. is_for name e.left d && not (known d earlier)) (once (cancels_in e.messages))
 
 -- those put out since the gateway cancel last began: "one in the answer to the event where a gateway cancel begins counts as put out since then"
 abbrev pub put_out_of : (known : Text → List Entry → Bool) → Text → List Entry → List Text
 put_out_of known name [] = []
-put_out_of known name (e ∷ earlier) = put_out_by known name e earlier ++ (if begins name e then [] else put_out_of known name earlier)
+put_out_of known name (e ∷ earlier) = put_out_by known name e earlier ++ (if begins name e then [] otherwise put_out_of known name earlier)
 
 -- what was sent is known
 abbrev pub put_out : Text → List Entry → List Text

@@ -2,7 +2,7 @@
 -- with the same answers, and leave the same orders. Rests on Machine and Rules.
 -- Links are indices, and two requests that are added change places: a link is read as the request that it names.
 use Rattle.std.specs.Prelude.{ℕ, ◌+◌, ◌-◌, ◌≤◌, ◌<◌, ◌≡◌, ◌⊎◌, true, List, eqb, length}
-use Rattle.prelude.specs.Cases.{if◌then◌else◌, maybe}
+use Rattle.prelude.specs.Cases.{if◌then◌otherwise◌, maybe}
 use Rattle.prelude.specs.Totals.{total_of, those}
 use Rattle.prelude.specs.declared.Text.{Text}
 use Rattle.store.specs.declared.Order.{Order}
@@ -19,9 +19,9 @@ use Rattle.machine.specs.Rules.{rules}
 unfoldable pub concerns : Book → Event → ℕ
 concerns b e =
     if eqb e.kind 2 then order_of b e.client e.ids.origclordid
-    else if eqb e.kind 3 then order_of b e.client e.ids.origclordid
-    else if eqb e.kind 9 then maybe 0 (λ i. i + 1) (find_name b e.ids.name)
-    else maybe 0 (order_link b) (find_downstream b e.ids.downstream)
+    otherwise if eqb e.kind 3 then order_of b e.client e.ids.origclordid
+    otherwise if eqb e.kind 9 then maybe 0 (λ i. i + 1) (find_name b e.ids.name)
+    otherwise maybe 0 (order_link b) (find_downstream b e.ids.downstream)
 
 abbrev pub client_at : Book → ℕ → ℕ
 client_at b link = (order_in b (link - 1)).client
@@ -32,7 +32,7 @@ requests_of b i = those (λ q. eqb q.order i) b.requests
 
 -- what a link names
 abbrev pub link_text : Book → ℕ → Text
-link_text b k = if eqb k 0 then no_text else (request_in b (k - 1)).downstream
+link_text b k = if eqb k 0 then no_text otherwise (request_in b (k - 1)).downstream
 
 -- the same record in both books, links read as what they name
 pub record SameRecord (b c : Book) (o p : Order) : Type 0 where
@@ -59,7 +59,7 @@ pub record SameOrder (b c : Book) (i : ℕ) : Type 0 where
 
 -- what the client's orders have left open
 abbrev pub open_of : Book → ℕ → ℕ
-open_of b client = total_of (λ (o : Order). if eqb o.client client then leaves_qty o else 0) b.orders
+open_of b client = total_of (λ (o : Order). if eqb o.client client then leaves_qty o otherwise 0) b.orders
 
 pub record Exchanged (b : Book) (d e : Event) : Type 0 where
   -- taken one way round, they are taken the other
@@ -95,7 +95,7 @@ SameBook = (b : Book) (d e : Event) → OfTwoClients b d e → ((step_of b d).re
 
 -- links t + 1 and t + 2 exchanged
 unfoldable pub turned_link : ℕ → ℕ → ℕ
-turned_link t k = if eqb k (t + 1) then t + 2 else if eqb k (t + 2) then t + 1 else k
+turned_link t k = if eqb k (t + 1) then t + 2 otherwise if eqb k (t + 2) then t + 1 otherwise k
 
 unfoldable pub turned_order : ℕ → Order → Order
 turned_order t o = record {

@@ -1,9 +1,8 @@
 -- src/book/gateway_cancel.rs: the gateway cancelling an order itself. Rests on Changes.
-use Rattle.std.specs.Prelude.{ℕ, ◌+◌, Bool, true, false, not, ◌&&◌, ◌||◌, eqb, leb, ltb}
-use Rattle.prelude.specs.Cases.{if◌then◌else◌}
+use Rattle.std.specs.Prelude.{Bool, true, false, not, ◌&&◌, ◌||◌, eqb, leb}
+use Rattle.prelude.specs.Cases.{if◌then◌otherwise◌}
 use Rattle.store.specs.declared.GatewayCancel.{GatewayCancel}
 use Rattle.store.specs.declared.Order.{Order}
-use Rattle.store.specs.declared.Request.{Request}
 use Rattle.text.specs.Words.{no_text}
 use Rattle.machine.specs.Constants.{gateway_kind, most_tries, stuck_cancel, too_late, unknown, venues}
 use Rattle.machine.specs.Orders.{one_more, has_gateway, is_done, with_gateway}
@@ -61,9 +60,9 @@ unfoldable pub cancel_order : Findings → Order → Change
 cancel_order f o =
     let c = unchanged f.place (with_gateway (begun o) o) in
     if is_done o.state.status then unchanged f.place o
-    else if gateway_cancel_in_flight f o then unchanged f.place o
-    else if outstanding_cancel f o then c
-    else send_gateway_cancel f c
+    otherwise if gateway_cancel_in_flight f o then unchanged f.place o
+    otherwise if outstanding_cancel f o then c
+    otherwise send_gateway_cancel f c
 
 -- `gateway_cancel_waiting`, once the change has answered its request
 unfoldable pub gateway_cancel_waiting : Findings → Change → Bool
@@ -73,14 +72,14 @@ gateway_cancel_waiting f c =
 
 -- `resume_gateway_cancel`: a gateway cancel that waited goes now
 unfoldable pub resume_gateway_cancel : Findings → Change → Change
-resume_gateway_cancel f c = if gateway_cancel_waiting f c then send_gateway_cancel f c else c
+resume_gateway_cancel f c = if gateway_cancel_waiting f c then send_gateway_cancel f c otherwise c
 
 unfoldable pub stuck : Change → Change
 stuck c = alarming stuck_cancel (with_order (with_gateway (given_up c.order) c.order) c)
 
 -- `retry_gateway_cancel`
 unfoldable pub retry_gateway_cancel : Findings → Change → Change
-retry_gateway_cancel f c = if leb most_tries c.order.gateway.tries then stuck c else send_gateway_cancel f c
+retry_gateway_cancel f c = if leb most_tries c.order.gateway.tries then stuck c otherwise send_gateway_cancel f c
 
 -- the venue says that it is too late, or that it does not know the order
 unfoldable pub says_gone : Note → Bool
@@ -90,5 +89,5 @@ says_gone n = eqb n.origin venues && (eqb n.reason too_late || eqb n.reason unkn
 unfoldable pub gateway_cancel_refused : Findings → Note → Change → Change
 gateway_cancel_refused f n c =
     if not (has_gateway c.order) then c
-    else if says_gone n && eqb c.order.links.current c.order.gateway.origdownstream then stuck c
-    else retry_gateway_cancel f c
+    otherwise if says_gone n && eqb c.order.links.current c.order.gateway.origdownstream then stuck c
+    otherwise retry_gateway_cancel f c

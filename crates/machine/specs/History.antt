@@ -1,6 +1,6 @@
 -- A list of calls: each on the book that the one before it left, and what came of each, the latest first. Rests on Machine and Rules.
 use Rattle.std.specs.Prelude.{ℕ, ◌<◌, ◌≤◌, ◌≡◌, List, [], ◌∷◌, eqb}
-use Rattle.prelude.specs.Cases.{if◌then◌else◌}
+use Rattle.prelude.specs.Cases.{if◌then◌otherwise◌}
 use Rattle.records.specs.Answer.{chosen}
 use Rattle.store.specs.Book.{Book, empty_book}
 use Rattle.machine.specs.Changes.{Event, Message, refusing}
@@ -15,15 +15,15 @@ pub data Decoded : Type 0 where
 
 -- what a call comes to: question 1 first, then the record's, then the event's own
 unfoldable pub comes_to : Book → Decoded → Change
-comes_to b (unread n) = if rules b then refusing n else refusing 1
-comes_to b (read_as e) = if rules b then step_of b e else refusing 1
+comes_to b (unread n) = if rules b then refusing n otherwise refusing 1
+comes_to b (read_as e) = if rules b then step_of b e otherwise refusing 1
 
 -- "A refused call .. has written nothing anywhere": the book stays, and no message counts
 unfoldable pub messages_of : Change → List Message
-messages_of c = if eqb c.refusal 0 then chosen c.output.count c.output.first c.output.second else []
+messages_of c = if eqb c.refusal 0 then chosen c.output.count c.output.first c.output.second otherwise []
 
 unfoldable pub left_by : Book → Change → Book
-left_by b c = if eqb c.refusal 0 then after b c else b
+left_by b c = if eqb c.refusal 0 then after b c otherwise b
 
 -- one line of the history: the book before the call, what was read, the refusal, the messages, and the book that is left
 pub record Entry : Type 0 where

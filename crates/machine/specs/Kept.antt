@@ -1,6 +1,6 @@
 -- Demand 1 on the machine: the book that start makes keeps its rules, and so does the book that an event leaves. Rests on Machine, Rules and Events.
 -- The proofs are in proofs/.
-use Rattle.std.specs.Prelude.{ℕ, ◌≤◌, ◌<◌, ◌≡◌, true, false}
+use Rattle.std.specs.Prelude.{ℕ, ◌≡◌, true}
 use Rattle.store.specs.Book.{Book, empty_book}
 use Rattle.machine.specs.Changes.{Event}
 use Rattle.machine.specs.Machine.{book_after}

@@ -1,8 +1,7 @@
 -- The machine whole: an event finds its order, makes its change, is asked questions 5, 6 and 7, and the change goes into the book.
 -- Rests on Report, Amend and GatewayCancel.
 use Rattle.std.specs.Prelude.{ℕ, ◌+◌, ◌-◌, Bool, true, false, not, ◌&&◌, ◌||◌, List, [], ◌∷◌, ◌++◌, eqb, leb, ltb, length, get_or, set}
-use Rattle.std.proofs.Math.Option.{Option, none, some}
-use Rattle.prelude.specs.Cases.{if◌then◌else◌, maybe}
+use Rattle.prelude.specs.Cases.{if◌then◌otherwise◌, maybe}
 use Rattle.prelude.specs.declared.Text.{Text}
 use Rattle.store.specs.declared.Order.{Order}
 use Rattle.store.specs.declared.Request.{Request}
@@ -14,7 +13,6 @@ use Rattle.store.specs.Requests.{no_request}
 use Rattle.text.specs.Words.{no_text}
 use Rattle.machine.specs.Constants.{first_kind, unknown_order}
 use Rattle.format.specs.Codes.{pending_new}
-use Rattle.machine.specs.Orders.{is_empty}
 use Rattle.machine.specs.Changes.{Event, unchanged, refusing, adding, alarming}
 use Rattle.machine.specs.GatewayCancel.{cancel_order}
 use Rattle.machine.specs.Amend.{priced_right, cancel, replace, venue_cancel_reject, send_failed, unsent}
@@ -34,10 +32,10 @@ order_of b client t = maybe 0 (order_link b) (find_clordid b client t)
 
 -- the order's latest cancel
 unfoldable pub latest_cancel : Book → Order → Request
-latest_cancel b o = if eqb o.links.cancel 0 then no_request else request_in b (o.links.cancel - 1)
+latest_cancel b o = if eqb o.links.cancel 0 then no_request otherwise request_in b (o.links.cancel - 1)
 
 unfoldable pub order_at_link : Book → ℕ → Order
-order_at_link b place = if eqb place 0 then no_order else order_in b (place - 1)
+order_at_link b place = if eqb place 0 then no_order otherwise order_in b (place - 1)
 
 unfoldable pub findings_of : Book → ℕ → Findings
 findings_of b place = record { place = place; requests = length b.requests; cancel = latest_cancel b (order_at_link b place) }
@@ -67,8 +65,8 @@ unused b e = maybe true (λ k. false) (find_name b e.ids.name) && eqb (order_of 
 unfoldable pub book_order : Book → Event → Change
 book_order b e =
     if not (unused b e) then refusing 5
-    else if not (priced_right e.terms.ordtype e) then refusing 6
-    else adding (first_request (length b.orders) e) (unchanged (length b.orders + 1) (booked_order (length b.requests + 1) e))
+    otherwise if not (priced_right e.terms.ordtype e) then refusing 6
+    otherwise adding (first_request (length b.orders) e) (unchanged (length b.orders + 1) (booked_order (length b.requests + 1) e))
 
 -- events 2 and 3: what they find of the client's ClOrdIDs
 abbrev pub Amending : Type 0
@@ -97,7 +95,7 @@ abbrev pub text_note : Event → Note
 text_note e = record { text = e.text; fixedtext = 0; reason = 0; origin = 0 }
 
 unfoldable pub on_report : Event → Findings → ℕ → Request → Order → Change
-on_report e f k q o = if says_unknown_at_venue e then unknown_at_venue f k o e else venue_report f k q o e
+on_report e f k q o = if says_unknown_at_venue e then unknown_at_venue f k o e otherwise venue_report f k q o e
 
 -- event 9
 unfoldable pub on_name : Book → Event → Change
@@ -106,14 +104,14 @@ on_name b e = maybe nothing (λ i. cancel_order (findings_of b (i + 1)) (order_i
 unfoldable pub change_of : Book → Event → Change
 change_of b e =
     if eqb e.kind 1 then book_order b e
-    else if eqb e.kind 2 then amending cancel b e
-    else if eqb e.kind 3 then amending replace b e
-    else if eqb e.kind 4 then on_request unknown_report (on_report e) b e
-    else if eqb e.kind 5 then on_request unknown_report (λ f k q o. unknown_at_venue f k o e) b e
-    else if eqb e.kind 6 then on_request unknown_report (λ f k q o. venue_cancel_reject f k q o e) b e
-    else if eqb e.kind 7 then on_request nothing (λ f k q o. send_failed f k q e.venue (text_note e) o) b e
-    else if eqb e.kind 8 then on_request nothing (λ f k q o. unsent f k q e.venue o) b e
-    else on_name b e
+    otherwise if eqb e.kind 2 then amending cancel b e
+    otherwise if eqb e.kind 3 then amending replace b e
+    otherwise if eqb e.kind 4 then on_request unknown_report (on_report e) b e
+    otherwise if eqb e.kind 5 then on_request unknown_report (λ f k q o. unknown_at_venue f k o e) b e
+    otherwise if eqb e.kind 6 then on_request unknown_report (λ f k q o. venue_cancel_reject f k q o e) b e
+    otherwise if eqb e.kind 7 then on_request nothing (λ f k q o. send_failed f k q e.venue (text_note e) o) b e
+    otherwise if eqb e.kind 8 then on_request nothing (λ f k q o. unsent f k q e.venue o) b e
+    otherwise on_name b e
 
 -- ---- question 7, and the book after
 
@@ -128,23 +126,23 @@ unfoldable pub step_of : Book → Event → Change
 step_of b e =
     let c = change_of b e in
     if not (eqb c.refusal 0) then c
-    else if has_room b c then c
-    else refusing 7
+    otherwise if has_room b c then c
+    otherwise refusing 7
 
 -- the requests with the one of this link answered
 unfoldable pub answer_link : ℕ → List Request → List Request
-answer_link k qs = if eqb k 0 then qs else set qs (k - 1) (answered (get_or qs (k - 1) no_request))
+answer_link k qs = if eqb k 0 then qs otherwise set qs (k - 1) (answered (get_or qs (k - 1) no_request))
 
 unfoldable pub orders_after : List Order → Change → List Order
 orders_after os c =
     if eqb c.place 0 then os
-    else if leb c.place (length os) then set os (c.place - 1) c.order
-    else os ++ (c.order ∷ [])
+    otherwise if leb c.place (length os) then set os (c.place - 1) c.order
+    otherwise os ++ (c.order ∷ [])
 
 unfoldable pub requests_after : List Request → Change → List Request
 requests_after qs c =
     let settled = answer_link c.requests.superseded (answer_link c.requests.answered qs) in
-    if eqb c.requests.added 0 then settled else settled ++ (c.requests.request ∷ [])
+    if eqb c.requests.added 0 then settled otherwise settled ++ (c.requests.request ∷ [])
 
 -- the book that a change leaves
 unfoldable pub after : Book → Change → Book
@@ -152,4 +150,4 @@ after b c = record { setting = b.setting; orders = orders_after b.orders c; requ
 
 -- the book that an event leaves: as it was where the event is refused
 unfoldable pub book_after : Book → Event → Book
-book_after b e = let c = step_of b e in if eqb c.refusal 0 then after b c else b
+book_after b e = let c = step_of b e in if eqb c.refusal 0 then after b c otherwise b

@@ -1,8 +1,8 @@
 -- The messages that the book puts out: `ClientReport`, `Output` and `Amend::refuse`, as records. Rests on Orders and records.
-use Rattle.std.specs.Prelude.{ℕ, ◌+◌, ◌^◌, Bool, true, false, not, List, [], ◌∷◌, eqb, replicate}
+use Rattle.std.specs.Prelude.{ℕ, ◌+◌, ◌^◌, Bool, not, [], ◌∷◌, eqb, replicate}
 use Rattle.wide.specs.declared.Priced.{Priced}
 use Rattle.format.specs.Format.{required}
-use Rattle.prelude.specs.Cases.{if◌then◌else◌}
+use Rattle.prelude.specs.Cases.{if◌then◌otherwise◌}
 use Rattle.prelude.specs.declared.Text.{Text}
 use Rattle.prelude.specs.declared.Terms.{Terms}
 use Rattle.bits.specs.Map.{map_of}
@@ -12,7 +12,6 @@ use Rattle.records.specs.declared.Exec.{Exec}
 use Rattle.records.specs.declared.Told.{Told}
 use Rattle.records.specs.declared.Record.{Record}
 use Rattle.store.specs.declared.Order.{Order}
-use Rattle.store.specs.declared.Request.{Request}
 use Rattle.text.specs.Words.{no_text}
 use Rattle.machine.specs.Orders.{no_terms, is_empty, leaves_qty}
 use Rattle.machine.specs.Constants.{report_kind, cancel_reject_kind, new_order_kind, cancel_request_kind, replace_request_kind}
@@ -21,7 +20,7 @@ use Rattle.machine.specs.declared.Note.{Note}
 
 -- bit k where the test holds
 unfoldable pub bit_if : Bool → ℕ → ℕ
-bit_if t k = if t then 2 ^ k else 0
+bit_if t k = if t then 2 ^ k otherwise 0
 
 abbrev pub no_long_text : LongText
 no_long_text = record { bytes = replicate 64 0; len = 0 }

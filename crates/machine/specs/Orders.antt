@@ -1,8 +1,8 @@
 -- The order parts of src/book.rs: `impl Order` and what stands around it, on the book's own types. Rests on store and wide's words.
 -- Beside each definition stands the Rust's name.
-use Rattle.std.specs.Prelude.{ℕ, ◌+◌, ◌-◌, ◌^◌, Bool, true, false, not, ◌&&◌, ◌||◌, [], ◌∷◌, eqb, ltb, replicate}
-use Rattle.std.proofs.Math.Option.{Option, none, some}
-use Rattle.prelude.specs.Cases.{if◌then◌else◌}
+use Rattle.std.specs.Prelude.{ℕ, ◌+◌, ◌-◌, ◌^◌, Bool, true, false, not, ◌&&◌, ◌||◌, [], ◌∷◌, eqb, ltb}
+use Rattle.std.proofs.Math.Option.{Option, none}
+use Rattle.prelude.specs.Cases.{if◌then◌otherwise◌}
 use Rattle.prelude.specs.Texts.{text_of, same_text}
 use Rattle.prelude.specs.declared.Text.{Text}
 use Rattle.prelude.specs.declared.Terms.{Terms}
@@ -19,7 +19,7 @@ use Rattle.format.specs.Codes.{pending_new, new, partially_filled, filled, cance
 
 -- one more, or the same at the top of the field's range, which the book's rules keep away
 unfoldable pub one_more : (top n : ℕ) → ℕ
-one_more top n = if ltb n top then n + 1 else n
+one_more top n = if ltb n top then n + 1 otherwise n
 
 abbrev pub is_empty : Text → Bool
 is_empty t = eqb t.len 0
@@ -55,7 +55,7 @@ has_gateway o = not (eqb o.gateway.origdownstream 0)
 
 -- `limit_price`: a limit order's price; a market order has none
 unfoldable pub limit_price : ℕ → Option ℕ → Option ℕ
-limit_price ordtype price = if eqb ordtype market then none else price
+limit_price ordtype price = if eqb ordtype market then none otherwise price
 
 -- `Status::is_done`
 unfoldable pub is_done : ℕ → Bool
@@ -63,7 +63,7 @@ is_done s = eqb s filled || eqb s canceled || eqb s expired || eqb s rejected
 
 -- `leaves_qty`, by status, ordered and cumulative: 0 of a done order and, while it lasts, of one that is done for the day
 unfoldable pub leaves_of : (status qty cumqty : ℕ) → ℕ
-leaves_of status qty cumqty = if is_done status || eqb status done_for_day then 0 else qty - cumqty
+leaves_of status qty cumqty = if is_done status || eqb status done_for_day then 0 otherwise qty - cumqty
 
 unfoldable pub leaves_qty : Order → ℕ
 leaves_qty o = leaves_of o.state.status o.terms.qty o.state.cumqty
@@ -71,11 +71,11 @@ leaves_qty o = leaves_of o.state.status o.terms.qty o.state.cumqty
 -- a status as the Rust's questions take it: done for the day is New where the cumulative is 0, and PartiallyFilled above. They ask whether a status is one of
 -- these two in `behind` alone, and of a reported one alone; equal to another it is as it is.
 unfoldable pub as_asked : (cumqty s : ℕ) → ℕ
-as_asked cumqty s = if eqb s done_for_day then (if eqb cumqty 0 then new else partially_filled) else s
+as_asked cumqty s = if eqb s done_for_day then (if eqb cumqty 0 then new otherwise partially_filled) otherwise s
 
 -- the status that `set_status` leaves: above a cumulative of 0, New and PendingNew are PartiallyFilled
 unfoldable pub status_at : ℕ → ℕ → ℕ
-status_at cumqty s = if (eqb s new || eqb s pending_new) && ltb 0 cumqty then partially_filled else s
+status_at cumqty s = if (eqb s new || eqb s pending_new) && ltb 0 cumqty then partially_filled otherwise s
 
 -- a Filled below the quantity
 unfoldable pub is_short : (qty cumqty s : ℕ) → Bool
@@ -83,10 +83,10 @@ is_short qty cumqty s = eqb s filled && ltb cumqty qty
 
 -- it is set as New, and raises its alarm
 unfoldable pub unless_short : (qty cumqty s : ℕ) → ℕ
-unless_short qty cumqty s = if is_short qty cumqty s then new else s
+unless_short qty cumqty s = if is_short qty cumqty s then new otherwise s
 
 unfoldable pub short_alarm : (qty cumqty s : ℕ) → ℕ
-short_alarm qty cumqty s = if is_short qty cumqty s then filled_short else 0
+short_alarm qty cumqty s = if is_short qty cumqty s then filled_short otherwise 0
 
 -- `set_status`: a done order has nothing pending and no gateway cancel
 unfoldable pub set_status : ℕ → Order → Order
@@ -99,8 +99,8 @@ set_status s o =
       terms = o.terms;
       state = record { status = s'; cumqty = o.state.cumqty; avgpx = o.state.avgpx; execseq = o.state.execseq };
       links = o.links;
-      pending = if is_done s' then no_pending else o.pending;
-      gateway = if is_done s' then no_gateway else o.gateway;
+      pending = if is_done s' then no_pending otherwise o.pending;
+      gateway = if is_done s' then no_gateway otherwise o.gateway;
     }
 
 -- FIX's placeholder for no OrderID
@@ -111,8 +111,8 @@ text_none = text_of (78 ∷ (79 ∷ (78 ∷ (69 ∷ []))))
 unfoldable pub kept_order_id : (kept given : Text) (replaced : Bool) → Text
 kept_order_id kept given replaced =
     if is_empty given || same_text given text_none then kept
-    else if is_empty kept || replaced then given
-    else kept
+    otherwise if is_empty kept || replaced then given
+    otherwise kept
 
 -- `record_venue_order_id`
 unfoldable pub record_venue_order_id : Text → Bool → Order → Order
@@ -158,7 +158,7 @@ apply_replace q o = record {
 
 -- the next report's sequence: `exec_seq`, which goes on at 0 after 2^64 - 1
 unfoldable pub next_sequence : ℕ → ℕ
-next_sequence n = if eqb n (2 ^ 64 - 1) then 0 else n + 1
+next_sequence n = if eqb n (2 ^ 64 - 1) then 0 otherwise n + 1
 
 unfoldable pub next_exec : Order → Order
 next_exec o = with_state (record { status = o.state.status; cumqty = o.state.cumqty; avgpx = o.state.avgpx; execseq = next_sequence o.state.execseq }) o

@@ -1,8 +1,8 @@
 -- docs/SCOPE.md, Rules, rule by rule, as tests on the book. Rests on Ranges and Changes.
 -- Each rule takes just what it reads. `rules` is what question 1 and `check` decide.
-use Rattle.std.specs.Prelude.{ℕ, ◌+◌, ◌-◌, Bool, true, false, not, ◌&&◌, ◌||◌, List, eqb, leb, ltb, length, get_or}
+use Rattle.std.specs.Prelude.{ℕ, ◌+◌, ◌-◌, Bool, not, ◌&&◌, ◌||◌, List, eqb, leb, ltb, length, get_or}
 use Rattle.prelude.specs.Below.{all_below, count_below}
-use Rattle.prelude.specs.Cases.{if◌then◌else◌}
+use Rattle.prelude.specs.Cases.{if◌then◌otherwise◌}
 use Rattle.prelude.specs.Texts.{same_text}
 use Rattle.prelude.specs.declared.Text.{Text}
 use Rattle.prelude.specs.declared.Terms.{Terms}
@@ -41,7 +41,7 @@ terms_range t = is_side t.side && priced_range t.ordtype t.price && force_range 
 unfoldable pub pending_range : Pending → Bool
 pending_range p =
     if eqb p.request 0 then eqb p.qty 0 && eqb p.price 0 && eqb p.ordtype 0 && eqb p.timeinforce 0
-    else priced_range p.ordtype p.price && force_range p.timeinforce && is_qty p.qty
+    otherwise priced_range p.ordtype p.price && force_range p.timeinforce && is_qty p.qty
 
 -- one stage byte cannot say unsent and stuck; no gateway cancel is all zero
 unfoldable pub gateway_range : (requests : ℕ) → GatewayCancel → Bool
@@ -58,8 +58,8 @@ order_range requests o =
 unfoldable pub request_range : Request → Bool
 request_range q =
     leb q.kind 3 && leb q.answered 1
-    && (if is_gateway q then text_within 0 0 q.clordid else text_within 1 32 q.clordid)
-    && (if is_first q || is_gateway q then text_within 0 0 q.origclordid else text_within 1 32 q.origclordid)
+    && (if is_gateway q then text_within 0 0 q.clordid otherwise text_within 1 32 q.clordid)
+    && (if is_first q || is_gateway q then text_within 0 0 q.origclordid otherwise text_within 1 32 q.origclordid)
 
 -- ---- one order, and the requests that its links name
 
@@ -100,7 +100,7 @@ done_rule o = not (is_done o.state.status) || (not (has_pending o) && not (has_g
 
 -- tries are at most 3, and at most 2 where unsent
 unfoldable pub tries_rule : GatewayCancel → Bool
-tries_rule g = leb g.tries (if g.unsent then most_tries - 1 else most_tries)
+tries_rule g = leb g.tries (if g.unsent then most_tries - 1 otherwise most_tries)
 
 -- the order's own requests
 abbrev pub of_order : List Request → ℕ → ℕ → Bool
@@ -125,11 +125,11 @@ number_in qs j = count_below (of_order qs (get_or qs j no_request).order) j
 
 -- the order's name, then its name with -1, -2 and so on
 unfoldable pub name_number : Text → ℕ → Text
-name_number name n = if eqb n 0 then name else numbered_text name n
+name_number name n = if eqb n 0 then name otherwise numbered_text name n
 
 -- the downstream ClOrdID is the name with the request's number, and just number 0 is a first request
 unfoldable pub number_rule : Text → ℕ → Request → Bool
-number_rule name n q = same_text q.downstream (name_number name n) && (if is_first q then eqb n 0 else ltb 0 n)
+number_rule name n q = same_text q.downstream (name_number name n) && (if is_first q then eqb n 0 otherwise ltb 0 n)
 
 -- an unanswered gateway cancel of a live order is its latest cancel, with tries above 0, sent and not stuck
 unfoldable pub in_flight_rule : (link : ℕ) → Request → Order → Bool

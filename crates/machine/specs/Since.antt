@@ -1,10 +1,10 @@
 -- Demand 3 from any book that keeps its rules, the image: what holds after every list of calls since it. Rests on Claim.
 -- Demand 3 from the empty book is a case. What stands in quotes is the desk's wording of wish 10. The image is the first argument throughout.
-use Rattle.std.specs.Prelude.{ℕ, ◌+◌, ◌≤◌, ◌≡◌, Bool, true, false, not, ◌&&◌, ◌||◌, List, [], ◌∷◌, ◌++◌, eqb, length}
+use Rattle.std.specs.Prelude.{ℕ, ◌+◌, ◌≤◌, ◌≡◌, Bool, true, false, not, ◌&&◌, ◌||◌, List, [], ◌∷◌, eqb, length}
 use Rattle.std.proofs.Math.Option.{some}
-use Rattle.prelude.specs.Cases.{if◌then◌else◌, maybe}
+use Rattle.prelude.specs.Cases.{if◌then◌otherwise◌, maybe}
 use Rattle.prelude.specs.Texts.{same_text}
-use Rattle.prelude.specs.Totals.{total_of, some_of, how_many, those, Every}
+use Rattle.prelude.specs.Totals.{total_of, some_of, how_many, Every}
 use Rattle.prelude.specs.declared.Text.{Text}
 use Rattle.store.specs.declared.Order.{Order}
 use Rattle.store.specs.declared.Request.{Request}
@@ -33,7 +33,7 @@ is_held image d = maybe false (λ k. true) (find_downstream image d)
 -- the downstream ClOrdIDs of the requests that pass the test
 unfoldable pub downstreams : (Request → Bool) → List Request → List Text
 downstreams p [] = []
-downstreams p (q ∷ qs) = if p q then q.downstream ∷ downstreams p qs else downstreams p qs
+downstreams p (q ∷ qs) = if p q then q.downstream ∷ downstreams p qs otherwise downstreams p qs
 
 -- the gateway's cancel requests for the order of that name
 abbrev pub held_out : Book → Text → List Text
@@ -52,10 +52,10 @@ abbrev pub begun_since : Text → List Entry → Bool
 begun_since name = some_of (begins name)
 
 abbrev pub base_tries : Book → Text → List Entry → ℕ
-base_tries image name past = if begun_since name past then 0 else held_tries image name
+base_tries image name past = if begun_since name past then 0 otherwise held_tries image name
 
 abbrev pub base_out : Book → Text → List Entry → List Text
-base_out image name past = if begun_since name past then [] else held_out image name
+base_out image name past = if begun_since name past then [] otherwise held_out image name
 
 -- ---- the claim: s is the book that is left, and the history since the image
 
@@ -78,16 +78,16 @@ DemandFrom = (In : Type 0) (read : In → Decoded) → Kinds read → (image : B
 -- ---- the net position: bought and sold apart, so that no number is signed
 
 abbrev pub on_side : (bought : Bool) (side : ℕ) → Bool
-on_side bought side = if bought then eqb side buy else not (eqb side buy)
+on_side bought side = if bought then eqb side buy otherwise not (eqb side buy)
 
 -- what is filled of an order, where it is that client's in that symbol on that side
 abbrev pub filled_on : (bought : Bool) (client : ℕ) (symbol : Text) → Order → ℕ
-filled_on bought client symbol o = if eqb o.client client && (same_text o.names.symbol symbol && on_side bought o.terms.side) then o.state.cumqty else 0
+filled_on bought client symbol o = if eqb o.client client && (same_text o.names.symbol symbol && on_side bought o.terms.side) then o.state.cumqty otherwise 0
 
 -- the LastQty of a report, by the message's own client, symbol and side
 abbrev pub last_qty_on : (bought : Bool) (client : ℕ) (symbol : Text) → Message → ℕ
 last_qty_on bought client symbol m =
-    if eqb m.kind report_kind && (eqb m.client client && (same_text m.ids.symbol symbol && on_side bought m.terms.side)) then m.exec.lastqty else 0
+    if eqb m.kind report_kind && (eqb m.client client && (same_text m.ids.symbol symbol && on_side bought m.terms.side)) then m.exec.lastqty otherwise 0
 
 -- what the image held and what was told since are what the book holds, whatever the image: a book that breaks its rules stays as it is
 abbrev pub Net : Book → State → Type 0

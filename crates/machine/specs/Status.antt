@@ -3,7 +3,7 @@
 -- k is the link of the request that the event names, q that request, and o its order as it was.
 use Rattle.std.specs.Prelude.{ℕ, ◌+◌, ◌≤◌, ◌≡◌, Bool, true, false, not, ◌&&◌, ◌||◌, eqb, ltb}
 use Rattle.std.proofs.Math.Option.{some}
-use Rattle.prelude.specs.Cases.{if◌then◌else◌, maybe}
+use Rattle.prelude.specs.Cases.{if◌then◌otherwise◌, maybe}
 use Rattle.format.specs.Codes.{pending_new, new, partially_filled, filled, pending_cancel, pending_replace, rejected}
 use Rattle.store.specs.declared.Order.{Order}
 use Rattle.store.specs.declared.Request.{Request}
@@ -36,7 +36,7 @@ reports q e = is_report e && not (rejects q e)
 
 -- the quantity that a report leaves: that of the replace which it accepts, or the order's own
 unfoldable pub qty_by : ℕ → Request → Order → Event → ℕ
-qty_by k q o e = if accepts k q o e then o.pending.qty else o.terms.qty
+qty_by k q o e = if accepts k q o e then o.pending.qty otherwise o.terms.qty
 
 -- from another venue, or to an order already done, nothing is taken
 abbrev pub heard : Order → Event → Bool
@@ -53,38 +53,38 @@ takes_report k q o e = reports q e && (heard o e && (not (stale k q o e) && (not
 -- the status that it brings to the order, 0 for none: a report's Rejected is the refused request's, and what is `behind` is dropped
 unfoldable pub brings : ℕ → Request → Order → Event → ℕ
 brings k q o e =
-    if refuses q e then (if eqb e.kind 4 && eqb e.exec.status rejected then 0 else e.exec.status)
-    else if behind k q o e then 0
-    else e.exec.status
+    if refuses q e then (if eqb e.kind 4 && eqb e.exec.status rejected then 0 otherwise e.exec.status)
+    otherwise if behind k q o e then 0
+    otherwise e.exec.status
 
 -- ---- what is left
 
 -- a status as it is set: a Filled below the quantity is New at cumulative 0 and PartiallyFilled above it, and above it so are New and PendingNew
 unfoldable pub as_set : (qty cumqty s : ℕ) → ℕ
 as_set qty cumqty s =
-    if eqb s filled && ltb cumqty qty then (if eqb cumqty 0 then new else partially_filled)
-    else if (eqb s new || eqb s pending_new) && not (eqb cumqty 0) then partially_filled
-    else s
+    if eqb s filled && ltb cumqty qty then (if eqb cumqty 0 then new otherwise partially_filled)
+    otherwise if (eqb s new || eqb s pending_new) && not (eqb cumqty 0) then partially_filled
+    otherwise s
 
 -- by a refusal the status that it brings; without one the order is no longer held pending
 unfoldable pub refused_to : Order → (s : ℕ) → ℕ
 refused_to o s =
     if not (eqb s 0) then as_set o.terms.qty o.state.cumqty s
-    else if eqb o.state.status pending_cancel || eqb o.state.status pending_replace then as_set o.terms.qty o.state.cumqty new
-    else o.state.status
+    otherwise if eqb o.state.status pending_cancel || eqb o.state.status pending_replace then as_set o.terms.qty o.state.cumqty new
+    otherwise o.state.status
 
 -- by a report the status that it brings, or the order's own
 unfoldable pub reported_to : (qty cumqty : ℕ) → Order → (s : ℕ) → ℕ
-reported_to qty cumqty o s = as_set qty cumqty (if eqb s 0 then o.state.status else s)
+reported_to qty cumqty o s = as_set qty cumqty (if eqb s 0 then o.state.status otherwise s)
 
 -- the order as it is left: the report's cumulative, the quantity of the replace that it accepts, and the status. What is not taken leaves all three.
 pub record Left (k : ℕ) (q : Request) (o : Order) (e : Event) (left : Order) : Type 0 where
-  pub cumqty : left.state.cumqty ≡ (if takes_report k q o e then e.exec.cumqty else o.state.cumqty)
-  pub qty : left.terms.qty ≡ (if takes_report k q o e then qty_by k q o e else o.terms.qty)
+  pub cumqty : left.state.cumqty ≡ (if takes_report k q o e then e.exec.cumqty otherwise o.state.cumqty)
+  pub qty : left.terms.qty ≡ (if takes_report k q o e then qty_by k q o e otherwise o.terms.qty)
   pub status : left.state.status
       ≡ (if takes_refusal q o e then refused_to o (brings k q o e)
-      else if takes_report k q o e then reported_to (qty_by k q o e) e.exec.cumqty o (brings k q o e)
-      else o.state.status)
+      otherwise if takes_report k q o e then reported_to (qty_by k q o e) e.exec.cumqty o (brings k q o e)
+      otherwise o.state.status)
 
 -- THE STATUS THAT IS SET: of every order of a book that keeps its rules, and every event of a venue that is taken
 abbrev pub StatusSet : Type 0

@@ -1,5 +1,7 @@
 // The machine: what an event does to the book, as definitions in specs/, and the types that they
 // need beside the records' and the book's. No code. Rests on records, store, text and wide.
+#![tactic(auto)]
+
 use prelude::Text;
 use records::{LongText, Record};
 use store::{Order, Request};
@@ -7,7 +9,7 @@ use store::{Order, Request};
 // What the handling of an event needs of the book beside its order: the order's link (its index
 // and one, 0 for no order), how many requests are in use, and the order's latest cancel (all zero
 // where there is none).
-#[derive(Drop)]
+#[derive(Clone, Copy)]
 pub struct Findings {
     pub place: u16,
     pub requests: u16,
@@ -16,7 +18,7 @@ pub struct Findings {
 
 // What a message says beside the order's state: a text, or the number of a fixed one, and a reason
 // with its origin, 1 ours, 2 the venue's. What is 0 or empty is not said.
-#[derive(Drop)]
+#[derive(Clone, Copy)]
 pub struct Note {
     pub text: LongText,
     pub fixedtext: u8,
@@ -26,7 +28,7 @@ pub struct Note {
 
 // Why a client's cancel or replace is refused: the reason and the number of the text. The text
 // is 0 where it is not refused.
-#[derive(Drop)]
+#[derive(Clone, Copy)]
 pub struct Refusal {
     pub reason: u32,
     pub fixedtext: u8,
@@ -35,7 +37,7 @@ pub struct Refusal {
 // A refusal of a cancel or replace that was sent (the Rust's `Refused`): the order's status as the
 // venue gives it and the venue's OrderID, 0 and empty where not given, and what the client is
 // told.
-#[derive(Drop)]
+#[derive(Clone, Copy)]
 pub struct Refused {
     pub status: u8,
     pub venueorderid: Text,
@@ -43,7 +45,7 @@ pub struct Refused {
 }
 
 // What an event does to the requests: the links of those it answers, and the one it adds.
-#[derive(Drop)]
+#[derive(Clone, Copy)]
 pub struct Requests {
     pub answered: u16,
     pub superseded: u16,
@@ -52,7 +54,7 @@ pub struct Requests {
 }
 
 // What an event puts out: up to two messages, and up to two alarms.
-#[derive(Drop)]
+#[derive(Clone, Copy)]
 pub struct Output {
     pub count: u8,
     pub first: Record,
@@ -63,7 +65,7 @@ pub struct Output {
 
 // What an event does. The order as it is left goes to the place that the link names: 0 is none,
 // and one past those in use is a new order. Where the refusal is not 0 the event is not taken.
-#[derive(Drop)]
+#[derive(Clone, Copy)]
 pub struct Change {
     pub refusal: u8,
     pub place: u16,

@@ -4,7 +4,7 @@ use Rattle.std.specs.Prelude.{ℕ, ◌+◌, ◌*◌, ◌/◌, Bool, not, ◌&&�
 use Rattle.std.proofs.Math.Option.{Option, some}
 use Rattle.prelude.specs.Below.{all_below, first_below}
 use Rattle.prelude.specs.Bytes.{zeros}
-use Rattle.prelude.specs.Cases.{if◌then◌else◌, maybe}
+use Rattle.prelude.specs.Cases.{if◌then◌otherwise◌, maybe}
 use Rattle.prelude.specs.Span.{span, splice}
 use Rattle.prelude.specs.Texts.{agree_at}
 use Rattle.format.specs.Codes.{within, is_alnum}
@@ -86,13 +86,13 @@ marked n b p = record { returned = n; book = b; places = p }
 unfoldable pub set_mark_of : (book name places : List ℕ) → Marked
 set_mark_of book name places =
     if not (keeps_of book) then marked 1 book places
-    else if not (is_mark_name name) then marked 13 book places
-    else maybe (marked 15 book places) (λ i. marked 0 book (splice places (place i) (name_bytes name ++ book))) (set_place places name)
+    otherwise if not (is_mark_name name) then marked 13 book places
+    otherwise maybe (marked 15 book places) (λ i. marked 0 book (splice places (place i) (name_bytes name ++ book))) (set_place places name)
 
 -- `return_to_mark`: 1 where the book does not keep its rules, then 13 where the name is malformed, then 14 where no place is of that name and has an
 -- image that keeps the rules. Else "the book [is] exactly its image".
 unfoldable pub return_of : (book name places : List ℕ) → Marked
 return_of book name places =
     if not (keeps_of book) then marked 1 book places
-    else if not (is_mark_name name) then marked 13 book places
-    else maybe (marked 14 book places) (λ i. marked 0 (image_at places i) places) (return_place places name)
+    otherwise if not (is_mark_name name) then marked 13 book places
+    otherwise maybe (marked 14 book places) (λ i. marked 0 (image_at places i) places) (return_place places name)

@@ -5,7 +5,7 @@ use Rattle.std.proofs.Math.Path.{refl}
 use Rattle.std.proofs.Math.Option.{none, some}
 use Rattle.prelude.specs.Below.{all_below, first_below}
 use Rattle.prelude.specs.Bytes.{zeros}
-use Rattle.prelude.specs.Cases.{if◌then◌else◌, maybe}
+use Rattle.prelude.specs.Cases.{if◌then◌otherwise◌, maybe}
 use Rattle.prelude.specs.Span.{span}
 use Rattle.format.specs.Codes.{is_alnum}
 use Rattle.opens.specs.Keeps.{keeps_of}
@@ -57,27 +57,27 @@ sample_free = (refl, refl, refl)
 -- [free, A]: a set of A goes to the second, one of B to the first
 module _ (p : List ℕ) (two : place_count p ≡ 2) (first : name_at p 0 ≡ zeros name_size) (second : name_at p 1 ≡ name_bytes A) where
   pub sample_again : set_place p A ≡ some 1
-  unfolding set_place has_name name_bytes first_below all_below maybe if◌then◌else◌
+  unfolding set_place has_name name_bytes first_below all_below maybe if◌then◌otherwise◌
   sample_again = rw (two, first, second) refl
 
   pub sample_fresh : set_place p (66 ∷ []) ≡ some 0
-  unfolding set_place has_name name_bytes first_below all_below maybe if◌then◌else◌
+  unfolding set_place has_name name_bytes first_below all_below maybe if◌then◌otherwise◌
   sample_fresh = rw (two, first, second) refl
 
 -- [A, A damaged]: a set of A goes to the first, and where B has neither, a set of B finds no place
 module _ (p : List ℕ) (two : place_count p ≡ 2) (first : name_at p 0 ≡ name_bytes A) (second : name_at p 1 ≡ name_bytes A) where
   pub sample_first : set_place p A ≡ some 0
-  unfolding set_place has_name name_bytes first_below all_below maybe if◌then◌else◌
+  unfolding set_place has_name name_bytes first_below all_below maybe if◌then◌otherwise◌
   sample_first = rw (two, first) refl
 
   pub sample_full : set_place p (66 ∷ []) ≡ none
-  unfolding set_place has_name name_bytes first_below all_below maybe if◌then◌else◌
+  unfolding set_place has_name name_bytes first_below all_below maybe if◌then◌otherwise◌
   sample_full = rw (two, first, second) refl
 
 -- [A damaged, A, A]: a return takes the second
 pub sample_return : (p : List ℕ) → place_count p ≡ 3 → name_at p 0 ≡ name_bytes A → name_at p 1 ≡ name_bytes A → name_at p 2 ≡ name_bytes A
     → keeps_of (image_at p 0) ≡ false → keeps_of (image_at p 1) ≡ true → keeps_of (image_at p 2) ≡ true → return_place p A ≡ some 1
-unfolding return_place is_mark has_name name_bytes first_below all_below maybe if◌then◌else◌
+unfolding return_place is_mark has_name name_bytes first_below all_below maybe if◌then◌otherwise◌
 sample_return p three a b c x y z = rw (three, a, b, x, y) refl
 
 -- 65,568 bytes are one place, 131,136 are two

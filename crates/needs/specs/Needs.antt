@@ -1,7 +1,7 @@
 -- WHAT AN EVENT WILL NEED (change request 13): the change that the event makes, counted and not written; and the call that gives it. That the numbers are
 -- those of the event then run is in claims. Rests on step's `call_of`, machine's `messages_of`, and records' answers.
 use Rattle.std.specs.Prelude.{ℕ, ◌+◌, List, map, eqb, length, get_or}
-use Rattle.prelude.specs.Cases.{if◌then◌else◌}
+use Rattle.prelude.specs.Cases.{if◌then◌otherwise◌}
 use Rattle.bits.specs.Map.{standing}
 use Rattle.records.specs.Answer.{head_size, messages_bytes}
 use Rattle.machine.specs.declared.Change.{Change}
@@ -26,7 +26,7 @@ fields_of ms n = get_or (map field_count ms) n 0
 
 -- the request records that a change adds
 unfoldable pub added_count : (added : ℕ) → ℕ
-added_count added = if eqb added 0 then 0 else 1
+added_count added = if eqb added 0 then 0 otherwise 1
 
 -- ---- the call
 
@@ -46,7 +46,7 @@ unfoldable pub refused : (refusal : ℕ) → Needs
 refused refusal = record { refusal = refusal; length = 0; messages = 0; requests = 0; fields_first = 0; fields_second = 0 }
 
 unfoldable pub needs_of : Change → Needs
-needs_of c = if eqb c.refusal 0 then needed (messages_of c) c.requests.added else refused c.refusal
+needs_of c = if eqb c.refusal 0 then needed (messages_of c) c.requests.added otherwise refused c.refusal
 
 -- of the event in a record, on a book, with an answer buffer of 1,024 bytes
 unfoldable pub needs_call : (book event : List ℕ) → Needs

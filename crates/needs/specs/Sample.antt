@@ -1,7 +1,7 @@
 -- Two events' needs, by value: one that says nothing and adds a request, and one whose answer has two messages of different fields. Rests on Needs.
 use Rattle.std.specs.Prelude.{ℕ, ◌+◌, ◌≡◌, refl, [], ◌∷◌}
 use Rattle.prelude.specs.Below.{count_below}
-use Rattle.prelude.specs.Cases.{if◌then◌else◌}
+use Rattle.prelude.specs.Cases.{if◌then◌otherwise◌}
 use Rattle.prelude.specs.Texts.{contents, text_of}
 use Rattle.bits.specs.Map.{map_of, standing}
 use Rattle.format.specs.Format.{fields, size}
@@ -54,9 +54,9 @@ needs length messages requests first second = record {
 }
 
 silent : needed [] 1 ≡ needs head_size 0 1 0 0
-unfolding needed answer_length fields_of added_count if◌then◌else◌
+unfolding needed answer_length fields_of added_count if◌then◌otherwise◌
 silent = refl
 
 both : needed (new_order ∷ reject ∷ []) 0 ≡ needs (head_size + 21 + 22) 2 0 6 8
-unfolding needed answer_length fields_of added_count field_count standing count_below if◌then◌else◌ record_bytes bytes body field_bytes encode size fields held_by spelled text_by short_bytes long_bytes words contents text_of cancel_reject note_bits bit_if
+unfolding needed answer_length fields_of added_count field_count standing count_below if◌then◌otherwise◌ record_bytes bytes body field_bytes encode size fields held_by spelled text_by short_bytes long_bytes words contents text_of cancel_reject note_bits bit_if
 both = refl

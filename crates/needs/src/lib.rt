@@ -2,6 +2,8 @@
 // message and request records it adds, and how many fields each message has. The change is step's,
 // the one that `event` writes; here it is counted. Nothing that is lent is written. Rests on step,
 // records and bits.
+#![tactic(auto)]
+
 ghost use Rattle.std.specs.Prelude.{◌≡◌};
 ghost use Rattle.records.specs.Answer.{chosen};
 ghost use Rattle.needs.specs.Needs.{refused, answer_length, field_count, added_count, needed, needs_call};
@@ -11,7 +13,7 @@ use records::Record;
 
 // The refusal, or 0 and the event's needs. With a refusal all else is 0.
 #[repr(C)]
-#[derive(Drop)]
+#[derive(Clone, Copy)]
 pub struct Needs {
     pub refusal: u32,
     pub length: u32,

@@ -1,8 +1,8 @@
 -- THE NET POSITION of a book (change request 6): for each client and symbol that has an order, what was bought less what was sold, as values
 -- and as the bytes of a line; and the call that writes the lines. Rests on counted, store's book, machine's `filled_on` and opens' `keeps_of`.
-use Rattle.std.specs.Prelude.{ℕ, zero, suc, ◌+◌, ◌-◌, ◌*◌, ◌^◌, ◌≡◌, Bool, true, false, not, ◌&&◌, ◌||◌, List, [], ◌∷◌, ◌++◌, map, eqb, ltb, length, replicate}
+use Rattle.std.specs.Prelude.{ℕ, zero, suc, ◌-◌, ◌*◌, ◌^◌, ◌≡◌, Bool, true, false, not, ◌&&◌, ◌||◌, List, [], ◌∷◌, ◌++◌, map, eqb, ltb, length, replicate}
 use Rattle.prelude.specs.Below.{all_below}
-use Rattle.prelude.specs.Cases.{if◌then◌else◌}
+use Rattle.prelude.specs.Cases.{if◌then◌otherwise◌}
 use Rattle.prelude.specs.Lists.{list_below}
 use Rattle.prelude.specs.Number.{number, bytes_of}
 use Rattle.prelude.specs.Pieces.{joined}
@@ -73,7 +73,7 @@ is_first b n = unseen b (order_in b n).client (order_in b n).names.symbol n
 -- those of the first n orders: a position for each that is the first of its client and symbol
 unfoldable pub positions : Book → ℕ → List Position
 positions b zero = []
-positions b (suc n) = positions b n ++ (if is_first b n then position_of b (order_in b n) ∷ [] else [])
+positions b (suc n) = positions b n ++ (if is_first b n then position_of b (order_in b n) ∷ [] otherwise [])
 
 -- THE NET POSITION: each client and symbol once, by its first booking
 unfoldable pub net_of : Book → List Position
@@ -87,7 +87,7 @@ padded width text = text ++ replicate (width - length text) 0
 
 -- in 64 bits: a number below zero counts back from 2^64
 unfoldable pub twos : Signed → ℕ
-twos n = if eqb n.below 0 then n.above else 2 ^ 64 - n.below
+twos n = if eqb n.below 0 then n.above otherwise 2 ^ 64 - n.below
 
 -- 27 bytes: client, length of the symbol, symbol, net; numbers have their low byte first
 abbrev pub fields : (client : ℕ) (symbol : Text) (net : ℕ) → List (List ℕ)
@@ -103,7 +103,7 @@ net_bytes ps = joined (map line_bytes ps)
 
 -- from 2^63 on it is below zero
 unfoldable pub signed_of : ℕ → Signed
-signed_of n = if ltb n (2 ^ 63) then less n 0 else less 0 (2 ^ 64 - n)
+signed_of n = if ltb n (2 ^ 63) then less n 0 otherwise less 0 (2 ^ 64 - n)
 
 unfoldable pub read_line : List ℕ → Position
 read_line s = record {
@@ -121,7 +121,7 @@ is_of client symbol p = eqb p.client client && same_text p.symbol symbol
 -- the net of a client in a symbol by the positions: 0 where it has none
 unfoldable pub net_for : (client : ℕ) (symbol : Text) → List Position → Signed
 net_for client symbol [] = nothing
-net_for client symbol (p ∷ ps) = if is_of client symbol p then p.net else net_for client symbol ps
+net_for client symbol (p ∷ ps) = if is_of client symbol p then p.net otherwise net_for client symbol ps
 
 abbrev pub no_position : Position
 no_position = record { client = 0; symbol = text_of []; net = nothing }
@@ -149,8 +149,8 @@ unfoldable pub net_call : (book : List ℕ) (scratch : ℕ) (lines : List ℕ) �
 net_call book scratch lines =
     let net : List Position = net_of (book_of book) in
     if not (keeps_of book) then written (refusing 1) lines
-    else if ltb scratch least_scratch || ltb (length lines) least_lines then written (refusing 11) lines
-    else written (counting (length net)) (splice lines 0 (net_bytes net))
+    otherwise if ltb scratch least_scratch || ltb (length lines) least_lines then written (refusing 11) lines
+    otherwise written (counting (length net)) (splice lines 0 (net_bytes net))
 
 -- The contract: result and lines by one equation. The scratch keeps its length, and is as it was where the call is refused; else what it
 -- holds afterwards is free.

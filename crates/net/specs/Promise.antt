@@ -1,9 +1,9 @@
 -- What the net position of any book is, said of each client and symbol; what holds of the lines of a book that keeps its rules; and how the
 -- call ends, said of any book, scratch and lines. Rests on Net. All of it is proved in Laws/Sound.
-use Rattle.std.specs.Prelude.{ℕ, ◌+◌, ◌*◌, ◌^◌, ◌≤◌, ◌<◌, ◌≡◌, Bool, true, false, ◌&&◌, List, ◌⊎◌, eqb, length, get_or}
-use Rattle.prelude.specs.Cases.{if◌then◌else◌}
+use Rattle.std.specs.Prelude.{ℕ, ◌+◌, ◌*◌, ◌^◌, ◌≤◌, ◌<◌, ◌≡◌, true, false, List, ◌⊎◌, length, get_or}
+use Rattle.prelude.specs.Cases.{if◌then◌otherwise◌}
 use Rattle.prelude.specs.Number.{Bytes}
-use Rattle.prelude.specs.Texts.{contents, same_text}
+use Rattle.prelude.specs.Texts.{contents}
 use Rattle.prelude.specs.Totals.{how_many, Every}
 use Rattle.prelude.specs.declared.Text.{Text}
 use Rattle.counted.specs.Counted.{refusing, counting}
@@ -20,7 +20,7 @@ NetRight = (b : Book) (client : ℕ) (symbol : Text) → net_for client symbol (
 
 -- no position where none of the orders is its, and one where one is, be its net 0
 abbrev pub NetOnce : Type 0
-NetOnce = (b : Book) (client : ℕ) (symbol : Text) → how_many (is_of client symbol) (net_of b) ≡ (if unseen b client symbol (length b.orders) then 0 else 1)
+NetOnce = (b : Book) (client : ℕ) (symbol : Text) → how_many (is_of client symbol) (net_of b) ≡ (if unseen b client symbol (length b.orders) then 0 otherwise 1)
 
 -- by first booking: behind the positions of the orders before it stands that of an order which is the first of its client and symbol
 abbrev pub NetInOrder : Type 0

@@ -3,13 +3,12 @@
 -- What it shuts out: short sales as purchases (+210), done orders left out (-130), positions by last booking, symbols by their bytes alone.
 use Rattle.std.specs.Prelude.{ℕ, ◌-◌, ◌^◌, ◌≡◌, refl, List, [], ◌∷◌}
 use Rattle.prelude.specs.Below.{all_below}
-use Rattle.prelude.specs.Cases.{if◌then◌else◌}
+use Rattle.prelude.specs.Cases.{if◌then◌otherwise◌}
 use Rattle.prelude.specs.Texts.{contents, text_of, same_text}
-use Rattle.prelude.specs.declared.Text.{Text}
 use Rattle.store.specs.declared.Order.{Order}
 use Rattle.store.specs.Orders.{no_order}
 use Rattle.store.specs.Book.{Book}
-use Rattle.net.specs.Net.{less, filled_in, Position, position_of, of_pair, positions, net_of, padded, twos, line_bytes, net_bytes, signed_of}
+use Rattle.net.specs.Net.{less, filled_in, Position, position_of, of_pair, positions, net_of, padded, twos, line_bytes, signed_of}
 
 abbrev wheat : List ℕ
 wheat = 87 ∷ 72 ∷ 69 ∷ 65 ∷ 84 ∷ []
@@ -64,7 +63,7 @@ abbrev day_net : List Position
 day_net = position 7 wheat 0 900000 ∷ position 8 wheat 0 50000 ∷ position 7 wheat_zero 0 20000 ∷ position 7 wheau 30000 0 ∷ []
 
 pub sample_net : net_of day ≡ day_net
-unfolding net_of positions position_of of_pair filled_in all_below same_text text_of if◌then◌else◌
+unfolding net_of positions position_of of_pair filled_in all_below same_text text_of if◌then◌otherwise◌
 sample_net = refl
 
 -- -90.0000 and +1.0000 as lines; below, as much sold as bought, of a symbol of sixteen bytes and of one
@@ -79,24 +78,24 @@ line_above =
     ∷ 16 ∷ 39 ∷ 0 ∷ 0 ∷ 0 ∷ 0 ∷ 0 ∷ 0 ∷ []
 
 pub sample_below : line_bytes (position 7 wheat 600000 1500000) ≡ line_below
-unfolding line_bytes padded contents text_of twos if◌then◌else◌
+unfolding line_bytes padded contents text_of twos if◌then◌otherwise◌
 sample_below = refl
 
 pub sample_above : line_bytes (position 300 wheat_zero 10000 0) ≡ line_above
-unfolding line_bytes padded contents text_of twos if◌then◌else◌
+unfolding line_bytes padded contents text_of twos if◌then◌otherwise◌
 sample_above = refl
 
 -- the least that 64 bits hold, -1, and the greatest
 pub sample_least : signed_of (2 ^ 63) ≡ less 0 (2 ^ 63)
-unfolding signed_of if◌then◌else◌
+unfolding signed_of if◌then◌otherwise◌
 sample_least = refl
 
 pub sample_minus_one : signed_of (2 ^ 64 - 1) ≡ less 0 1
-unfolding signed_of if◌then◌else◌
+unfolding signed_of if◌then◌otherwise◌
 sample_minus_one = refl
 
 pub sample_greatest : signed_of (2 ^ 63 - 1) ≡ less (2 ^ 63 - 1) 0
-unfolding signed_of if◌then◌else◌
+unfolding signed_of if◌then◌otherwise◌
 sample_greatest = refl
 
 abbrev line_sixteen : List ℕ
@@ -105,7 +104,7 @@ line_sixteen =
     ∷ 0 ∷ 0 ∷ 0 ∷ 0 ∷ 0 ∷ 0 ∷ 0 ∷ 0 ∷ []
 
 pub sample_sixteen : line_bytes (position 7 sixteen 5 5) ≡ line_sixteen
-unfolding line_bytes padded contents text_of twos if◌then◌else◌
+unfolding line_bytes padded contents text_of twos if◌then◌otherwise◌
 sample_sixteen = refl
 
 abbrev line_letter : List ℕ
@@ -114,5 +113,5 @@ line_letter =
     ∷ 0 ∷ 0 ∷ 0 ∷ 0 ∷ 0 ∷ 0 ∷ 0 ∷ 0 ∷ []
 
 pub sample_letter : line_bytes (position 7 letter 5 5) ≡ line_letter
-unfolding line_bytes padded contents text_of twos if◌then◌else◌
+unfolding line_bytes padded contents text_of twos if◌then◌otherwise◌
 sample_letter = refl

@@ -1,6 +1,8 @@
 // The net position of a book, written into a lent buffer: 27 bytes for each client and symbol that has
 // an order, by its first booking. What a position and a line are stands in specs/Net.antt, and what
 // holds of them in specs/Promise.antt. Rests on opens, store, text, words and counted.
+#![tactic(auto)]
+
 ghost use Rattle.std.specs.Prelude.{◌≡◌, true, ◌+◌, ◌*◌, ◌≤◌, ◌<◌, length};
 ghost use Rattle.prelude.specs.Span.{splice};
 ghost use Rattle.store.specs.Book.{book_of, order_count};
@@ -14,7 +16,7 @@ mod line; // one line
 mod pair; // the orders of one client in one symbol
 
 // What was bought and what was sold.
-#[derive(Drop)]
+#[derive(Clone, Copy)]
 pub struct Amounts {
     pub bought: u64,
     pub sold: u64,

@@ -1,7 +1,7 @@
 -- THE BOOK'S RULES on bytes, what question 1 and `check` decide: machine's rules of the book that the bytes are, that what is stored for each client is its
 -- open quantity, and that what stands beside each request is right. And the call that gives the open quantity. Rests on rules, Opens and outcomes.
 use Rattle.std.specs.Prelude.{ℕ, Bool, ◌&&◌, List}
-use Rattle.prelude.specs.Cases.{if◌then◌else◌}
+use Rattle.prelude.specs.Cases.{if◌then◌otherwise◌}
 use Rattle.store.specs.Book.{book_of}
 use Rattle.machine.specs.Exchange.{open_of}
 use Rattle.rules.specs.Ruled.{ruled_of}
@@ -19,4 +19,4 @@ opened refusal quantity = record { refusal = refusal; quantity = quantity }
 
 -- the client's open quantity, 0 for a client without orders; 1 where the book does not keep its rules
 unfoldable pub open_call : List ℕ → (client : ℕ) → Opened
-open_call b client = if keeps_of b then opened 0 (open_of (book_of b) client) else opened 1 0
+open_call b client = if keeps_of b then opened 0 (open_of (book_of b) client) otherwise opened 1 0

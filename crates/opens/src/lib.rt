@@ -2,6 +2,8 @@
 // the rule that it is right, decided with all the others; the call that gives it; and what it becomes
 // by an event, by value. Every public function is total and writes nothing. Rests on rules, store,
 // orders and words.
+#![tactic(auto)]
+
 ghost use Rattle.std.specs.Prelude.{◌≡◌};
 ghost use Rattle.store.specs.Book.{book_of};
 ghost use Rattle.machine.specs.Machine.{order_at_link};
@@ -16,14 +18,14 @@ mod sums; // the sum of each client's leaves, in one pass
 
 // The refusal, or 0 and the client's open quantity. With a refusal the quantity is 0.
 #[repr(C)]
-#[derive(Drop)]
+#[derive(Clone, Copy)]
 pub struct Opened {
     pub refusal: u32,
     pub quantity: u64,
 }
 
 // The order whose word is written, and the quantity that is written there.
-#[derive(Drop)]
+#[derive(Clone, Copy)]
 pub struct Word {
     pub at: usize,
     pub quantity: u64,

@@ -1,7 +1,7 @@
 // The order parts of src/book.rs: `impl Order` and what stands around it. Each function equals its
 // definition in machine's Orders. Rests on text.
 ghost use Rattle.std.specs.Prelude.{◌≡◌, ◌-◌};
-ghost use Rattle.prelude.specs.Cases.{if◌then◌else◌};
+ghost use Rattle.prelude.specs.Cases.{if◌then◌otherwise◌};
 ghost use Rattle.machine.specs.Orders.{one_more, is_empty, has_pending, has_gateway, is_done, leaves_of, leaves_qty, as_asked, status_at, is_short, unless_short, short_alarm, set_status, text_none, kept_order_id, record_venue_order_id, pending_terms, apply_replace, next_sequence, next_exec};
 
 use format::codes;
@@ -89,7 +89,7 @@ pub fn less(a: u64, b: u64) -> u64
 
 // `a` where the test holds, else `b`.
 pub fn pick_8(t: bool, a: u8, b: u8) -> u8
-    ensures { result ≡ (if t then a else b) }
+    ensures { result ≡ (if t then a otherwise b) }
 {
     if t {
         return a;
@@ -98,7 +98,7 @@ pub fn pick_8(t: bool, a: u8, b: u8) -> u8
 }
 
 pub fn pick_32(t: bool, a: u32, b: u32) -> u32
-    ensures { result ≡ (if t then a else b) }
+    ensures { result ≡ (if t then a otherwise b) }
 {
     if t {
         return a;
@@ -107,7 +107,7 @@ pub fn pick_32(t: bool, a: u32, b: u32) -> u32
 }
 
 pub fn pick_64(t: bool, a: u64, b: u64) -> u64
-    ensures { result ≡ (if t then a else b) }
+    ensures { result ≡ (if t then a otherwise b) }
 {
     if t {
         return a;
@@ -116,7 +116,7 @@ pub fn pick_64(t: bool, a: u64, b: u64) -> u64
 }
 
 pub fn pick_text(t: bool, a: Text, b: Text) -> Text
-    ensures { result ≡ (if t then a else b) }
+    ensures { result ≡ (if t then a otherwise b) }
 {
     if t {
         return a;

@@ -3,7 +3,7 @@
 -- on machine, which does not see them.
 use Rattle.std.specs.Prelude.{ℕ, ◌+◌, ◌-◌, Bool, not, ◌&&◌, ◌||◌, List, eqb, leb, ltb, get_or}
 use Rattle.prelude.specs.Below.{all_below}
-use Rattle.prelude.specs.Cases.{if◌then◌else◌, maybe}
+use Rattle.prelude.specs.Cases.{if◌then◌otherwise◌, maybe}
 use Rattle.prelude.specs.Texts.{same_text}
 use Rattle.prelude.specs.declared.Text.{Text}
 use Rattle.format.specs.Codes.{rejected, exec_rejected}
@@ -32,18 +32,18 @@ failed_to_send = 3
 unfoldable pub outcome_by : Event → ℕ
 outcome_by e =
     if eqb e.kind 7 then failed_to_send
-    else if eqb e.kind 4 && not (eqb e.exec.status rejected) && not (eqb e.exec.exectype exec_rejected) then accepted
-    else refused
+    otherwise if eqb e.kind 4 && not (eqb e.exec.status rejected) && not (eqb e.exec.exectype exec_rejected) then accepted
+    otherwise refused
 
 -- set where `answered` is, and never again: the outcome of request k, of the book x before the event e and the book y after it
 unfoldable pub outcome_after : (x y : Book) → Event → (outcome : ℕ → ℕ) → ℕ → ℕ
-outcome_after x y e outcome k = if is_answered (request_in x k) then outcome k else if is_answered (request_in y k) then outcome_by e else 0
+outcome_after x y e outcome k = if is_answered (request_in x k) then outcome k otherwise if is_answered (request_in y k) then outcome_by e otherwise 0
 
 -- ---- the rule
 
 -- "exactly the unanswered have outcome 0"
 unfoldable pub outcome_rule : Request → (outcome : ℕ) → Bool
-outcome_rule q outcome = if is_answered q then ltb 0 outcome && leb outcome failed_to_send else eqb outcome 0
+outcome_rule q outcome = if is_answered q then ltb 0 outcome && leb outcome failed_to_send otherwise eqb outcome 0
 
 -- "an OrigClOrdID names such a request", of its order and numbered lower: the one of the link. Without an OrigClOrdID the link says nothing.
 unfoldable pub origin_rule : List Request → (k link : ℕ) → Bool

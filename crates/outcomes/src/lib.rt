@@ -2,6 +2,8 @@
 // the request's fields in the book: the rule that they are right, as a definition, which `rules` decides;
 // and what an event sets, by value. Every public function is total and writes nothing. Rests on store and
 // records.
+#![tactic(auto)]
+
 ghost use Rattle.std.specs.Prelude.{◌≡◌};
 ghost use Rattle.outcomes.specs.Outcomes.{origin_of, outcome_by, outcome_in};
 

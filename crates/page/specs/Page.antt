@@ -1,7 +1,7 @@
 -- THE EVENING PAGE of a book (change request 1): a line for each order, as values and as the bytes that are printed; and the call that
 -- prints it. Rests on decimal, counted, store's book, machine's `leaves_qty` and opens' `keeps_of`.
 use Rattle.std.specs.Prelude.{ℕ, ◌-◌, ◌*◌, not, List, [], ◌∷◌, ◌++◌, map, ltb, length, take, replicate}
-use Rattle.prelude.specs.Cases.{if◌then◌else◌}
+use Rattle.prelude.specs.Cases.{if◌then◌otherwise◌}
 use Rattle.prelude.specs.Pieces.{joined}
 use Rattle.prelude.specs.Span.{splice}
 use Rattle.prelude.specs.Texts.{contents}
@@ -41,7 +41,7 @@ page_of b = map line_of b.orders
 
 -- the byte that a byte of a text prints as: below 32 a blank
 unfoldable pub printable : ℕ → ℕ
-printable c = if ltb c blank then blank else c
+printable c = if ltb c blank then blank otherwise c
 
 -- a text from the left of so many columns, filled with blanks
 unfoldable pub left : ℕ → List ℕ → List ℕ
@@ -90,5 +90,5 @@ unfoldable pub page_call : (book out : List ℕ) → Paged
 page_call book out =
     let lines : List Line = page_of (book_of book) in
     if not (keeps_of book) then paged (refusing 1) out
-    else if ltb (length out) (81 * length lines) then paged (refusing 8) out
-    else paged (counting (length (page_bytes lines))) (splice out 0 (page_bytes lines))
+    otherwise if ltb (length out) (81 * length lines) then paged (refusing 8) out
+    otherwise paged (counting (length (page_bytes lines))) (splice out 0 (page_bytes lines))

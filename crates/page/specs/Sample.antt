@@ -1,17 +1,17 @@
 -- A page of four orders, byte for byte: one that was cancelled at 40 of 100, whose leaves are 0; one with the largest quantity and the
 -- longest name and symbol; one whose symbol has a line feed in it, which prints as a blank; and one that is done for the day at 40 of 100, whose
 -- leaves are 0 too. Rests on Page.
-use Rattle.std.specs.Prelude.{ℕ, ◌^◌, ◌≡◌, refl, List, [], ◌∷◌, ◌++◌, map}
-use Rattle.std.proofs.Common.{◌∙◌, arith, lit≤}
-use Rattle.prelude.specs.Cases.{if◌then◌else◌}
+use Rattle.std.specs.Prelude.{ℕ, ◌^◌, ◌≡◌, refl, List, [], ◌∷◌, ◌++◌}
+use Rattle.std.proofs.Common.{◌∙◌, lit≤}
+use Rattle.prelude.specs.Cases.{if◌then◌otherwise◌}
 use Rattle.prelude.specs.Texts.{contents, text_of}
 use Rattle.decimal.specs.Decimal.{digits_by, low_digits, down, right}
 use Rattle.store.specs.declared.Order.{Order}
 use Rattle.store.specs.Orders.{no_order}
 use Rattle.store.specs.Book.{Book}
 use Rattle.machine.specs.Orders.{is_done, leaves_of, leaves_qty}
-use Rattle.page.specs.Page.{Line, printable, left, line_of, line_bytes, page_of, page_bytes}
-use Rattle.page.specs.Laws.Line.{shortly, line_shortly, line_short}
+use Rattle.page.specs.Page.{printable, left, line_of, line_bytes, page_of, page_bytes}
+use Rattle.page.specs.Laws.Line.{shortly, line_short}
 
 abbrev order : (name symbol : List ℕ) (status qty cumqty : ℕ) → Order
 order name symbol status qty cumqty = record {
@@ -97,19 +97,19 @@ line_ended =
 -- ---- the facts
 
 canceled_is : line_bytes (line_of canceled) ≡ line_canceled
-unfolding line_of contents text_of leaves_qty leaves_of is_done if◌then◌else◌ left printable shortly right digits_by low_digits down
+unfolding line_of contents text_of leaves_qty leaves_of is_done if◌then◌otherwise◌ left printable shortly right digits_by low_digits down
 canceled_is = line_short (line_of canceled) (lit≤ tt) (lit≤ tt) (lit≤ tt) ∙ refl
 
 largest_is : line_bytes (line_of largest) ≡ line_largest
-unfolding line_of contents text_of leaves_qty leaves_of is_done if◌then◌else◌ left printable shortly right digits_by low_digits down
+unfolding line_of contents text_of leaves_qty leaves_of is_done if◌then◌otherwise◌ left printable shortly right digits_by low_digits down
 largest_is = line_short (line_of largest) (lit≤ tt) (lit≤ tt) (lit≤ tt) ∙ refl
 
 broken_is : line_bytes (line_of broken) ≡ line_broken
-unfolding line_of contents text_of leaves_qty leaves_of is_done if◌then◌else◌ left printable shortly right digits_by low_digits down
+unfolding line_of contents text_of leaves_qty leaves_of is_done if◌then◌otherwise◌ left printable shortly right digits_by low_digits down
 broken_is = line_short (line_of broken) (lit≤ tt) (lit≤ tt) (lit≤ tt) ∙ refl
 
 ended_is : line_bytes (line_of ended) ≡ line_ended
-unfolding line_of contents text_of leaves_qty leaves_of is_done if◌then◌else◌ left printable shortly right digits_by low_digits down
+unfolding line_of contents text_of leaves_qty leaves_of is_done if◌then◌otherwise◌ left printable shortly right digits_by low_digits down
 ended_is = line_short (line_of ended) (lit≤ tt) (lit≤ tt) (lit≤ tt) ∙ refl
 
 pub sample_page : page_bytes (page_of day) ≡ line_canceled ++ (line_largest ++ (line_broken ++ (line_ended ++ [])))

@@ -1,8 +1,10 @@
 // The evening page of a book, printed into a lent buffer: 81 bytes for each order, in booking order.
 // What a page is stands in specs/Page.antt, and what holds of its bytes in specs/Promise.antt. Rests on
 // opens, store, orders' `leaves_qty`, decimal and counted.
+#![tactic(auto)]
+
 ghost use Rattle.std.specs.Prelude.{◌≡◌, true, [], ◌∷◌, ◌+◌, ◌*◌, ◌^◌, ◌≤◌, ltb, length};
-ghost use Rattle.prelude.specs.Cases.{if◌then◌else◌};
+ghost use Rattle.prelude.specs.Cases.{if◌then◌otherwise◌};
 ghost use Rattle.prelude.specs.Span.{splice};
 ghost use Rattle.prelude.specs.Texts.{contents};
 ghost use Rattle.store.specs.Book.{book_of, order_count};
@@ -31,7 +33,7 @@ fn put_byte(s: &mut [u8], at: usize, x: u8)
 
 // Byte i of a text of `len` bytes, as it prints.
 fn shown(x: u8, i: usize, len: usize) -> u8
-    ensures { result ≡ (if ltb i len then printable x else 32) }
+    ensures { result ≡ (if ltb i len then printable x otherwise 32) }
 {
     if i >= len {
         return b' ';

@@ -1,6 +1,8 @@
 // Where the fields of a record start, and what each may hold: what of this others may call. Past the
 // last field stands one that takes nothing and holds anything; a record that starts past 65,535 has
 // no places. Rests on `walk` and `reader`.
+#![tactic(auto)]
+
 ghost use Rattle.std.specs.Prelude.{◌≡◌, ℕ, ◌<◌, ◌-◌, ◌≤◌, length, get_or};
 ghost use Rattle.format.specs.Format.{in_range, size, range};
 ghost use Rattle.places.specs.Starts.{start_from};

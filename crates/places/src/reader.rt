@@ -1,12 +1,12 @@
 // A reader over a record: the bytes, and how far it has read. Each function over it takes it apart
-// and calls the core, which has slice and number apart (`walk`); these are proved by hand.
-// `next_at` and `left_at` stand above them: their parameters are plain, so no caller needs such a proof.
+// and calls the core, which has slice and number apart (`walk`). `next_at` and `left_at` stand above
+// them: their parameters are plain, so no caller sees a reader.
 ghost use Rattle.std.specs.Prelude.{◌≡◌, ◌<◌, ◌+◌, ◌-◌, ◌≤◌, length};
 ghost use Rattle.format.specs.Places.{next};
 
 use crate::walk::{after, rest};
 
-#[derive(Drop)]
+#[derive(Clone, Copy)]
 pub(crate) struct Reader<'a> {
     bytes: &'a [u8],
     at: usize,

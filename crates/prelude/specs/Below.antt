@@ -1,7 +1,7 @@
 -- What a loop over the numbers below n answers: whether all pass a test, the first that does, and how many do. Rests on Cases.
 -- Each recurs at the end of its range, so that it meets a loop that counts up. A loop's invariant is `all_below p i ≡ true` or
 -- `first_below p i ≡ none`, and four laws carry it: at the start, one more, a miss or a hit, and done.
-use Rattle.std.specs.Prelude.{◌≡◌, Bool, true, not, ◌&&◌, ◌||◌, List, eqb, leb, length, get_or, set}
+use Rattle.std.specs.Prelude.{◌≡◌, Bool, true, ◌&&◌, ◌||◌, List, eqb, leb, length, get_or, set}
 use Rattle.std.proofs.Math.Path.{refl, ap, subst}
 use Rattle.std.proofs.Common.{sym, ◌∙◌, not-suc-le-zero, eq-or-lt_of_le, le_of_suc-le-suc, add-one, eq-eqb, ne_eqb, le-leb, get_or-set_same, get_or-set_other}
 use Rattle.std.proofs.Math.Bool.{false}
@@ -11,7 +11,7 @@ use Prim.Native.Nat.{ℕ, zero, suc, ◌+◌, ◌≤◌, ◌<◌}
 use Rattle.std.proofs.Math.Decide.{ℕ_discrete, dec_lt}
 use native.Mathlib.Omega.{arith}
 use Rattle.std.proofs.lemmas.Bool.{lt-leb}
-use Rattle.prelude.specs.Cases.{if◌then◌else◌, maybe, split_if, both_true, both_false, test_same}
+use Rattle.prelude.specs.Cases.{if◌then◌otherwise◌, maybe, split_if, both_true, both_false, test_same}
 
 -- every number below n passes
 unfoldable pub all_below : (ℕ → Bool) → ℕ → Bool
@@ -21,12 +21,12 @@ all_below p (suc n) = all_below p n && p n
 -- the first number below n that passes
 unfoldable pub first_below : (ℕ → Bool) → ℕ → Option ℕ
 first_below p zero = none
-first_below p (suc n) = maybe (if p n then some n else none) some (first_below p n)
+first_below p (suc n) = maybe (if p n then some n otherwise none) some (first_below p n)
 
 -- how many numbers below n pass
 unfoldable pub count_below : (ℕ → Bool) → ℕ → ℕ
 count_below p zero = 0
-count_below p (suc n) = count_below p n + (if p n then 1 else 0)
+count_below p (suc n) = count_below p n + (if p n then 1 otherwise 0)
 
 module _ (p : ℕ → Bool) where
   pub all_none : all_below p 0 ≡ true
@@ -66,24 +66,24 @@ module _ (p : ℕ → Bool) where
   first_none = refl
 
   pub first_more : (i : ℕ) → first_below p i ≡ none → p i ≡ false → first_below p (i + 1) ≡ none
-  unfolding first_below maybe if◌then◌else◌
+  unfolding first_below maybe if◌then◌otherwise◌
   first_more i a h = rw (add-one, a, h)
 
   pub first_hit : (n i : ℕ) → i < n → first_below p i ≡ none → p i ≡ true → first_below p n ≡ some i
-  unfolding first_below maybe if◌then◌else◌
+  unfolding first_below maybe if◌then◌otherwise◌
   first_hit zero i l a h = absurd (not-suc-le-zero l)
   first_hit (suc n) i l a h =
       ⊎_elim
-      (λ e. subst (λ (m : ℕ). maybe (if p m then some m else none) some (first_below p m) ≡ some i) e (rw (a, h)))
-      (λ k. ap (maybe (if p n then some n else none) some) (first_hit n i k a h))
+      (λ e. subst (λ (m : ℕ). maybe (if p m then some m otherwise none) some (first_below p m) ≡ some i) e (rw (a, h)))
+      (λ k. ap (maybe (if p n then some n otherwise none) some) (first_hit n i k a h))
       (eq-or-lt_of_le (le_of_suc-le-suc l))
 
   pub first_done : (n i : ℕ) → first_below p i ≡ none → i ≤ n → n ≤ i → first_below p n ≡ none
   first_done n i a l h = let e : i ≡ n = omega arith in subst (λ (k : ℕ). first_below p k ≡ none) e a
 
 -- nothing was found among n + 1, so nothing among n, and n does not pass
-rest_none : (o : Option ℕ) (b : Bool) (n : ℕ) → maybe (if b then some n else none) some o ≡ none → (o ≡ none) × (b ≡ false)
-unfolding maybe if◌then◌else◌
+rest_none : (o : Option ℕ) (b : Bool) (n : ℕ) → maybe (if b then some n otherwise none) some o ≡ none → (o ≡ none) × (b ≡ false)
+unfolding maybe if◌then◌otherwise◌
 rest_none none false n e = (refl, refl)
 rest_none none true n e = let z : ◌≡◌ {A = ℕ} 0 1 = cc in absurd (omega arith)
 rest_none (some k) b n e = let z : ◌≡◌ {A = ℕ} 0 1 = cc in absurd (omega arith)
@@ -102,8 +102,8 @@ pub record First (p : ℕ → Bool) (n i : ℕ) : Type 0 where
   pub least : first_below p i ≡ none
 
 rest_some : (p : ℕ → Bool) (n i : ℕ) (o : Option ℕ) (b : Bool) → first_below p n ≡ o → p n ≡ b → (o ≡ some i → First p n i)
-    → maybe (if b then some n else none) some o ≡ some i → First p (suc n) i
-unfolding maybe if◌then◌else◌
+    → maybe (if b then some n otherwise none) some o ≡ some i → First p (suc n) i
+unfolding maybe if◌then◌otherwise◌
 rest_some p n i none true f q k e =
     let s : n ≡ i = cc in subst (λ (m : ℕ). First p (suc n) m) s (record { below = omega arith; passes = q; least = f })
 rest_some p n i none false f q k e = let z : ◌≡◌ {A = ℕ} 0 1 = cc in absurd (omega arith)
@@ -122,11 +122,11 @@ module _ (p : ℕ → Bool) where
   count_none = refl
 
   pub count_hit : (i : ℕ) → p i ≡ true → count_below p (i + 1) ≡ count_below p i + 1
-  unfolding count_below if◌then◌else◌
+  unfolding count_below if◌then◌otherwise◌
   count_hit i h = rw (add-one i, h)
 
   pub count_pass : (i : ℕ) → p i ≡ false → count_below p (i + 1) ≡ count_below p i
-  unfolding count_below if◌then◌else◌
+  unfolding count_below if◌then◌otherwise◌
   count_pass i h = rw (add-one i, h) (omega arith)
 
   pub count_le : (n : ℕ) → count_below p n ≤ n
@@ -163,8 +163,8 @@ module _ (p : ℕ → Bool) (n : ℕ) where
       (λ u. miss (first_below p m) (p m) (h m (le_of_suc-le-suc u) (omega arith)) ∙ first_past m (le_of_suc-le-suc u) (λ k a b. h k a (omega arith)))
       (eq-or-lt_of_le l)
     where
-      miss : (o : Option ℕ) (a : Bool) → a ≡ false → maybe (if a then some m else none) some o ≡ o
-      miss none a e = unfold maybe if◌then◌else◌ in rw e
+      miss : (o : Option ℕ) (a : Bool) → a ≡ false → maybe (if a then some m otherwise none) some o ≡ o
+      miss none a e = unfold maybe if◌then◌otherwise◌ in rw e
       miss (some k) a e = unfold maybe in refl
 
   pub count_past : (m : ℕ) → n ≤ m → ((k : ℕ) → n ≤ k → k < m → p k ≡ false) → count_below p m ≡ count_below p n
@@ -175,8 +175,8 @@ module _ (p : ℕ → Bool) (n : ℕ) where
       (λ u. miss (count_below p m) (p m) (h m (le_of_suc-le-suc u) (omega arith)) ∙ count_past m (le_of_suc-le-suc u) (λ k a b. h k a (omega arith)))
       (eq-or-lt_of_le l)
     where
-      miss : (c : ℕ) (a : Bool) → a ≡ false → c + (if a then 1 else 0) ≡ c
-      miss c a e = unfold if◌then◌else◌ in rw e (omega arith)
+      miss : (c : ℕ) (a : Bool) → a ≡ false → c + (if a then 1 otherwise 0) ≡ c
+      miss c a e = unfold if◌then◌otherwise◌ in rw e (omega arith)
 
 -- ---- tests that hold of all
 

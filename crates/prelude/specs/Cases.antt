@@ -1,16 +1,16 @@
 -- Tests and cases: the words in which definitions choose, and the laws by which proofs follow them. Rests on the kit's library.
--- `if◌then◌else◌` and `maybe` are shut, so that a proof opens one function at a time and finds the test by unification.
-use Rattle.std.specs.Prelude.{ℕ, ◌≡◌, ◌⊎◌, Bool, not, ◌&&◌, ◌||◌}
+-- `if◌then◌otherwise◌` and `maybe` are shut, so that a proof opens one function at a time and finds the test by unification.
+use Rattle.std.specs.Prelude.{ℕ, ◌≡◌, ◌⊎◌, Bool, ◌&&◌, ◌||◌}
 use Rattle.std.proofs.Common.{arith, inl, inr}
 use Rattle.std.proofs.Math.Path.{refl}
 use Rattle.std.proofs.Math.Bool.{true, false}
 use Rattle.std.proofs.Math.Option.{Option, none, some}
 
 module _ {A : Type 0} where
-  infixr 10 if◌then◌else◌
-  unfoldable pub if◌then◌else◌ : Bool → A → A → A
-  if true then x else y = x
-  if false then x else y = y
+  infixr 10 if◌then◌otherwise◌
+  unfoldable pub if◌then◌otherwise◌ : Bool → A → A → A
+  if true then x otherwise y = x
+  if false then x otherwise y = y
 
 module _ {A B : Type 0} where
   -- what `f` makes of the value, or `b` where there is none
@@ -31,12 +31,12 @@ module _ {A : Type 0} where
 -- ---- a test that is known
 
 module _ {A : Type 0} where
-  pub if_true : (b : Bool) (x y : A) → b ≡ true → (if b then x else y) ≡ x
-  unfolding if◌then◌else◌
+  pub if_true : (b : Bool) (x y : A) → b ≡ true → (if b then x otherwise y) ≡ x
+  unfolding if◌then◌otherwise◌
   if_true b x y e = rw e
 
-  pub if_false : (b : Bool) (x y : A) → b ≡ false → (if b then x else y) ≡ y
-  unfolding if◌then◌else◌
+  pub if_false : (b : Bool) (x y : A) → b ≡ false → (if b then x otherwise y) ≡ y
+  unfolding if◌then◌otherwise◌
   if_false b x y e = rw e
 
 module _ {A B : Type 0} where
@@ -51,8 +51,8 @@ module _ {A B : Type 0} where
 -- ---- a test that is not known: what holds of both ways holds
 
 module _ {A : Type 0} (P : A → Type 0) where
-  pub split_if : (b : Bool) {x y : A} → (b ≡ true → P x) → (b ≡ false → P y) → P (if b then x else y)
-  unfolding if◌then◌else◌
+  pub split_if : (b : Bool) {x y : A} → (b ≡ true → P x) → (b ≡ false → P y) → P (if b then x otherwise y)
+  unfolding if◌then◌otherwise◌
   split_if true f g = f refl
   split_if false f g = g refl
 

@@ -4,7 +4,7 @@ use Rattle.std.proofs.Common.{sym, ap, ◌∙◌, append_assoc, append-nil, add-
 use Rattle.std.proofs.Math.Decide.{dec_lt}
 use Rattle.std.proofs.lemmas.List.{length-replicate, get_or-replicate, take-append-le, drop-append-le, set_split}
 use Rattle.std.proofs.Math.ListN.{get_or-append}
-use Rattle.std.proofs.Math.Seq.{drop-append-add, paste, paste-suc, append_snoc}
+use Rattle.std.proofs.Math.Seq.{drop-append-add, paste, paste-suc}
 
 -- the n elements of s from index at
 unfoldable pub span : List ℕ → ℕ → ℕ → List ℕ

@@ -1,16 +1,16 @@
 -- Texts of 32 bytes: in a buffer, as the bytes that they hold, and their equality. Rests on Below and Span.
-use Rattle.std.specs.Prelude.{◌≡◌, refl, Bool, false, ◌&&◌, ◌||◌, List, [], ◌∷◌, ◌++◌, eqb, leb, ltb, take, drop}
-use Rattle.std.proofs.Common.{sym, subst, ◌∙◌, append-nil, ⊎_elim, eqb-true, eq-eqb, leb-true, le-leb, ltb-true, lt-ltb, le-ltb, length-take, ext_get_or, length-take-le}
+use Rattle.std.specs.Prelude.{◌≡◌, refl, Bool, false, ◌&&◌, ◌||◌, List, ◌++◌, eqb, leb, ltb, take}
+use Rattle.std.proofs.Common.{sym, ◌∙◌, eqb-true, eq-eqb, leb-true, le-leb, lt-ltb, le-ltb, length-take, ext_get_or, length-take-le}
 use Rattle.std.proofs.Math.Path.{ap}
 use Rattle.std.proofs.Math.Bool.{true}
-use Prim.Native.Nat.{ℕ, ◌+◌, ◌-◌, ◌≤◌, ◌<◌, min}
+use Prim.Native.Nat.{ℕ, ◌+◌, ◌-◌, ◌≤◌, ◌<◌}
 use Rattle.std.proofs.Math.Decide.{dec_lt}
 use native.Mathlib.Omega.{arith}
 use Rattle.std.proofs.Math.ListN.{length, get_or, replicate, length-append, get_or-replicate, get_or-append}
 use Rattle.std.proofs.lemmas.List.{length-replicate}
 use Rattle.std.proofs.Math.Seq.{get_or-take, get_or-append-add, take-append-le, take_all, take-take}
 use Rattle.prelude.specs.Below.{all_below, all_elim, all_intro}
-use Rattle.prelude.specs.Cases.{both_true, both_hold, either_true, test_same}
+use Rattle.prelude.specs.Cases.{both_true, both_hold, test_same}
 use Rattle.prelude.specs.Span.{span}
 use Rattle.prelude.specs.declared.Text.{Text}
 

@@ -4,7 +4,7 @@ use Rattle.std.proofs.Common.{sym, ◌∙◌, inl, inr, zero-add, not-suc-le-zer
 use Rattle.std.proofs.Math.Path.{ap}
 use Rattle.std.proofs.Math.Bool.{false}
 use mathlib.Core.List.{List, [], ◌∷◌, ◌++◌, append-nil}
-use Rattle.prelude.specs.Cases.{if◌then◌else◌, split_if}
+use Rattle.prelude.specs.Cases.{if◌then◌otherwise◌, split_if}
 
 module _ {A : Type 0} where
   -- what they come to, added up
@@ -20,11 +20,11 @@ module _ {A : Type 0} where
   -- how many pass the test, and which
   abbrev pub how_many : (A → Bool) → List A → ℕ
   how_many f [] = 0
-  how_many f (x ∷ xs) = (if f x then 1 else 0) + how_many f xs
+  how_many f (x ∷ xs) = (if f x then 1 otherwise 0) + how_many f xs
 
   abbrev pub those : (A → Bool) → List A → List A
   those f [] = []
-  those f (x ∷ xs) = if f x then x ∷ those f xs else those f xs
+  those f (x ∷ xs) = if f x then x ∷ those f xs otherwise those f xs
 
   -- P holds of each of them
   pub data Every (P : A → Type 0) : List A → Type 0 where
@@ -51,14 +51,14 @@ module _ {A : Type 0} where
   those_append f [] t = refl
   those_append f (x ∷ s) t = go (f x) (those_append f s t)
     where
-      go : (a : Bool) → those f (s ++ t) ≡ those f s ++ those f t → (if a then x ∷ those f (s ++ t) else those f (s ++ t)) ≡ (if a then x ∷ those f s else those f s) ++ those f t
-      go true e = unfold if◌then◌else◌ in ap (λ (l : List A). x ∷ l) e
-      go false e = unfold if◌then◌else◌ in e
+      go : (a : Bool) → those f (s ++ t) ≡ those f s ++ those f t → (if a then x ∷ those f (s ++ t) otherwise those f (s ++ t)) ≡ (if a then x ∷ those f s otherwise those f s) ++ those f t
+      go true e = unfold if◌then◌otherwise◌ in ap (λ (l : List A). x ∷ l) e
+      go false e = unfold if◌then◌otherwise◌ in e
 
   -- tests that agree
   pub those_ext : (f g : A → Bool) (l : List A) → ((x : A) → f x ≡ g x) → those f l ≡ those g l
   those_ext f g [] h = refl
-  those_ext f g (x ∷ l) h = ap (λ (t : Bool). if t then x ∷ those f l else those f l) (h x) ∙ ap (λ (y : List A). if g x then x ∷ y else y) (those_ext f g l h)
+  those_ext f g (x ∷ l) h = ap (λ (t : Bool). if t then x ∷ those f l otherwise those f l) (h x) ∙ ap (λ (y : List A). if g x then x ∷ y otherwise y) (those_ext f g l h)
 
   -- two lists at the end, in either order where one of them is empty
   pub append_swap : (x s t : List A) → (s ≡ []) ⊎ (t ≡ []) → (x ++ s) ++ t ≡ (x ++ t) ++ s

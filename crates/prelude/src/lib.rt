@@ -1,8 +1,9 @@
 // The words of the definitions: specs and laws that every crate cites, and the two types that
 // records and book share. Rests on the kit's library alone.
+#![tactic(auto)]
 
 // A text of at most 32 bytes: the bytes, zeros after the text, and its length.
-#[derive(Drop)]
+#[derive(Clone, Copy)]
 pub struct Text {
     pub bytes: [u8; 32],
     pub len: u8,
@@ -10,7 +11,7 @@ pub struct Text {
 
 // What is ordered. A limit order has a price; a market order's is 0. A time in force that is not
 // given is 0. In a replace event a type that is not given is 0.
-#[derive(Drop)]
+#[derive(Clone, Copy)]
 pub struct Terms {
     pub side: u8,
     pub ordtype: u8,

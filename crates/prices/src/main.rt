@@ -2,16 +2,19 @@
 // each: the Rust's, and at an exact half the rule's. It prints how many there were, how many differ,
 // how many each way of finding a price told, and how many are at a half. Rests on wide and on
 // specs/Vectors.antt.
+#![tactic(auto)]
+
 ghost use Rattle.std.specs.Prelude.{◌≡◌, ◌+◌, ◌≤◌, eqb, length};
 ghost use Rattle.prelude.specs.Number.{word64};
 ghost use Rattle.wide.specs.Wide.{value};
 ghost use Rattle.prices.specs.Vectors.{IsVector, priced_of};
 
-use libc::{STDIN_FILENO, STDOUT_FILENO};
+use std::io;
+use std::io::Read;
 use wide::Priced;
 
 // A question to `fill_price`, and the words of the stored answer.
-#[derive(Drop)]
+#[derive(Clone, Copy)]
 struct Vector {
     lastqty: u64,
     lastpx: u64,
@@ -29,14 +32,14 @@ const HALF_UP: u64 = 1;
 
 // What came of a vector: where its price came from, 0 where there was no vector, and whether it is
 // the stored one.
-#[derive(Drop)]
+#[derive(Clone, Copy)]
 struct Verdict {
     source: u8,
     same: bool,
     half: bool,
 }
 
-#[derive(Drop)]
+#[derive(Clone, Copy)]
 struct Tally {
     vectors: u64,
     differ: u64,
@@ -111,24 +114,24 @@ fn priced(v: Vector) -> Priced
 }
 
 // Reads one vector and judges it.
-fn next() -> Verdict {
+fn next<R: Read>(input: &mut R) -> io::Result<Verdict> {
     let mut bytes = [0u8; 80];
-    let n = io::read_full(STDIN_FILENO, &mut bytes);
+    let n = input::read_full(input, &mut bytes)?;
     if n < 80 {
-        return Verdict {
+        return Ok(Verdict {
             source: 0,
             same: true,
             half: false,
-        };
+        });
     }
     let v = vector_of(&bytes[..n]);
     let p = priced(v);
     let price = p.price;
-    Verdict {
+    Ok(Verdict {
         source: p.source,
         same: same(price, [v.low, v.high]),
         half: at_half(&bytes[..n]),
-    }
+    })
 }
 
 // One more where `yes`; a count stays at the most that it can be.
@@ -155,7 +158,7 @@ fn counted(t: Tally, v: Verdict) -> Tally {
 
 // A proved loop has to end, and nothing says that the input does: it counts its turns down from a
 // number that no run uses up.
-fn judged() -> Tally {
+fn judged<R: Read>(input: &mut R) -> io::Result<Tally> {
     let mut t = Tally {
         vectors: 0,
         differ: 0,
@@ -166,28 +169,26 @@ fn judged() -> Tally {
     };
     let mut turns = u64::MAX;
     while turns > 0 {
-        let v = next();
+        let v = next(input)?;
         if v.source == 0 {
-            return t;
+            return Ok(t);
         }
         t = counted(t, v);
         turns -= 1;
     }
-    t
+    Ok(t)
 }
 
-fn line(name: &[u8], n: u64) {
-    io::write_all(STDOUT_FILENO, name);
-    io::print_decimal(STDOUT_FILENO, n);
-    io::write_all(STDOUT_FILENO, b"\n");
+fn line(rt: &impl Print, name: &str, n: u64) -> io::Result<()> {
+    println!(rt; "{name} {n}")
 }
 
-fn main() {
-    let t = judged();
-    line(b"vectors ", t.vectors);
-    line(b"differ ", t.differ);
-    line(b"by LastPx ", t.bylastpx);
-    line(b"by the quotient ", t.implied);
-    line(b"by the average ", t.average);
-    line(b"at a half ", t.halves);
+fn main(rt: HostRuntime) -> io::Result<()> {
+    let t = judged(&mut rt.reader())?;
+    line(&rt, "vectors", t.vectors)?;
+    line(&rt, "differ", t.differ)?;
+    line(&rt, "by LastPx", t.bylastpx)?;
+    line(&rt, "by the quotient", t.implied)?;
+    line(&rt, "by the average", t.average)?;
+    line(&rt, "at a half", t.halves)
 }

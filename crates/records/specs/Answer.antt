@@ -1,6 +1,6 @@
 -- Answers: the bytes of an answer, and what bytes are one. Rests on Record.
 use Rattle.std.specs.Prelude.{ℕ, zero, suc, ◌+◌, ◌*◌, ◌≡◌, List, [], ◌∷◌, ◌++◌, Bool, true, ◌&&◌, length, get_or, eqb, leb}
-use Rattle.prelude.specs.Cases.{if◌then◌else◌}
+use Rattle.prelude.specs.Cases.{if◌then◌otherwise◌}
 use Rattle.prelude.specs.Span.{span}
 use Rattle.prelude.specs.Number.{bytes_of, word16}
 use Rattle.format.specs.Places.{end_of}
@@ -50,7 +50,7 @@ answer_bytes alarm alarm2 ms = head_bytes (head_size + length (messages_bytes ms
 
 -- none, the first, or both
 abbrev pub chosen : ℕ → Record → Record → List Record
-chosen count first second = if eqb count 0 then [] else if eqb count 1 then first ∷ [] else first ∷ second ∷ []
+chosen count first second = if eqb count 0 then [] otherwise if eqb count 1 then first ∷ [] otherwise first ∷ second ∷ []
 
 -- all are messages
 abbrev pub are_messages : List Record → Bool
@@ -83,13 +83,13 @@ unfoldable pub answer_refusal : List ℕ → ℕ
 answer_refusal s = refusal_by (head_right s && shaped_from (answer_in s) head_size (count_in s)) (ranged_from (answer_in s) head_size (count_in s))
 
 unfoldable pub answer_messages : List ℕ → List Record
-answer_messages s = if eqb (answer_refusal s) 0 then messages_from (answer_in s) head_size (count_in s) else []
+answer_messages s = if eqb (answer_refusal s) 0 then messages_from (answer_in s) head_size (count_in s) otherwise []
 
 unfoldable pub answer_alarm : List ℕ → ℕ
-answer_alarm s = if eqb (answer_refusal s) 0 then alarm_in s else 0
+answer_alarm s = if eqb (answer_refusal s) 0 then alarm_in s otherwise 0
 
 unfoldable pub answer_alarm2 : List ℕ → ℕ
-answer_alarm2 s = if eqb (answer_refusal s) 0 then alarm2_in s else 0
+answer_alarm2 s = if eqb (answer_refusal s) 0 then alarm2_in s otherwise 0
 
 -- ---- what code reads
 

@@ -1,6 +1,6 @@
 -- The fields of a record by their bits: its numbers, its texts, and what each field holds. Rests on format.
 use Rattle.std.specs.Prelude.{ℕ, ◌-◌, min, List, [], ◌∷◌, ◌++◌, length, get_or, take, drop, replicate, eqb}
-use Rattle.prelude.specs.Cases.{if◌then◌else◌}
+use Rattle.prelude.specs.Cases.{if◌then◌otherwise◌}
 use Rattle.prelude.specs.Number.{number, bytes_of}
 use Rattle.prelude.specs.Texts.{contents, text_of}
 use Rattle.prelude.specs.declared.Text.{Text}
@@ -56,12 +56,12 @@ high_of r = get_or r.told.fillprice 1 0
 -- the text of a bit
 unfoldable pub text_by : Ids → ℕ → Text
 text_by ids b =
-    if eqb b 2 then ids.name else
-    if eqb b 3 then ids.clordid else
-    if eqb b 4 then ids.origclordid else
-    if eqb b 5 then ids.downstream else
-    if eqb b 6 then ids.symbol else
-    if eqb b 18 then ids.venueorderid else
+    if eqb b 2 then ids.name otherwise
+    if eqb b 3 then ids.clordid otherwise
+    if eqb b 4 then ids.origclordid otherwise
+    if eqb b 5 then ids.downstream otherwise
+    if eqb b 6 then ids.symbol otherwise
+    if eqb b 18 then ids.venueorderid otherwise
     ids.origdownstream
 
 -- the bytes of a text that are written, at most as many as it has room for
@@ -72,14 +72,14 @@ unfoldable pub long_bytes : LongText → List ℕ
 long_bytes t = take 64 (take t.len t.bytes)
 
 unfoldable pub spelled : Ids → LongText → ℕ → List ℕ
-spelled ids text b = if eqb b 20 then long_bytes text else short_bytes (text_by ids b)
+spelled ids text b = if eqb b 20 then long_bytes text otherwise short_bytes (text_by ids b)
 
 -- a number in n bytes; one of more than 8 goes on with a second word
 unfoldable pub words : ℕ → ℕ → ℕ → List ℕ
 words n low high = bytes_of (min n 8) low ++ bytes_of (n - 8) high
 
 unfoldable pub held_by : List ℕ → ℕ → Ids → LongText → ℕ → List ℕ
-held_by numbers high ids text b = if is_text_bit b then spelled ids text b else words (size b) (get_or numbers b 0) high
+held_by numbers high ids text b = if is_text_bit b then spelled ids text b otherwise words (size b) (get_or numbers b 0) high
 
 -- what field b of a record holds
 abbrev pub held : Record → ℕ → List ℕ

@@ -1,6 +1,6 @@
 -- Events and messages: their bytes, the record that bytes are, and which records are right. Rests on Fields and format's Refusal.
 use Rattle.std.specs.Prelude.{ℕ, min, List, Bool, ◌&&◌, ◌||◌, length, get_or, eqb, leb, ltb}
-use Rattle.prelude.specs.Cases.{if◌then◌else◌}
+use Rattle.prelude.specs.Cases.{if◌then◌otherwise◌}
 use Rattle.prelude.specs.Below.{all_below}
 use Rattle.prelude.specs.Number.{bound}
 use Rattle.prelude.specs.Texts.{is_text}
@@ -26,19 +26,19 @@ record_at s o = record_of (kind_at s o) (map_at s o) (content s o (map_at s o))
 -- ---- events
 
 unfoldable pub event_in : List ℕ → Record
-event_in s = if eqb (event_refusal s) 0 then record_at s 0 else blank
+event_in s = if eqb (event_refusal s) 0 then record_at s 0 otherwise blank
 
 -- ---- messages
 
 unfoldable pub message_of : List ℕ → ℕ → Record
-message_of s o = if eqb (message_refusal s o) 0 then record_at s o else blank
+message_of s o = if eqb (message_refusal s o) 0 then record_at s o otherwise blank
 
 -- ---- records that are right
 
 -- a field that stands is in its range and fits its bytes; one that does not is 0
 abbrev pub field_right : Record → ℕ → Bool
 field_right r b =
-    if bit r.map b then in_range (range b) (get_or (numbers_of r) b 0) && ltb (get_or (numbers_of r) b 0) (bound (min (size b) 8)) else eqb (get_or (numbers_of r) b 0) 0
+    if bit r.map b then in_range (range b) (get_or (numbers_of r) b 0) && ltb (get_or (numbers_of r) b 0) (bound (min (size b) 8)) otherwise eqb (get_or (numbers_of r) b 0) 0
 
 -- a text as it is stored: zeros behind it
 unfoldable pub is_short : Text → Bool
@@ -57,7 +57,7 @@ texts_right r =
 
 -- the fill price has two words
 unfoldable pub price_right : Record → Bool
-price_right r = eqb (length r.told.fillprice) 2 && (if bit r.map 26 then ltb (high_of r) (bound 8) else eqb (high_of r) 0)
+price_right r = eqb (length r.told.fillprice) 2 && (if bit r.map 26 then ltb (high_of r) (bound 8) otherwise eqb (high_of r) 0)
 
 unfoldable pub is_record : Record → Bool
 is_record r =

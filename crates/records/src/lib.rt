@@ -1,8 +1,10 @@
 // Events and messages: the record, read and written. Rests on format and places; the modules `fields`,
 // `scan`, `take` and `put` do the work, and `parts` gives a message in place.
+#![tactic(auto)]
+
 ghost use Rattle.std.specs.Prelude.{◌≡◌, [], ◌<◌, ◌+◌, ◌≤◌, leb, length};
 ghost use Rattle.prelude.specs.Span.{splice};
-ghost use Rattle.prelude.specs.Cases.{if◌then◌else◌};
+ghost use Rattle.prelude.specs.Cases.{if◌then◌otherwise◌};
 ghost use Rattle.records.specs.Fields.{blank};
 ghost use Rattle.records.specs.Record.{record_bytes, event_in};
 ghost use Rattle.format.specs.Refusal.{name_in, event_refusal};
@@ -28,28 +30,28 @@ const ALARM: usize = 3;
 const ALARM2: usize = 4;
 
 // A field's number and whether it is in range.
-#[derive(Drop)]
+#[derive(Clone, Copy)]
 struct Seen {
     right: bool,
     value: u64,
 }
 
 // The numbers of all fields, of a text its length, and whether all are in range.
-#[derive(Drop)]
+#[derive(Clone, Copy)]
 struct Numbers {
     right: bool,
     numbers: [u64; 32],
 }
 
 // A text of at most 64 bytes: the bytes, zeros after the text, and its length.
-#[derive(Drop)]
+#[derive(Clone, Copy)]
 pub struct LongText {
     pub bytes: [u8; 64],
     pub len: u8,
 }
 
 // The names in a record: bits 2 to 6, 18 and 30.
-#[derive(Drop)]
+#[derive(Clone, Copy)]
 pub struct Ids {
     pub name: Text,
     pub clordid: Text,
@@ -61,7 +63,7 @@ pub struct Ids {
 }
 
 // What a venue reported: bits 12 to 17.
-#[derive(Drop)]
+#[derive(Clone, Copy)]
 pub struct Exec {
     pub exectype: u8,
     pub status: u8,
@@ -72,7 +74,7 @@ pub struct Exec {
 }
 
 // What only messages have: bits 24 to 29 and 31.
-#[derive(Drop)]
+#[derive(Clone, Copy)]
 pub struct Told {
     pub leavesqty: u64,
     pub execseq: u64,
@@ -85,7 +87,7 @@ pub struct Told {
 
 // A record: an event (kinds 1 to 9) or a message (kinds 16 to 20). A field whose bit does not
 // stand in the map is zero; bits 21 and 22, redelivered and blocked, have no field.
-#[derive(Drop)]
+#[derive(Clone, Copy)]
 pub struct Record {
     pub kind: u8,
     pub map: u32,
@@ -101,7 +103,7 @@ pub struct Record {
 }
 
 // The shape of a record: whether it has one, its map, and where its fields start.
-#[derive(Drop)]
+#[derive(Clone, Copy)]
 struct Shape {
     whole: bool,
     map: u32,
@@ -109,7 +111,7 @@ struct Shape {
 }
 
 // An answer that was read: no messages and no alarms where it is refused, all zero where there is no message.
-#[derive(Drop)]
+#[derive(Clone, Copy)]
 pub struct AnswerRead {
     pub refusal: u32,
     pub count: u8,
@@ -120,7 +122,7 @@ pub struct AnswerRead {
 }
 
 // A record that was read, or why there is none, and where it ends.
-#[derive(Drop)]
+#[derive(Clone, Copy)]
 struct Got {
     refusal: u32,
     end: usize,
@@ -128,7 +130,7 @@ struct Got {
 }
 
 // An event that was read: all zero where it is refused.
-#[derive(Drop)]
+#[derive(Clone, Copy)]
 pub struct EventRead {
     pub refusal: u32,
     pub event: Record,
@@ -279,7 +281,7 @@ pub fn write_answer(
     first: Record,
     second: Record,
 ) -> u32
-    ensures { (result ≡ (if leb 1024 (length answer.old) then length (answer_bytes alarm alarm2 (chosen count first second)) else 0)) × (answer.new ≡ (if leb 1024 (length answer.old) then splice answer.old 0 (answer_bytes alarm alarm2 (chosen count first second)) else answer.old)) }
+    ensures { (result ≡ (if leb 1024 (length answer.old) then length (answer_bytes alarm alarm2 (chosen count first second)) otherwise 0)) × (answer.new ≡ (if leb 1024 (length answer.old) then splice answer.old 0 (answer_bytes alarm alarm2 (chosen count first second)) otherwise answer.old)) }
 {
     if answer.len() < 1024 {
         return 0;

@@ -8,7 +8,7 @@ use format::codes;
 
 // Why a slice is no message, or its map, where its fields start (and at 32 where it ends), the number of
 // each field (of a text its length), and the upper word of the fill price. With a refusal all else is 0.
-#[derive(Drop)]
+#[derive(Clone, Copy)]
 pub struct Parts {
     pub refusal: u32,
     pub map: u32,

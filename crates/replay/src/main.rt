@@ -1,14 +1,18 @@
 // Replays stored days from standard input (tests/replay/README.md has the format) and holds every
 // refusal and every byte of every answer buffer to what is stored. Rests on gateway and words.
-ghost use Rattle.std.specs.Prelude.{◌≤◌, length};
+#![tactic(auto)]
 
+ghost use Rattle.std.specs.Prelude.{◌≤◌, IfOk, length};
+
+use std::io;
+use std::io::Read;
 use std::num::wrapping_add_u32;
 
 // What an answer buffer holds before the call.
 const FILL: u8 = 165;
 
 // What was counted.
-#[derive(Drop)]
+#[derive(Clone, Copy)]
 struct Tally {
     days: u32,
     taken: u32,
@@ -17,7 +21,7 @@ struct Tally {
 }
 
 // The tally after one item, and whether there was one.
-#[derive(Drop)]
+#[derive(Clone, Copy)]
 struct Step {
     more: bool,
     tally: Tally,
@@ -69,48 +73,55 @@ fn counted(t: Tally, refusal: u32, right: bool) -> Tally {
 }
 
 // A number of two bytes from standard input; 0 where the input ends.
-fn read16() -> usize
-    ensures { result ≤ 65535 }
+fn read16<R: Read>(input: &mut R) -> io::Result<usize>
+    ensures { IfOk result (λ n. n ≤ 65535) }
 {
     let mut head = [0u8; 2];
-    let got = io::read_full(0, &mut head);
-    words::number(head[0], head[1])
+    let _ = input::read_full(input, &mut head)?;
+    Ok(words::number(head[0], head[1]))
 }
 
-fn read8() -> u8 {
+fn read8<R: Read>(input: &mut R) -> io::Result<u8> {
     let mut one = [0u8; 1];
-    let got = io::read_full(0, &mut one);
-    one[0]
+    let _ = input::read_full(input, &mut one)?;
+    Ok(one[0])
 }
 
 // Reads n bytes into the space's start.
-fn read_into(space: &mut [u8], n: usize)
+fn read_into<R: Read>(input: &mut R, space: &mut [u8], n: usize) -> io::Result<()>
     requires { n ≤ length space.old }
 {
-    let got = io::read_full(0, &mut space[..n]);
+    let _ = input::read_full(input, &mut space[..n])?;
+    Ok(())
 }
 
 // Reads the answer that is stored with a refusal, and gives its length.
-fn stored_answer(wanted: &mut [u8], refusal: u8) -> usize
+fn stored_answer<R: Read>(input: &mut R, wanted: &mut [u8], refusal: u8) -> io::Result<usize>
     requires { 65535 ≤ length wanted.old }
 {
     if refusal != 0 {
-        return 0;
+        return Ok(0);
     }
-    let n = read16();
-    read_into(wanted, n);
-    n
+    let n = read16(input)?;
+    read_into(input, wanted, n)?;
+    Ok(n)
 }
 
 // The call, and whether refusal and answer buffer are those that are stored.
-fn call(t: Tally, book: &mut [u8], record: &[u8], answer: &mut [u8]) -> Tally {
+fn call<R: Read>(
+    input: &mut R,
+    t: Tally,
+    book: &mut [u8],
+    record: &[u8],
+    answer: &mut [u8],
+) -> io::Result<Tally> {
     fill(answer);
     let refusal = gateway::event(book, record, answer);
-    let stored = read8();
-    let mut wanted = io::large_buffer();
-    let n = stored_answer(&mut wanted, stored);
+    let stored = read8(input)?;
+    let mut wanted = [0u8; 65536];
+    let n = stored_answer(input, &mut wanted, stored)?;
     let right = (refusal == stored as u32) & right_answer(answer, &wanted, n);
-    counted(t, refusal, right)
+    Ok(counted(t, refusal, right))
 }
 
 // The length of an answer buffer, from its two halves.
@@ -125,50 +136,46 @@ fn room(low: usize, high: usize) -> usize
 }
 
 // An event: its record, the length of the answer buffer, and what is stored of the call.
-fn event(t: Tally, book: &mut [u8]) -> Tally {
-    let size = read16();
-    let mut record = io::large_buffer();
-    read_into(&mut record, size);
-    let low = read16();
-    let high = read16();
+fn event<R: Read>(input: &mut R, t: Tally, book: &mut [u8]) -> io::Result<Tally> {
+    let size = read16(input)?;
+    let mut record = [0u8; 65536];
+    read_into(input, &mut record, size)?;
+    let low = read16(input)?;
+    let high = read16(input)?;
     let room = room(low, high);
-    let mut answer = io::large_buffer();
-    call(t, book, &record[..size], &mut answer[..room])
+    let mut answer = [0u8; 65536];
+    call(input, t, book, &record[..size], &mut answer[..room])
 }
 
 // A day begins.
-fn start(t: Tally, book: &mut [u8]) -> Tally {
-    let low = read16() as u32;
-    let high = read16() as u32;
-    let refusal = gateway::start(book, low + 65536 * high);
+fn start<R: Read>(input: &mut R, t: Tally, book: &mut [u8]) -> io::Result<Tally> {
+    let low = read16(input)? as u32;
+    let high = read16(input)? as u32;
+    let _ = gateway::start(book, low + 65536 * high);
     let mut r = t;
     r.days = wrapping_add_u32(t.days, 1);
-    r
+    Ok(r)
 }
 
-fn item(t: Tally, book: &mut [u8]) -> Step {
+fn item<R: Read>(input: &mut R, t: Tally, book: &mut [u8]) -> io::Result<Step> {
     let mut tag = [0u8; 1];
-    let got = io::read_full(0, &mut tag);
+    let got = input::read_full(input, &mut tag)?;
     if got == 0 {
-        return Step {
+        return Ok(Step {
             more: false,
             tally: t,
-        };
+        });
     }
-    if tag[0] == 0 {
-        return Step {
-            more: true,
-            tally: start(t, book),
-        };
-    }
-    Step {
-        more: true,
-        tally: event(t, book),
-    }
+    let tally = if tag[0] == 0 {
+        start(input, t, book)?
+    } else {
+        event(input, t, book)?
+    };
+    Ok(Step { more: true, tally })
 }
 
-fn all() -> Tally {
-    let mut book = io::large_buffer();
+fn all<R: Read>(input: &mut R) -> io::Result<Tally> {
+    let mut book = [0u8; 65536];
     let mut t = Tally {
         days: 0,
         taken: 0,
@@ -177,25 +184,21 @@ fn all() -> Tally {
     };
     let mut turns: usize = 0;
     while turns < 1000000 {
-        let s = item(t, &mut book);
+        let s = item(input, t, &mut book)?;
         t = s.tally;
         if !s.more {
             break;
         }
         turns += 1;
     }
-    t
+    Ok(t)
 }
 
-fn main() {
-    let t = all();
-    io::write_all(1, b"days ");
-    io::print_decimal(1, t.days as u64);
-    io::write_all(1, b" taken ");
-    io::print_decimal(1, t.taken as u64);
-    io::write_all(1, b" refused ");
-    io::print_decimal(1, t.refused as u64);
-    io::write_all(1, b" wrong ");
-    io::print_decimal(1, t.wrong as u64);
-    io::write_all(1, b"\n");
+fn main(rt: HostRuntime) -> io::Result<()> {
+    let t = all(&mut rt.reader())?;
+    let days = t.days;
+    let taken = t.taken;
+    let refused = t.refused;
+    let wrong = t.wrong;
+    println!(rt; "days {days} taken {taken} refused {refused} wrong {wrong}")
 }

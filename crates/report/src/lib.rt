@@ -1,7 +1,9 @@
 // src/book/report.rs: a venue's report, as functions over structs by value. Each equals its
 // definition in machine's Report. Rests on amend and wide.
+#![tactic(auto)]
+
 ghost use Rattle.std.specs.Prelude.{◌≡◌, ◌-◌, max};
-ghost use Rattle.prelude.specs.Cases.{if◌then◌else◌};
+ghost use Rattle.prelude.specs.Cases.{if◌then◌otherwise◌};
 ghost use Rattle.machine.specs.Report.{says_unknown_at_venue, unknown_at_venue, is_rejection, pending_here, behind, stale, repeats, dropped_stale, dropped_repeat, status_taken, accepts, answers_request, ordered_qty, reported_order, fill_price_of, report_note, client_report, settles, apply_report, venue_report, dropped};
 ghost use Rattle.machine.specs.Orders.{apply_replace, short_alarm};
 ghost use Rattle.machine.specs.Machine.{on_report};
@@ -164,7 +166,7 @@ fn ordered_qty(accepted: bool, o: Order) -> u64
 
 // The order with the replace applied that the report accepts.
 fn replaced_order(accepted: bool, q: Request, o: Order) -> Order
-    ensures { result ≡ (if accepted then apply_replace q o else o) }
+    ensures { result ≡ (if accepted then apply_replace q o otherwise o) }
 {
     if accepted {
         return order::apply_replace(q, o);

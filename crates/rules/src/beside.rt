@@ -1,5 +1,5 @@
 // What stands beside one request, in place: its outcome beside its mark, and its OrigClOrdID
-// with the link beside it. Rests on outcomes and places.
+// with the link beside it. Rests on outcomes and cells.
 ghost use Rattle.std.specs.Prelude.{◌≡◌, ℕ, ◌<◌, true, ◌&&◌, length};
 ghost use Rattle.prelude.specs.Texts.{is_text};
 ghost use Rattle.store.specs.Layout.{book_size, most_requests};
@@ -8,7 +8,7 @@ ghost use Rattle.outcomes.specs.Outcomes.{outcome_rule};
 ghost use Rattle.rules.specs.Laws.Beside.{link_at};
 ghost use Rattle.rules.specs.Laws.Origin.{origin_here};
 
-use crate::places::{filled, get16, same_at};
+use crate::cells::{filled, get16, same_at};
 use store::{kinds, layout};
 
 // Outcome 0 exactly where request k is unanswered, and at most 3.

@@ -1,6 +1,6 @@
 // Names are distinct, and ClOrdIDs within a client, in one pass with local marks, a bit for a cell:
 // a thing in an unmarked cell is new, and another is compared with the earlier things of its cell
-// alone. Rests on places and bits. The things are the requests with their ClOrdIDs where `keyed`,
+// alone. Rests on cells and bits. The things are the requests with their ClOrdIDs where `keyed`,
 // else the orders.
 ghost use Rattle.std.specs.Prelude.{◌≡◌, ℕ, ◌+◌, ◌<◌, ◌≤◌, true, false, length, slice_index};
 ghost use Rattle.prelude.specs.Below.{all_below};
@@ -8,7 +8,7 @@ ghost use Rattle.prelude.specs.Texts.{text_at};
 ghost use Rattle.store.specs.Layout.{book_size, most_requests};
 ghost use Rattle.rules.specs.Laws.Things.{placed, place_of, client_in, lone_at, cell_of, same_with, clear_at};
 
-use crate::places::{cell_at, get16, same_at, same_word};
+use crate::cells::{cell_at, get16, same_at, same_word};
 use store::layout;
 
 // Where the text of a thing stands.

@@ -2,13 +2,15 @@
 // function, which is total and writes nothing. With the open quantities behind the tables, `opens::keeps`
 // has all the book's rules. Rests on machine's and outcomes' definitions of the rules, on store's layout,
 // and on text and format. Its cost grows with the records in use.
+#![tactic(auto)]
+
 ghost use Rattle.std.specs.Prelude.{◌≡◌, ◌≤◌, ◌&&◌, length};
 ghost use Rattle.store.specs.Layout.{book_size, most_orders, most_requests};
 ghost use Rattle.outcomes.specs.Outcomes.{outcomes_right};
 ghost use Rattle.rules.specs.Ruled.{ruled_of};
 ghost use Rattle.rules.specs.Laws.Ruled.{decided};
 
-use places::get16;
+use cells::get16;
 use store::layout;
 
 mod beside; // what stands beside a request
@@ -17,7 +19,7 @@ mod links; // an order's links and counts
 mod marks; // a status and a gateway cancel's marks
 mod numbered; // a name with a number
 mod numbers; // requests
-mod places; // numbers and texts at an index
+mod cells; // numbers and texts at an index
 mod ranges; // fields in their ranges
 
 // The rules of n orders and m requests, one after the other.

@@ -1,7 +1,7 @@
-// One order: the requests that its links name, its counts and its status. Rests on marks and places.
+// One order: the requests that its links name, its counts and its status. Rests on marks and cells.
 ghost use Rattle.std.specs.Prelude.{◌≡◌, ℕ, ◌+◌, ◌-◌, ◌<◌, ◌≤◌, length, ◌==◌, nat_le, slice_index};
 ghost use Rattle.prelude.specs.Below.{all_below, count_below};
-ghost use Rattle.prelude.specs.Cases.{if◌then◌else◌};
+ghost use Rattle.prelude.specs.Cases.{if◌then◌otherwise◌};
 ghost use Rattle.store.specs.Book.{order_at};
 ghost use Rattle.machine.specs.Constants.{most_tries};
 ghost use Rattle.machine.specs.Changes.{is_cancel};
@@ -9,8 +9,8 @@ ghost use Rattle.machine.specs.Rules.{current_test, pending_test, status_rule};
 ghost use Rattle.store.specs.Layout.{book_size, most_orders, most_requests};
 ghost use Rattle.rules.specs.Laws.Here.{of_order_at, linked_at, optional_at, counts_at, links_at, links_of, own_at};
 
+use crate::cells::{get16, get64, same_at};
 use crate::marks::{is_done, unsent_of};
-use crate::places::{get16, get64, same_at};
 use format::codes;
 use store::{kinds, layout};
 
@@ -103,7 +103,7 @@ fn status_ok(cumqty: u64, status: u8) -> bool
 
 // At most so many, and one fewer where unsent.
 fn tries_ok(tries: u8, unsent: bool) -> bool
-    ensures { result ≡ nat_le tries (if unsent then most_tries - 1 else most_tries) }
+    ensures { result ≡ nat_le tries (if unsent then most_tries - 1 otherwise most_tries) }
 {
     if unsent {
         return tries <= MOST_UNSENT;

@@ -1,5 +1,5 @@
 // Whether a text is a name with a number, in place: the name by words that overlap, the dash and the
-// digits as one word, and zeros after them. Rests on places.
+// digits as one word, and zeros after them. Rests on cells.
 ghost use Rattle.std.specs.Prelude.{◌≡◌, ◌+◌, ◌<◌, ◌≤◌, true, length};
 ghost use Rattle.prelude.specs.Below.{all_below};
 ghost use Rattle.prelude.specs.Texts.{text_at, same_text};
@@ -7,10 +7,10 @@ ghost use Rattle.text.specs.Numbered.{numbered_text};
 ghost use Rattle.machine.specs.Ranges.{name_range};
 ghost use Rattle.rules.specs.Laws.Suffix.{IsSuffix, alike_at};
 
-use crate::places::{filled, get64, same_word};
+use crate::cells::{filled, get64, same_word};
 
 // The dash and the digits as a word, and how many they are.
-#[derive(Drop)]
+#[derive(Clone, Copy)]
 struct Suffix {
     word: u64,
     len: usize,

@@ -1,8 +1,8 @@
 // One request: its fields' ranges, its order, its number among its order's, a gateway cancel in
-// flight, and what stands beside it. Rests on beside, numbered, marks and places.
+// flight, and what stands beside it. Rests on beside, numbered, marks and cells.
 ghost use Rattle.std.specs.Prelude.{◌≡◌, ℕ, ◌+◌, ◌<◌, ◌≤◌, true, ◌&&◌, length};
 ghost use Rattle.prelude.specs.Below.{all_below};
-ghost use Rattle.prelude.specs.Cases.{if◌then◌else◌};
+ghost use Rattle.prelude.specs.Cases.{if◌then◌otherwise◌};
 ghost use Rattle.prelude.specs.Texts.{text_at, is_text, same_text};
 ghost use Rattle.store.specs.Layout.{book_size, most_orders, most_requests};
 ghost use Rattle.store.specs.Book.{order_at, request_at};
@@ -13,14 +13,14 @@ ghost use Rattle.rules.specs.Laws.Here.{range_at, sent_rule, request_here, IsPas
 ghost use Rattle.rules.specs.Laws.Origin.{fields_range};
 
 use crate::beside::beside_ok;
+use crate::cells::{filled, get16, same_at};
 use crate::marks::{is_done, stuck_of, unsent_of};
 use crate::numbered::numbered;
-use crate::places::{filled, get16, same_at};
 use store::{kinds, layout};
 
 // What the pass over the requests finds: whether they keep their rules, and then how many of them
 // each order has.
-#[derive(Drop)]
+#[derive(Clone, Copy)]
 pub(crate) struct Pass {
     pub ok: bool,
     pub next: [u16; 64],
@@ -29,7 +29,7 @@ pub(crate) struct Pass {
 // A text that is there exactly where it is not absent, zeros after it.
 fn optional(book: &[u8], at: usize, absent: bool) -> bool
     requires { at + 33 ≤ length book.now }
-    ensures { result ≡ (if absent then text_within 0 0 (text_at book.now at) else text_within 1 32 (text_at book.now at)) }
+    ensures { result ≡ (if absent then text_within 0 0 (text_at book.now at) otherwise text_within 1 32 (text_at book.now at)) }
 {
     if !filled(book, at) {
         return false;

@@ -1,4 +1,4 @@
-// Every field of an order is in its range. Rests on format, marks and places.
+// Every field of an order is in its range. Rests on format, marks and cells.
 ghost use Rattle.std.specs.Prelude.{◌≡◌, ◌+◌, ◌<◌, ◌≤◌, length};
 ghost use Rattle.prelude.specs.Below.{all_below};
 ghost use Rattle.prelude.specs.Texts.{text_at};
@@ -9,8 +9,8 @@ ghost use Rattle.machine.specs.Ranges.{text_within};
 ghost use Rattle.machine.specs.Rules.{names_range, force_range, priced_range, terms_range, pending_range, gateway_range};
 ghost use Rattle.rules.specs.Laws.Here.{range_at};
 
+use crate::cells::{filled, get16, get32, get64};
 use crate::marks::{stuck_of, unsent_of};
-use crate::places::{filled, get16, get32, get64};
 use format::codes;
 use store::layout;
 

@@ -1,7 +1,7 @@
 -- What the entries `start`, `event` and `check` of gateway do, on bytes: what each returns and what it leaves in each buffer that it is lent.
 -- Rests on opens (`keeps_of`), outcomes (`outcome_by`, `origin_of`), records (`event_in`, `answer_bytes`), machine (`step_of`) and store (the book in its bytes).
 use Rattle.std.specs.Prelude.{ℕ, ◌-◌, not, List, eqb, leb, ltb, length}
-use Rattle.prelude.specs.Cases.{if◌then◌else◌, maybe}
+use Rattle.prelude.specs.Cases.{if◌then◌otherwise◌, maybe}
 use Rattle.prelude.specs.Span.{splice}
 use Rattle.records.specs.Record.{event_in}
 use Rattle.records.specs.Answer.{answer_bytes}
@@ -24,24 +24,24 @@ use Rattle.format.specs.Refusal.{event_refusal}
 unfoldable pub place_order : List ℕ → (place : ℕ) → Order → List ℕ
 place_order b place o =
     if eqb place 0 then b
-    else if leb place (order_count b) then store_order b (place - 1) o
-    else add_order b o
+    otherwise if leb place (order_count b) then store_order b (place - 1) o
+    otherwise add_order b o
 
 -- the request of this link is marked answered, with this outcome where it was not
 unfoldable pub mark_link : List ℕ → (link outcome : ℕ) → List ℕ
-mark_link b link outcome = if eqb link 0 then b else mark_answered b (link - 1) outcome
+mark_link b link outcome = if eqb link 0 then b otherwise mark_answered b (link - 1) outcome
 
 -- the requests settled have the outcome, and the one added has the origin beside it
 unfoldable pub place_requests : List ℕ → (outcome origin : ℕ) → Requests → List ℕ
 place_requests b outcome origin r =
     let marked : List ℕ = mark_link (mark_link b r.answered outcome) r.superseded outcome in
-    if eqb r.added 0 then marked else add_request marked origin r.request
+    if eqb r.added 0 then marked otherwise add_request marked origin r.request
 
 -- the order's client has its open quantity, in the book as it is left, in the word of its first order there; no other word is written
 unfoldable pub place_open : List ℕ → (left : Book) → (place client : ℕ) → List ℕ
 place_open b left place client =
     if eqb place 0 then b
-    else maybe b (λ i. store_open b i (open_of left client)) (find_client left client)
+    otherwise maybe b (λ i. store_open b i (open_of left client)) (find_client left client)
 
 -- the change that an event makes, in the tables. What it settles comes to `outcome_by`, and what it adds has the link of the request that its OrigClOrdID names.
 unfoldable pub tables_with : List ℕ → Event → Change → List ℕ
@@ -66,24 +66,24 @@ outcome n b a = record { returned = n; book = b; answer = a }
 unfoldable pub call_of : (book event : List ℕ) (room : ℕ) → Change
 call_of b r room =
     if not (keeps_of b) then refusing 1
-    else if ltb room 1024 then refusing 2
-    else if not (eqb (event_refusal r) 0) then refusing (event_refusal r)
-    else step_of (book_of b) (event_in r)
+    otherwise if ltb room 1024 then refusing 2
+    otherwise if not (eqb (event_refusal r) 0) then refusing (event_refusal r)
+    otherwise step_of (book_of b) (event_in r)
 
 -- `event`: a refused one has written nothing anywhere
 unfoldable pub event_of : (book event answer : List ℕ) → Outcome
 event_of b r a =
     let c = call_of b r (length a) in
     if eqb c.refusal 0 then outcome 0 (book_with b (event_in r) c) (splice a 0 (answer_bytes c.output.alarm c.output.alarm2 (messages_of c)))
-    else outcome c.refusal b a
+    otherwise outcome c.refusal b a
 
 -- `start`: zeros but for the setting, or nothing where the length is another
 unfoldable pub start_refusal : List ℕ → ℕ
-start_refusal b = if is_book b then 0 else 1
+start_refusal b = if is_book b then 0 otherwise 1
 
 unfoldable pub start_of : List ℕ → (setting : ℕ) → List ℕ
-start_of b setting = if is_book b then blank setting else b
+start_of b setting = if is_book b then blank setting otherwise b
 
 -- `check`
 unfoldable pub check_of : List ℕ → ℕ
-check_of b = if keeps_of b then 0 else 1
+check_of b = if keeps_of b then 0 otherwise 1

@@ -1,6 +1,6 @@
 -- The parts of a step as the code takes them. Rests on machine's Machine; that together they are machine's is in Laws.Steps.
 use Rattle.std.specs.Prelude.{ℕ, ◌-◌, Bool, ◌&&◌, ◌||◌, eqb, leb, ltb, length}
-use Rattle.prelude.specs.Cases.{if◌then◌else◌}
+use Rattle.prelude.specs.Cases.{if◌then◌otherwise◌}
 use Rattle.store.specs.declared.Order.{Order}
 use Rattle.store.specs.declared.Request.{Request}
 use Rattle.store.specs.Book.{Book, request_in}
@@ -17,7 +17,7 @@ use Rattle.machine.specs.Machine.{amending, on_report, nothing, unknown_report, 
 
 -- the request of a link, 0 for none
 unfoldable pub request_at_link : Book → ℕ → Request
-request_at_link b link = if eqb link 0 then no_request else request_in b (link - 1)
+request_at_link b link = if eqb link 0 then no_request otherwise request_in b (link - 1)
 
 unfoldable pub findings_at : Book → (place : ℕ) → Order → Findings
 findings_at b place o = record { place = place; requests = length b.requests; cancel = request_at_link b o.links.cancel }
@@ -29,20 +29,20 @@ is_full b client = leb b.setting (count_clordids b client)
 -- ---- events by kind
 
 unfoldable pub amended : Book → Event → Change
-amended b e = if eqb e.kind 2 then amending cancel b e else amending replace b e
+amended b e = if eqb e.kind 2 then amending cancel b e otherwise amending replace b e
 
 -- events 4 to 8 on the request that they name
 unfoldable pub handled : Event → Findings → ℕ → Request → Order → Change
 handled e f k q o =
     if eqb e.kind 4 then on_report e f k q o
-    else if eqb e.kind 5 then unknown_at_venue f k o e
-    else if eqb e.kind 6 then venue_cancel_reject f k q o e
-    else if eqb e.kind 7 then send_failed f k q e.venue (text_note e) o
-    else unsent f k q e.venue o
+    otherwise if eqb e.kind 5 then unknown_at_venue f k o e
+    otherwise if eqb e.kind 6 then venue_cancel_reject f k q o e
+    otherwise if eqb e.kind 7 then send_failed f k q e.venue (text_note e) o
+    otherwise unsent f k q e.venue o
 
 -- and where they name none
 unfoldable pub unknown_of : Event → Change
-unknown_of e = if leb e.kind 6 then unknown_report else nothing
+unknown_of e = if leb e.kind 6 then unknown_report otherwise nothing
 
 -- ---- question 7
 

@@ -1,5 +1,7 @@
 // What a call of `event` comes to, by value: every question that is asked before an event is taken, in
 // order, and then the event's change. Writes nothing. Rests on opens, records and the handling.
+#![tactic(auto)]
+
 ghost use Rattle.std.specs.Prelude.{◌≡◌};
 ghost use Rattle.step.specs.Entries.{call_of};
 

@@ -2,7 +2,7 @@
 -- Rests on Layout, Orders and Requests. A buffer of another length than 65,536 is an empty book, and no function changes it.
 -- A count in the header that is above the table's size counts as the table's size.
 use Rattle.std.specs.Prelude.{Bool, ◌&&◌, List, [], ◌∷◌, ◌++◌, ℕ, ◌+◌, min, eqb, ltb, length, get_or, set}
-use Rattle.prelude.specs.Cases.{if◌then◌else◌}
+use Rattle.prelude.specs.Cases.{if◌then◌otherwise◌}
 use Rattle.prelude.specs.Lists.{list_below}
 use Rattle.prelude.specs.Number.{word16, word32, word64, bytes_of}
 use Rattle.prelude.specs.Span.{splice}
@@ -46,7 +46,7 @@ is_book b = eqb (length b) book_size
 
 -- the count at an index, at most `most`
 unfoldable pub count_at : ℕ → ℕ → List ℕ → ℕ
-count_at at most b = if is_book b then min most (word16 b at) else 0
+count_at at most b = if is_book b then min most (word16 b at) otherwise 0
 
 abbrev pub order_count : List ℕ → ℕ
 order_count b = count_at header·orders most_orders b
@@ -55,7 +55,7 @@ abbrev pub request_count : List ℕ → ℕ
 request_count b = count_at header·requests most_requests b
 
 unfoldable pub setting_of : List ℕ → ℕ
-setting_of b = if is_book b then word32 b header·setting else 0
+setting_of b = if is_book b then word32 b header·setting otherwise 0
 
 -- THE BOOK that the bytes are
 unfoldable pub book_of : List ℕ → Book
@@ -68,24 +68,24 @@ book_of b = record {
 -- ---- what the functions give and leave
 
 unfoldable pub load_order : List ℕ → ℕ → Order
-load_order b i = if is_book b && ltb i most_orders then order_at b i else no_order
+load_order b i = if is_book b && ltb i most_orders then order_at b i otherwise no_order
 
 unfoldable pub load_request : List ℕ → ℕ → Request
-load_request b i = if is_book b && ltb i most_requests then request_at b i else no_request
+load_request b i = if is_book b && ltb i most_requests then request_at b i otherwise no_request
 
 unfoldable pub store_order : List ℕ → ℕ → Order → List ℕ
-store_order b i o = if is_book b && ltb i most_orders then put_order b i o else b
+store_order b i o = if is_book b && ltb i most_orders then put_order b i o otherwise b
 
 unfoldable pub set_count : List ℕ → ℕ → ℕ → List ℕ
 set_count b at n = splice b at (bytes_of 2 n)
 
 unfoldable pub add_order : List ℕ → Order → List ℕ
-add_order b o = if is_book b && ltb (order_count b) most_orders then set_count (put_order b (order_count b) o) header·orders (order_count b + 1) else b
+add_order b o = if is_book b && ltb (order_count b) most_orders then set_count (put_order b (order_count b) o) header·orders (order_count b + 1) otherwise b
 
 -- the origin is the link of the request that the OrigClOrdID names, 0 for none
 unfoldable pub add_request : List ℕ → (origin : ℕ) → Request → List ℕ
 add_request b origin r =
-    if is_book b && ltb (request_count b) most_requests then set_count (put_request b (request_count b) origin r) header·requests (request_count b + 1) else b
+    if is_book b && ltb (request_count b) most_requests then set_count (put_request b (request_count b) origin r) header·requests (request_count b + 1) otherwise b
 
 -- beside the request's fields, no part of the book that the bytes are: what came of it, and its origin
 abbrev pub outcome_at : List ℕ → ℕ → ℕ
@@ -95,37 +95,37 @@ abbrev pub origin_at : List ℕ → ℕ → ℕ
 origin_at b i = word16 b (request_base i + request·origin)
 
 unfoldable pub load_outcome : List ℕ → ℕ → ℕ
-load_outcome b i = if is_book b && ltb i most_requests then outcome_at b i else 0
+load_outcome b i = if is_book b && ltb i most_requests then outcome_at b i otherwise 0
 
 unfoldable pub load_origin : List ℕ → ℕ → ℕ
-load_origin b i = if is_book b && ltb i most_requests then origin_at b i else 0
+load_origin b i = if is_book b && ltb i most_requests then origin_at b i otherwise 0
 
 -- an outcome is set once, for good: a request that is answered keeps the one that it has
 unfoldable pub settled_as : List ℕ → ℕ → (outcome : ℕ) → ℕ
-settled_as b i outcome = if eqb (request_at b i).answered 0 then outcome else outcome_at b i
+settled_as b i outcome = if eqb (request_at b i).answered 0 then outcome otherwise outcome_at b i
 
 abbrev pub settle : List ℕ → ℕ → (outcome : ℕ) → List ℕ
 settle b i outcome = splice (splice b (request_base i + request·answered) (1 ∷ [])) (request_base i + request·outcome) (settled_as b i outcome ∷ [])
 
 unfoldable pub mark_answered : List ℕ → ℕ → (outcome : ℕ) → List ℕ
-mark_answered b i outcome = if is_book b && ltb i most_requests then settle b i outcome else b
+mark_answered b i outcome = if is_book b && ltb i most_requests then settle b i outcome otherwise b
 
 -- the word of order i's place behind the tables; it is no part of the book that the bytes are
 abbrev pub open_at : List ℕ → ℕ → ℕ
 open_at b i = word64 b (open_base i)
 
 unfoldable pub load_open : List ℕ → ℕ → ℕ
-load_open b i = if is_book b && ltb i most_orders then open_at b i else 0
+load_open b i = if is_book b && ltb i most_orders then open_at b i otherwise 0
 
 unfoldable pub store_open : List ℕ → (i quantity : ℕ) → List ℕ
-store_open b i quantity = if is_book b && ltb i most_orders then splice b (open_base i) (bytes_of 8 quantity) else b
+store_open b i quantity = if is_book b && ltb i most_orders then splice b (open_base i) (bytes_of 8 quantity) otherwise b
 
 -- an empty book with its setting
 unfoldable pub blank : ℕ → List ℕ
 blank setting = splice (zeros book_size) header·setting (bytes_of 4 setting)
 
 unfoldable pub clear_book : List ℕ → ℕ → List ℕ
-clear_book b setting = if is_book b then blank setting else b
+clear_book b setting = if is_book b then blank setting otherwise b
 
 -- ---- the same on the book
 

@@ -1,5 +1,5 @@
 -- A text as it is written. Rests on prelude.
-use Rattle.std.specs.Prelude.{List, [], ◌∷◌, ◌++◌, ℕ, ◌+◌}
+use Rattle.std.specs.Prelude.{List, [], ◌∷◌, ◌++◌, ℕ}
 use Rattle.prelude.specs.declared.Text.{Text}
 
 -- a text as it is written: its bytes, then its length

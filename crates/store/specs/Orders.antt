@@ -1,7 +1,7 @@
 -- An order's record: what its bytes say, and the bytes that say it, group by group. Rests on Layout and Cells.
 -- The two marks of the gateway cancel are one byte, its stage: 0 none, 1 unsent, 2 sent, 3 stuck.
 use Rattle.std.specs.Prelude.{◌≡◌, Bool, false, not, ◌&&◌, ◌||◌, List, [], ◌∷◌, ◌++◌, ℕ, ◌<◌, eqb, ltb, get_or, replicate}
-use Rattle.prelude.specs.Cases.{if◌then◌else◌}
+use Rattle.prelude.specs.Cases.{if◌then◌otherwise◌}
 use Rattle.prelude.specs.Number.{word16, word32, word64, bytes_of, bound}
 use Rattle.prelude.specs.Pieces.{joined}
 use Rattle.prelude.specs.Texts.{text_at, WholeText}
@@ -20,7 +20,7 @@ use Rattle.store.specs.Cells.{text_bytes}
 
 -- no stage without a link, and with one a stage from 1 to 3
 unfoldable pub malformed : ℕ → ℕ → Bool
-malformed stage link = if eqb link 0 then not (eqb stage 0) else (eqb stage 0 || ltb 3 stage)
+malformed stage link = if eqb link 0 then not (eqb stage 0) otherwise (eqb stage 0 || ltb 3 stage)
 
 -- a malformed pair shows both marks, which no rule allows
 unfoldable pub unsent_of : ℕ → ℕ → Bool
@@ -30,7 +30,7 @@ unfoldable pub stuck_of : ℕ → ℕ → Bool
 stuck_of stage link = malformed stage link || eqb stage 3
 
 unfoldable pub stage_of : GatewayCancel → ℕ
-stage_of g = if eqb g.origdownstream 0 then 0 else if g.unsent then 1 else if g.stuck then 3 else 2
+stage_of g = if eqb g.origdownstream 0 then 0 otherwise if g.unsent then 1 otherwise if g.stuck then 3 otherwise 2
 
 -- ---- names: as the code reads it, its pieces, and what every value has
 

@@ -1,6 +1,6 @@
 // Lookups over the records in use, in place: no record is copied to be compared. Rests on text.
 ghost use Rattle.std.specs.Prelude.{◌≡◌, ◌≤◌, ◌<◌, length};
-ghost use Rattle.prelude.specs.Cases.{if◌then◌else◌};
+ghost use Rattle.prelude.specs.Cases.{if◌then◌otherwise◌};
 ghost use Rattle.store.specs.Layout.{book_size, most_orders, most_requests};
 ghost use Rattle.store.specs.Book.{book_of};
 ghost use Rattle.store.specs.Finds.{found_of, find_client, find_name, find_downstream, find_clordid, count_clordids};
@@ -132,7 +132,7 @@ pub fn find_clordid(book: &[u8], client: u16, t: Text) -> Found
 // 1 where request k has a ClOrdID and is that client's, else 0.
 fn used(book: &[u8], k: usize, n: usize, client: u16) -> usize
     requires { (length book.now ≡ book_size) × (k < most_requests) × (n ≤ most_orders) }
-    ensures { (result ≡ (if used_at book.now n client k then 1 else 0)) × (result ≤ 1) }
+    ensures { (result ≡ (if used_at book.now n client k then 1 otherwise 0)) × (result ≤ 1) }
 {
     if book[layout::REQUESTS + k * layout::REQUEST + layout::REQUEST_CLORDID_LEN] == 0 {
         return 0;

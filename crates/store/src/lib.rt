@@ -1,6 +1,8 @@
 // The book in its buffer: one slice of 65,536 bytes with a header, 64 order records and 256 request
 // records. Rests on prelude and text. Every public function is total: a buffer of another length is
 // an empty book that nothing changes, and an index past a table has the answer that is stated.
+#![tactic(auto)]
+
 ghost use Rattle.std.specs.Prelude.{◌≡◌, ◌+◌, ◌≤◌};
 ghost use Rattle.store.specs.Layout.{orders_at};
 ghost use Rattle.store.specs.Orders.{no_pending, no_gateway, no_names, no_order};
@@ -20,7 +22,7 @@ pub use finds::{count_clordids, find_client, find_clordid, find_downstream, find
 
 // An order's texts. `clordid` is the client's current one, `downstream` the one that the venue
 // knows the order by now; `venueorderid` is empty until the venue gives one.
-#[derive(Drop)]
+#[derive(Clone, Copy)]
 pub struct Names {
     pub name: Text,
     pub clordid: Text,
@@ -30,7 +32,7 @@ pub struct Names {
 }
 
 // How far the order is.
-#[derive(Drop)]
+#[derive(Clone, Copy)]
 pub struct State {
     pub status: u8,
     pub cumqty: u64,
@@ -40,7 +42,7 @@ pub struct State {
 
 // Requests sent beside the first, and which requests are the current one and the latest cancel.
 // A link is 0 for none, else one more than the request's index.
-#[derive(Drop)]
+#[derive(Clone, Copy)]
 pub struct Links {
     pub amendments: u16,
     pub current: u16,
@@ -49,7 +51,7 @@ pub struct Links {
 
 // A replace that waits for the venue's answer: the link of its request and its terms. All zero
 // where there is none.
-#[derive(Drop)]
+#[derive(Clone, Copy)]
 pub struct Pending {
     pub request: u16,
     pub qty: u64,
@@ -60,7 +62,7 @@ pub struct Pending {
 
 // The gateway's own cancel of the order. All zero where there is none; where there is one,
 // `origdownstream` is the link of the request that its latest cancel named.
-#[derive(Drop)]
+#[derive(Clone, Copy)]
 pub struct GatewayCancel {
     pub tries: u8,
     pub unsent: bool,
@@ -69,7 +71,7 @@ pub struct GatewayCancel {
     pub refusedsends: u32,
 }
 
-#[derive(Drop)]
+#[derive(Clone, Copy)]
 pub struct Order {
     pub client: u16,
     pub venue: u16,
@@ -84,7 +86,7 @@ pub struct Order {
 // A request sent to a venue (the Rust's `Sent`), by the index of its order. `kind` is one of `kinds`:
 // a gateway's cancel has no ClOrdID, a client's cancel or replace has an OrigClOrdID. `answered` is 0
 // or 1.
-#[derive(Drop)]
+#[derive(Clone, Copy)]
 pub struct Request {
     pub order: u16,
     pub kind: u8,
@@ -95,7 +97,7 @@ pub struct Request {
 }
 
 // What a lookup gives: an index, or nothing.
-#[derive(Drop)]
+#[derive(Clone, Copy)]
 pub enum Found {
     At(usize),
     Nothing,

@@ -1,9 +1,11 @@
 // Fills both tables, loads all back, looks everything up, and prints how many answers were right:
 // 64 orders, 256 requests, and each lookup once for each record that it can find.
+#![tactic(auto)]
+
 ghost use Rattle.std.specs.Prelude.{◌≤◌};
 
-use libc::STDOUT_FILENO;
 use samples::{client, clordid, downstream, name, order, request, same_order, same_request};
+use std::io;
 use store::Found;
 
 mod samples; // what is stored, and comparison
@@ -127,59 +129,67 @@ fn clordids_missed(book: &[u8]) -> u64 {
     right
 }
 
-fn line(label: &[u8], n: u64) {
-    io::write_all(STDOUT_FILENO, label);
-    io::print_decimal(STDOUT_FILENO, n);
-    io::write_all(STDOUT_FILENO, b"\n");
+fn line(rt: &impl Print, label: &str, n: u64) -> io::Result<()> {
+    println!(rt; "{label} {n}")
 }
 
-fn stored(book: &mut [u8]) {
+fn stored(rt: &impl Print, book: &mut [u8]) -> io::Result<()> {
     store::clear(book, 10000);
-    line(b"setting ", store::setting(book) as u64);
+    line(rt, "setting", store::setting(book) as u64)?;
     add_orders(book);
     add_requests(book);
-    line(b"orders ", store::order_count(book) as u64);
-    line(b"requests ", store::request_count(book) as u64);
-    line(b"orders right ", orders_right(book, 1));
-    line(b"requests right ", requests_right(book, 0));
+    line(rt, "orders", store::order_count(book) as u64)?;
+    line(rt, "requests", store::request_count(book) as u64)?;
+    line(rt, "orders right", orders_right(book, 1))?;
+    line(rt, "requests right", requests_right(book, 0))
 }
 
-fn changed(book: &mut [u8]) {
+fn changed(rt: &impl Print, book: &mut [u8]) -> io::Result<()> {
     store_orders(book);
     mark_requests(book);
-    line(b"orders right again ", orders_right(book, 2));
-    line(b"requests right again ", requests_right(book, 1));
+    line(rt, "orders right again", orders_right(book, 2))?;
+    line(rt, "requests right again", requests_right(book, 1))
 }
 
 // A full table takes no more.
-fn full(book: &mut [u8]) {
+fn full(rt: &impl Print, book: &mut [u8]) -> io::Result<()> {
     store::add_order(book, order(64, 2));
     store::add_request(book, 0, request(256, 1));
-    line(b"orders when full ", store::order_count(book) as u64);
-    line(b"requests when full ", store::request_count(book) as u64);
+    line(rt, "orders when full", store::order_count(book) as u64)?;
+    line(rt, "requests when full", store::request_count(book) as u64)
 }
 
-fn looked_up(book: &[u8]) {
-    line(b"names ", names_found(book));
-    line(b"downstreams ", downstreams_found(book));
-    line(b"ClOrdIDs ", clordids_found(book));
-    line(b"ClOrdIDs missed ", clordids_missed(book));
+fn looked_up(rt: &impl Print, book: &[u8]) -> io::Result<()> {
+    line(rt, "names", names_found(book))?;
+    line(rt, "downstreams", downstreams_found(book))?;
+    line(rt, "ClOrdIDs", clordids_found(book))?;
+    line(rt, "ClOrdIDs missed", clordids_missed(book))?;
     line(
-        b"unknown name ",
+        rt,
+        "unknown name",
         one(nothing(store::find_name(book, name(64)))),
-    );
+    )?;
     line(
-        b"unknown downstream ",
+        rt,
+        "unknown downstream",
         one(nothing(store::find_downstream(book, downstream(256)))),
-    );
-    line(b"used by client 3 ", store::count_clordids(book, 3) as u64);
-    line(b"used by client 9 ", store::count_clordids(book, 9) as u64);
+    )?;
+    line(
+        rt,
+        "used by client 3",
+        store::count_clordids(book, 3) as u64,
+    )?;
+    line(
+        rt,
+        "used by client 9",
+        store::count_clordids(book, 9) as u64,
+    )
 }
 
-fn main() {
+fn main(rt: HostRuntime) -> io::Result<()> {
     let mut book = [0u8; 65536];
-    stored(&mut book);
-    changed(&mut book);
-    full(&mut book);
-    looked_up(&book);
+    stored(&rt, &mut book)?;
+    changed(&rt, &mut book)?;
+    full(&rt, &mut book)?;
+    looked_up(&rt, &book)
 }

@@ -1,6 +1,6 @@
 -- The words of this crate's contracts: the empty text, texts in place, a byte more. Rests on prelude.
 use Rattle.std.specs.Prelude.{Bool, ◌&&◌, List, [], ◌∷◌, ℕ, ◌+◌, leb, ltb, length, set, replicate}
-use Rattle.prelude.specs.Cases.{if◌then◌else◌}
+use Rattle.prelude.specs.Cases.{if◌then◌otherwise◌}
 use Rattle.prelude.specs.Texts.{text_at, same_text, is_text}
 use Rattle.prelude.specs.declared.Text.{Text}
 
@@ -22,7 +22,7 @@ text_fine s at = holds s at && is_text (text_at s at)
 
 -- one byte more, or the text as it is where it is full
 unfoldable pub push_text : Text → ℕ → Text
-push_text t x = if ltb t.len 32 then record { bytes = set t.bytes t.len x; len = t.len + 1 } else t
+push_text t x = if ltb t.len 32 then record { bytes = set t.bytes t.len x; len = t.len + 1 } otherwise t
 
 abbrev pub push_all : Text → List ℕ → Text
 push_all t [] = t

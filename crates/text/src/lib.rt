@@ -1,5 +1,7 @@
 // Texts: the empty one, comparison, range, and numbered names. Rests on prelude and words. Every
 // public function is total: an index past the end of a slice has a stated answer.
+#![tactic(auto)]
+
 ghost use Rattle.std.specs.Prelude.{◌≡◌, ◌+◌, ◌≤◌, eqb, length};
 ghost use Rattle.prelude.specs.Below.{all_below};
 ghost use Rattle.prelude.specs.Number.{word64};

@@ -2,7 +2,7 @@
 use Rattle.std.specs.Prelude.{ℕ, ◌-◌, ◌*◌, ◌^◌, ◌≤◌, ◌<◌, ◌≡◌, refl, Bool, true, false, ◌&&◌, eqb, ltb, List}
 use Rattle.std.proofs.Common.{◌∙◌, le_trans, lt_of_le_of_lt, sub-le, mul-le-mul, arith, lit≤, lit<}
 use borrow.Author.Tests.{lt-ltb, le-ltb, ne_eqb, ltb-true, ltb-false}
-use Rattle.prelude.specs.Cases.{if◌then◌else◌, split_if, if_true, if_false, both_true}
+use Rattle.prelude.specs.Cases.{if◌then◌otherwise◌, split_if, if_true, if_false, both_true}
 use Rattle.wide.specs.Wide.{by_last_px, implied, fill_price, words, from_last_px, from_quotient, from_average, priced}
 use Rattle.wide.specs.Rounding.{nearest_none, nearest_le}
 use Rattle.wide.specs.declared.Priced.{Priced}
@@ -108,6 +108,6 @@ last_px_rise lastqty lastpx rise h = rw (ne_eqb rise 0 (λ e. omega arith))
 
 -- with no rise the price is LastPx if above 0, else AvgPx
 pub price_no_rise : (lastqty lastpx cumqty avgpx oldcum oldavg : ℕ) →
-    fill_price lastqty lastpx cumqty avgpx oldcum oldavg 0 ≡ (if ltb 0 lastpx then priced lastpx from_last_px else priced avgpx from_average)
-unfolding fill_price if◌then◌else◌
+    fill_price lastqty lastpx cumqty avgpx oldcum oldavg 0 ≡ (if ltb 0 lastpx then priced lastpx from_last_px otherwise priced avgpx from_average)
+unfolding fill_price if◌then◌otherwise◌
 price_no_rise lastqty lastpx cumqty avgpx oldcum oldavg = rw (implied_no_rise cumqty avgpx oldcum oldavg, last_px_no_rise lastqty lastpx)

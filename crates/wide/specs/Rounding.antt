@@ -5,7 +5,7 @@ use Rattle.std.proofs.Common.{sym, ap, ◌∙◌, inl, inr, ⊎_elim, lt_of_le_o
 use Rattle.std.proofs.Math.Decide.{dec_lt}
 use Rattle.std.proofs.Math.Arith.{digits_div, digits_mod}
 use borrow.Author.Tests.{ltb-true, ltb-false, eqb-true, ne_eqb, eq-eqb, le-ltb, lt-ltb}
-use Rattle.prelude.specs.Cases.{if◌then◌else◌, split_if, if_false}
+use Rattle.prelude.specs.Cases.{if◌then◌otherwise◌, split_if, if_false}
 use Rattle.wide.specs.Wide.{value, words, at_half, up, nearest}
 use Rattle.wide.specs.Words.{one_word}
 
@@ -47,7 +47,7 @@ up_near q r d =
 -- ---- the rounded quotient
 
 pub nearest_none : (n : ℕ) → nearest n 0 ≡ 0
-unfolding nearest if◌then◌else◌
+unfolding nearest if◌then◌otherwise◌
 nearest_none n = refl
 
 -- by any quotient and its rest
@@ -105,19 +105,19 @@ module _ (n d : ℕ) (pos : 0 < d) where
 
   -- THE RULE: a rest of half the divisor goes up, whatever the quotient; less goes down, more goes up
   pub half_up : 2 * (n % d) ≡ d → nearest n d ≡ n / d + 1
-  unfolding at_half up if◌then◌else◌
+  unfolding at_half up if◌then◌otherwise◌
   half_up h = by_rest ∙ rw (le-ltb d (2 * (n % d)) (omega arith), eq-eqb (2 * (n % d)) d h) (omega arith)
 
   pub below_half : 2 * (n % d) < d → nearest n d ≡ n / d
-  unfolding up if◌then◌else◌
+  unfolding up if◌then◌otherwise◌
   below_half h = by_rest ∙ rw (le-ltb d (2 * (n % d)) (omega arith), ne_eqb (2 * (n % d)) d (λ e. omega arith)) (omega arith)
 
   pub above_half : d < 2 * (n % d) → nearest n d ≡ n / d + 1
-  unfolding up if◌then◌else◌
+  unfolding up if◌then◌otherwise◌
   above_half h = by_rest ∙ rw (lt-ltb d (2 * (n % d)) h)
 
   pub nearest_half : 2 * n ≡ d → nearest n d ≡ at_half 0
-  unfolding up if◌then◌else◌
+  unfolding up if◌then◌otherwise◌
   nearest_half h =
       nearest_by n d 0 n (omega arith) (omega arith) ∙ rw (le-ltb d (2 * n) (omega arith), eq-eqb (2 * n) d h) (omega arith)
 

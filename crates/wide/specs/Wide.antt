@@ -1,7 +1,7 @@
 -- Two-word numbers, division rounded to the nearest, and the price of a fill: the definitions that the contracts cite.
 -- Rests on prelude's Cases. Words, Rounding and Price have the laws by which a caller uses them.
 use Rattle.std.specs.Prelude.{ℕ, ◌+◌, ◌-◌, ◌*◌, ◌/◌, ◌%◌, ◌^◌, Bool, ◌&&◌, ◌||◌, List, [], ◌∷◌, eqb, ltb, get_or}
-use Rattle.prelude.specs.Cases.{if◌then◌else◌}
+use Rattle.prelude.specs.Cases.{if◌then◌otherwise◌}
 use Rattle.wide.specs.declared.Priced.{Priced}
 
 -- the number that two words stand for, the low word first
@@ -22,12 +22,12 @@ at_half quotient = 1
 unfoldable pub up : (quotient rest d : ℕ) → ℕ
 up quotient rest d =
     if ltb d (2 * rest) then 1
-    else if eqb (2 * rest) d then at_half quotient
-    else 0
+    otherwise if eqb (2 * rest) d then at_half quotient
+    otherwise 0
 
 -- the fraction n / d rounded to the nearest whole number; 0 where d is 0
 unfoldable pub nearest : (n d : ℕ) → ℕ
-nearest n d = if eqb d 0 then 0 else n / d + up (n / d) (n % d) d
+nearest n d = if eqb d 0 then 0 otherwise n / d + up (n / d) (n % d) d
 
 -- ---- the price of a fill
 
@@ -56,5 +56,5 @@ priced price source = record { price = words price; source = source }
 unfoldable pub fill_price : (lastqty lastpx cumqty avgpx oldcum oldavg rise : ℕ) → Priced
 fill_price lastqty lastpx cumqty avgpx oldcum oldavg rise =
     if by_last_px lastqty lastpx rise then priced lastpx from_last_px
-    else if ltb 0 (implied cumqty avgpx oldcum oldavg rise) then priced (implied cumqty avgpx oldcum oldavg rise) from_quotient
-    else priced avgpx from_average
+    otherwise if ltb 0 (implied cumqty avgpx oldcum oldavg rise) then priced (implied cumqty avgpx oldcum oldavg rise) from_quotient
+    otherwise priced avgpx from_average

@@ -6,7 +6,7 @@ ghost use Rattle.wide.specs.Division.{Divides, Scales};
 // One more than the largest half of a word.
 pub const HALF: u64 = 0x1_0000_0000;
 
-#[derive(Drop)]
+#[derive(Clone, Copy)]
 pub struct Divided {
     pub quotient: u64,
     pub rest: u64,

@@ -1,6 +1,8 @@
 // Two-word numbers, `[u64; 2]` by value with the low word first, and the price of a fill. Each
 // function is total and equals a definition of specs/Wide.antt. Rests on the module `division` and
 // on prelude's words.
+#![tactic(auto)]
+
 ghost use Rattle.std.specs.Prelude.{◌≡◌, ◌-◌, ◌*◌, ◌/◌, ◌%◌, ◌<◌, ltb};
 ghost use Rattle.wide.specs.Wide.{value, words, up, nearest, by_last_px, implied, fill_price};
 
@@ -9,7 +11,7 @@ use division::{HALF, divide};
 mod division;
 
 // A price in two words, and where it came from.
-#[derive(Drop)]
+#[derive(Clone, Copy)]
 pub struct Priced {
     pub price: [u64; 2],
     pub source: u8,
@@ -118,7 +120,7 @@ pub fn quotient(n: [u64; 2], d: u64) -> [u64; 2]
 }
 
 // A tenth, truncated, and the digit that it leaves.
-#[derive(Drop)]
+#[derive(Clone, Copy)]
 pub struct Tenth {
     pub quotient: [u64; 2],
     pub digit: u64,

@@ -1,6 +1,8 @@
 // Little-endian numbers, read in place from the start of a slice, and a byte made wider. Each read is
 // total: a byte behind the end of the slice counts as 0, as in prelude's words. A reader lends the bytes
 // of the number alone, `get64(&s[at..at + 8])`: the tests of the end then cost nothing. Rests on prelude.
+#![tactic(auto)]
+
 ghost use Rattle.std.specs.Prelude.{◌≡◌, ◌+◌, ◌*◌, ◌<◌, ◌≤◌, get_or};
 ghost use Rattle.prelude.specs.Number.{word16, word32, word64};
 

@@ -6,7 +6,7 @@ use Rattle.std.specs.Int.Bits.{bit_and, bit_or, or_add_and, and_step}
 use Rattle.std.proofs.lemmas.Nat.Bits.{and_high}
 use Rattle.std.proofs.lemmas.Nat.{and_shr}
 use Rattle.std.proofs.Math.Pow.{pow-lt}
-use Rattle.prelude.specs.Cases.{if◌then◌else◌}
+use Rattle.prelude.specs.Cases.{if◌then◌otherwise◌}
 use Rattle.bits.specs.Map.{digit, bit, with_bit, contains}
 
 pub digit_two : (m k : ℕ) → digit m k < 2
@@ -48,7 +48,7 @@ and_one m k =
 
 -- a mask of one bit sets that bit
 pub or_one : (m k : ℕ) → k < 32 → bit_or m (2 ^ k) ≡ with_bit m k
-unfolding with_bit if◌then◌else◌
+unfolding with_bit if◌then◌otherwise◌
 or_one m k h = go (two (digit m k) (digit_two m k))
   where
     sum : bit_or m (2 ^ k) + digit m k * 2 ^ k ≡ m + 2 ^ k

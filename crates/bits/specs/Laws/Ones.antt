@@ -6,17 +6,17 @@ use native.Mathlib.Omega.{arith}
 use Rattle.std.proofs.Math.Arith.{mod-mul}
 use Rattle.std.specs.Int.Count.{ones, ones_in}
 use Rattle.std.proofs.lemmas.Nat.{ones_cat}
-use Rattle.prelude.specs.Cases.{if◌then◌else◌}
+use Rattle.prelude.specs.Cases.{if◌then◌otherwise◌}
 use Rattle.prelude.specs.Below.{count_below}
 use Rattle.bits.specs.Map.{digit, bit, standing}
 use Rattle.bits.specs.Laws.Map.{digit_two, two}
 
 -- one digit
-ones_digit : (d : ℕ) → d < 2 → (if eqb d 1 then 1 else 0) ≡ ones d
-unfolding if◌then◌else◌ ones ones_in
+ones_digit : (d : ℕ) → d < 2 → (if eqb d 1 then 1 otherwise 0) ≡ ones d
+unfolding if◌then◌otherwise◌ ones ones_in
 ones_digit d h = go (two d h)
   where
-    go : (d ≡ 0) ⊎ (d ≡ 1) → (if eqb d 1 then 1 else 0) ≡ ones d
+    go : (d ≡ 0) ⊎ (d ≡ 1) → (if eqb d 1 then 1 otherwise 0) ≡ ones d
     go (inl z) = rw z refl
     go (inr z) = rw z refl
 

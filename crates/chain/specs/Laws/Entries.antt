@@ -1,21 +1,21 @@
 -- Entries: 34 bytes each, a stored ClOrdID being its length and its 32 bytes; written one behind the other. Rests on Chain.
-use Rattle.std.specs.Prelude.{ℕ, suc, ◌+◌, ◌*◌, ◌≤◌, ◌<◌, ◌≡◌, Bool, ◌&&◌, length, get_or, take, replicate}
+use Rattle.std.specs.Prelude.{ℕ, suc, ◌+◌, ◌*◌, ◌≤◌, ◌<◌, ◌≡◌, Bool, ◌&&◌, length, get_or}
 use Rattle.std.proofs.Common.{arith, ◌∙◌, length-take}
 use Rattle.std.proofs.Math.Path.{refl, sym, ap, ap₂}
 use Rattle.std.proofs.Math.Bool.{true}
 use Rattle.std.proofs.Math.Option.{none, some}
-use mathlib.Core.List.{List, [], ◌∷◌, ◌++◌, map, append-nil}
+use mathlib.Core.List.{List, [], ◌∷◌, map, append-nil}
 use Rattle.std.proofs.Math.Dec.{leb}
 use Rattle.std.proofs.Math.ListN.{length-append}
 use Rattle.std.proofs.lemmas.List.{length-replicate}
-use Rattle.prelude.specs.Cases.{if◌then◌else◌, split_if, both_true}
+use Rattle.prelude.specs.Cases.{if◌then◌otherwise◌, split_if, both_true}
 use Rattle.prelude.specs.Pieces.{joined, Sized, length_joined, writes_joined}
 use Rattle.prelude.specs.Span.{span, splice, length_span, length_splice, splice_append}
 use Rattle.prelude.specs.Texts.{text_at, contents, text_of, is_text, text_contents}
 use Rattle.prelude.specs.declared.Text.{Text}
 use Rattle.store.specs.Layout.{book_size, most_requests, request_base, request·clordid, request·clordidLen}
 use Rattle.store.specs.declared.Request.{Request}
-use Rattle.store.specs.Book.{Book, book_of, request_in, request_at, request_count, outcome_at}
+use Rattle.store.specs.Book.{book_of, request_in, request_count, outcome_at}
 use Rattle.store.specs.Laws.Fields.{request_clordid, request_clordid_len}
 use Rattle.store.specs.Laws.Stored.{length_requests, request_in_lem}
 use Rattle.machine.specs.Changes.{is_gateway}
@@ -93,7 +93,7 @@ module _ (b : List ℕ) (keeps : keeps_of b ≡ true) (k : ℕ) (h : k < request
       fine : (lo hi : ℕ) → text_within lo hi name ≡ true → is_text name ≡ true
       fine lo hi e = (both_true (is_text name) _ (both_true (is_text name && leb lo name.len) (leb name.len hi) e).0).0
 
-      go : (t : Bool) → (if t then text_within 0 0 name else text_within 1 32 name) ≡ true → is_text name ≡ true
+      go : (t : Bool) → (if t then text_within 0 0 name otherwise text_within 1 32 name) ≡ true → is_text name ≡ true
       go t = split_if (λ (v : Bool). v ≡ true → is_text name ≡ true) t (λ e. fine 0 0) (λ e. fine 1 32)
 
   -- the text of its contents

@@ -1,16 +1,16 @@
 -- Names found: a ClOrdID of a client names one request, and an empty one none. Rests on store's Finds and machine's rules.
-use Rattle.std.specs.Prelude.{ℕ, ◌≤◌, ◌<◌, ◌≡◌, refl, Bool, false, not, ◌&&◌, eqb, ltb, length}
+use Rattle.std.specs.Prelude.{ℕ, ◌<◌, ◌≡◌, refl, Bool, eqb, ltb, length}
 use Rattle.std.proofs.Math.Decide.{dec_lt}
 use Rattle.std.proofs.Common.{arith, ap, ◌∙◌}
 use Rattle.std.proofs.Math.Path.{sym}
 use Rattle.std.proofs.Math.Bool.{true}
 use Rattle.std.proofs.Math.Option.{Option, none, some}
-use borrow.Author.Tests.{eqb-true, eqb-false, eq-eqb, ltb-true, lt-ltb}
+use borrow.Author.Tests.{eqb-true, eq-eqb, ltb-true, lt-ltb}
 use Rattle.prelude.specs.Below.{First, first_some, first_elim}
 use Rattle.prelude.specs.Cases.{clash, both_true}
-use Rattle.prelude.specs.Texts.{same_text, same_back, same_trans, same_length}
+use Rattle.prelude.specs.Texts.{same_text, same_back, same_trans}
 use Rattle.prelude.specs.declared.Text.{Text}
-use Rattle.store.specs.Book.{Book, order_in, request_in}
+use Rattle.store.specs.Book.{Book, request_in}
 use Rattle.store.specs.Finds.{has_clordid, of_client, bears_clordid, find_clordid}
 use Rattle.store.specs.Laws.Finds.{no_clordid}
 use Rattle.machine.specs.Orders.{is_empty}

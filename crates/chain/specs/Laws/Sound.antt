@@ -3,7 +3,7 @@ use Prim.Native.Nat.{ℕ, zero, suc, ◌+◌, ◌-◌, ◌*◌, ◌≤◌, ◌<�
 use Rattle.std.proofs.Common.{not-suc-le-zero, add-zero, zero-add, sym, ap, ◌∙◌, length-append, length-take, take_at, get_or-take, get_or-append-add}
 use Rattle.std.proofs.Math.Decide.{dec_le, dec_lt}
 use native.Mathlib.Omega.{arith}
-use Rattle.std.specs.Prelude.{◌≡◌, ◌&&◌, ◌||◌, eqb, leb, ltb, get_or, take, drop, replicate}
+use Rattle.std.specs.Prelude.{◌≡◌, ◌&&◌, ◌||◌, eqb, leb, get_or, take, drop, replicate}
 use Rattle.std.proofs.Math.Path.{refl, subst}
 use Rattle.std.proofs.Math.Bool.{Bool, true, false, not}
 use Rattle.std.proofs.Math.Option.{Option, none, some}
@@ -11,32 +11,32 @@ use mathlib.Core.List.{List, [], ◌∷◌, ◌++◌, map}
 use Rattle.std.proofs.Math.ListN.{length, get_or-append, get_or-eq_default}
 use Rattle.std.proofs.lemmas.List.{length-replicate, get_or-replicate}
 use Rattle.std.proofs.Math.Seq.{drop-append-add, get_or-append_seam}
-use borrow.Author.Tests.{eqb-true, eqb-false, eq-eqb, ne_eqb, leb-true, le-leb, lt-leb, lt-ltb, le-ltb}
-use Rattle.prelude.specs.Below.{count_below, count_hit, count_ext}
-use Rattle.prelude.specs.Cases.{if◌then◌else◌, maybe, clash, both_true, both_hold, if_true, if_false, split_if, maybe_none, maybe_some, none_some, or_both}
+use borrow.Author.Tests.{eqb-true, eqb-false, eq-eqb, ne_eqb, leb-true, le-leb, lt-ltb, le-ltb}
+use Rattle.prelude.specs.Below.{count_below, count_hit}
+use Rattle.prelude.specs.Cases.{if◌then◌otherwise◌, maybe, clash, both_true, both_hold, if_true, if_false, maybe_none, maybe_some, none_some, or_both}
 use Rattle.prelude.specs.Pieces.{joined}
 use Rattle.prelude.specs.Span.{span, splice, length_span, length_splice, span_splice_same, span_splice_after, span_span, get_span}
 use Rattle.prelude.specs.Texts.{contents, text_of, same_text, is_text, same_text_lem, same_self, long_text, contents_text}
 use Rattle.prelude.specs.declared.Text.{Text}
-use Rattle.store.specs.Layout.{book_size, most_requests, request_base, request·clordid, request·origclordid}
+use Rattle.store.specs.Layout.{request_base, request·clordid, request·origclordid}
 use Rattle.store.specs.declared.Request.{Request}
 use Rattle.store.specs.Book.{Book, book_of, order_in, request_in, request_count, origin_at, outcome_at}
-use Rattle.store.specs.Finds.{has_clordid, find_clordid}
+use Rattle.store.specs.Finds.{has_clordid}
 use Rattle.store.specs.Laws.Fields.{request_clordid, request_origclordid}
 use Rattle.store.specs.Laws.Stored.{length_requests, request_in_lem}
 use Rattle.counted.specs.Counted.{refusing, counting}
 use Rattle.machine.specs.Orders.{is_empty}
 use Rattle.machine.specs.Changes.{is_first, is_gateway}
 use Rattle.machine.specs.Ranges.{text_within}
-use Rattle.machine.specs.Rules.{of_order, number_in, client_of, amendments_rule}
+use Rattle.machine.specs.Rules.{of_order, number_in, amendments_rule}
 use Rattle.machine.proofs.Kept.Lift.{BookKept, RangeKept, book_kept, range_kept}
 use Rattle.machine.proofs.Kept.Consequences.{numbers_rise}
 use Rattle.opens.specs.Keeps.{keeps_of}
 use Rattle.opens.specs.Laws.Keeps.{keeps_held}
-use Rattle.chain.specs.Chain.{chain_of, called_by, entry_size, entry_of, entries_of, Chained, chained, chain_call}
-use Rattle.chain.specs.Promise.{IsStep, Uses, IsChain, Chains, SoundChain, IsEntry, IsWritten, IsCall, SoundCall}
+use Rattle.chain.specs.Chain.{chain_of, called_by, entry_size, entry_of, entries_of, chained, chain_call}
+use Rattle.chain.specs.Promise.{IsStep, Uses, IsChain, SoundChain, IsEntry, IsWritten, SoundCall}
 use Rattle.chain.specs.Laws.Named.{Bears, found_bears, bears_found}
-use Rattle.chain.specs.Laws.Walk.{earlier, back, walk, Step, step_back, back_enough, walk_end, walk_more, chain_walk, chain_empty, called_found}
+use Rattle.chain.specs.Laws.Walk.{earlier, back, walk, Step, step_back, walk_end, walk_more, chain_walk, chain_empty, called_found}
 use Rattle.chain.specs.Laws.Entries.{length_entry, length_entries, name_whole}
 
 -- ---- lists of requests
@@ -65,9 +65,9 @@ unfolding count_below
 count_rises p n zero h = let e : n ≡ 0 = omega arith in subst (λ (i : ℕ). count_below p i ≤ 0) (sym e) (omega arith)
 count_rises p n (suc m) h = go (λ l. count_rises p n m l) (dec_le n m)
   where
-    go : (n ≤ m → count_below p n ≤ count_below p m) → Dec (n ≤ m) → count_below p n ≤ count_below p m + (if p m then 1 else 0)
+    go : (n ≤ m → count_below p n ≤ count_below p m) → Dec (n ≤ m) → count_below p n ≤ count_below p m + (if p m then 1 otherwise 0)
     go again (yes l) = omega (arith, again l)
-    go again (no l) = let e : suc m ≡ n = omega arith in subst (λ (i : ℕ). count_below p i ≤ count_below p m + (if p m then 1 else 0)) e (omega arith)
+    go again (no l) = let e : suc m ≡ n = omega arith in subst (λ (i : ℕ). count_below p i ≤ count_below p m + (if p m then 1 otherwise 0)) e (omega arith)
 
 contents_most : (t : Text) → length (contents t) ≤ t.len
 unfolding contents
@@ -154,7 +154,7 @@ module _ (b : List ℕ) (keeps : keeps_of b ≡ true) where
   is_first_lem : (k : ℕ) → k < request_count b → has_clordid (request_in x k) ≡ true → earlier b k ≡ none → is_first (request_in x k) ≡ true
   is_first_lem k h c e = first_request (request_in x k) (range_kept (request_in x k) (good.request k (here_used k h)).range) c (blank (is_empty (request_in x k).origclordid) refl (unfold earlier in e))
     where
-      blank : (t : Bool) → is_empty (request_in x k).origclordid ≡ t → (if is_empty (request_in x k).origclordid then none else some (origin_at b k - 1)) ≡ none
+      blank : (t : Bool) → is_empty (request_in x k).origclordid ≡ t → (if is_empty (request_in x k).origclordid then none otherwise some (origin_at b k - 1)) ≡ none
           → is_empty (request_in x k).origclordid ≡ true
       blank true s z = s
       blank false s z = none_some z (if_false _ _ _ s)

@@ -1,22 +1,21 @@
 -- The chain by links: the request of a link is the one that the OrigClOrdID names, so that a walk by links is the chain, and each step goes to a request
 -- numbered lower. Rests on Named and outcomes' rule.
-use Prim.Native.Nat.{ℕ, zero, suc, ◌+◌, ◌-◌, ◌*◌, ◌≤◌, ◌<◌}
+use Prim.Native.Nat.{ℕ, zero, suc, ◌+◌, ◌-◌, ◌≤◌, ◌<◌}
 use Rattle.std.proofs.Common.{not-suc-le-zero, ◌∙◌}
 use native.Mathlib.Omega.{arith}
 use Rattle.std.proofs.Math.Path.{◌≡◌, refl, sym, ap, subst}
-use Rattle.std.specs.Prelude.{Bool, ◌&&◌, ◌||◌, get_or}
+use Rattle.std.specs.Prelude.{Bool, ◌&&◌, get_or}
 use Rattle.std.proofs.Math.Bool.{true, false, not}
 use Rattle.std.proofs.Math.Option.{Option, none, some}
-use mathlib.Core.List.{List, [], ◌∷◌, ◌++◌, map}
+use mathlib.Core.List.{List, [], ◌∷◌}
 use Rattle.std.proofs.Math.Dec.{eqb, leb, ltb}
 use Rattle.std.proofs.Math.ListN.{length}
 use borrow.Author.Tests.{eqb-true, ltb-true, leb-true, eq-eqb, ne_eqb}
 use Rattle.prelude.specs.Below.{all_elim}
-use Rattle.prelude.specs.Cases.{if◌then◌else◌, maybe, clash, both_true, if_true, if_false, split_if, split_maybe, maybe_none, maybe_some, none_some}
+use Rattle.prelude.specs.Cases.{if◌then◌otherwise◌, maybe, both_true, if_true, if_false, split_if, split_maybe, maybe_none, maybe_some, none_some}
 use Rattle.prelude.specs.Texts.{text_of, same_text, same_length}
-use Rattle.prelude.specs.declared.Text.{Text}
 use Rattle.store.specs.declared.Request.{Request}
-use Rattle.store.specs.Book.{Book, book_of, order_in, request_in, request_at, request_count, origin_at}
+use Rattle.store.specs.Book.{Book, book_of, order_in, request_in, request_count, origin_at}
 use Rattle.store.specs.Finds.{has_clordid, find_clordid}
 use Rattle.store.specs.Layout.{request_base, request·origclordid}
 use Rattle.store.specs.Laws.Fields.{request_origclordid}
@@ -32,7 +31,7 @@ use Rattle.chain.specs.Laws.Named.{Bears, found_bears, empty_none, bears_found}
 
 -- the request that the OrigClOrdID of request k names, by its link
 unfoldable pub earlier : List ℕ → ℕ → Option ℕ
-earlier b k = if is_empty (request_in (book_of b) k).origclordid then none else some (origin_at b k - 1)
+earlier b k = if is_empty (request_in (book_of b) k).origclordid then none otherwise some (origin_at b k - 1)
 
 -- the walk back from request k, in at most so many entries
 unfoldable pub back : List ℕ → (most k : ℕ) → List ℕ
@@ -88,7 +87,7 @@ module _ (b : List ℕ) (keeps : keeps_of b ≡ true) where
   unfolding earlier
   step_back k j h = go (is_empty (request_in x k).origclordid) refl
     where
-      go : (t : Bool) → is_empty (request_in x k).origclordid ≡ t → (if is_empty (request_in x k).origclordid then none else some (origin_at b k - 1)) ≡ some j → Step x k j
+      go : (t : Bool) → is_empty (request_in x k).origclordid ≡ t → (if is_empty (request_in x k).origclordid then none otherwise some (origin_at b k - 1)) ≡ some j → Step x k j
       go true e s = let z : none ≡ some j = sym (if_true _ _ _ e) ∙ s in absurd (let w : ◌≡◌ {A = ℕ} 0 1 = cc in omega arith)
       go false e s =
           let z : some (origin_at b k - 1) ≡ some j = sym (if_false _ _ _ e) ∙ s in
@@ -108,7 +107,7 @@ module _ (b : List ℕ) (keeps : keeps_of b ≡ true) where
   named_back client k h c = go (is_empty (request_in x k).origclordid) refl
     where
       go : (t : Bool) → is_empty (request_in x k).origclordid ≡ t
-          → find_clordid x client (request_in x k).origclordid ≡ (if is_empty (request_in x k).origclordid then none else some (origin_at b k - 1))
+          → find_clordid x client (request_in x k).origclordid ≡ (if is_empty (request_in x k).origclordid then none otherwise some (origin_at b k - 1))
       go true e = empty_none x client (request_in x k).origclordid e ∙ sym (if_true _ _ _ e)
       go false e =
           let s : Step x k (origin_at b k - 1) = link_step k h e in

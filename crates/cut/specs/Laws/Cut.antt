@@ -6,7 +6,7 @@ use Rattle.std.proofs.Common.{subst, ◌∙◌, arith}
 use mathlib.Core.List.{List, [], ◌++◌, append-nil}
 use borrow.Author.Tests.{leb-true, eq-eqb, ne_eqb, lt-ltb, le-ltb}
 use Rattle.std.proofs.Math.ListN.{get_or}
-use Rattle.prelude.specs.Cases.{if◌then◌else◌, split_if, if_true, if_false, both_true}
+use Rattle.prelude.specs.Cases.{if◌then◌otherwise◌, if_true, if_false, both_true}
 use Rattle.prelude.specs.Span.{span, splice, length_span, span_span}
 use Rattle.prelude.specs.Number.{Bytes}
 use Rattle.prelude.specs.Bytes.{bytes_span}
@@ -67,7 +67,7 @@ pub record Taken (s : List ℕ) : Type 0 where
   pub ranges : ranged_from (answer_in s) head_size (count_in s) ≡ true
 
 refusal_0 : (x y : Bool) → refusal_by x y ≡ 0 → (x ≡ true) × (y ≡ true)
-unfolding if◌then◌else◌
+unfolding if◌then◌otherwise◌
 refusal_0 true true e = (refl, refl)
 refusal_0 true false e = absurd (omega (arith, e))
 refusal_0 false y e = absurd (omega (arith, e))
@@ -110,7 +110,7 @@ module _ (s : List ℕ) (ok : answer_refusal s ≡ 0) (n : ℕ) (h : n < count_i
   shape = shaped_at (answer_in s) n (count_in s) head_size h (taken s ok).shapes
 
   accepted : message_refusal (answer_in s) from ≡ 0
-  unfolding message_refusal if◌then◌else◌
+  unfolding message_refusal if◌then◌otherwise◌
   accepted = rw (shape, ranged_at (answer_in s) n (count_in s) head_size h (taken s ok).ranges) refl
 
   -- it has a head of five bytes and ends within the answer

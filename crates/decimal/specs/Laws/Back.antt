@@ -1,7 +1,7 @@
 -- What is written in decimal is read as the count. Rests on Decimal.
-use Rattle.std.specs.Prelude.{ℕ, zero, suc, ◌+◌, ◌-◌, ◌*◌, ◌/◌, ◌%◌, ◌≤◌, ◌<◌, ◌≡◌, refl, List, [], ◌∷◌, ◌++◌, true, leb, ltb, length, replicate}
+use Rattle.std.specs.Prelude.{ℕ, zero, suc, ◌+◌, ◌-◌, ◌*◌, ◌/◌, ◌%◌, ◌≤◌, ◌≡◌, refl, List, [], ◌∷◌, ◌++◌, true, leb, ltb, length, replicate}
 use Rattle.std.proofs.Common.{ap, ◌∙◌, arith, ltb-true, ltb-false, le-leb}
-use Rattle.prelude.specs.Cases.{if◌then◌else◌, split_if, if_true, if_false, both_hold}
+use Rattle.prelude.specs.Cases.{if◌then◌otherwise◌, split_if, if_true, if_false, both_hold}
 use Rattle.decimal.specs.Decimal.{blank, point, lowest, digits_by, digits, low_digits, down, decimal, right, is_digit, read_from, number_in}
 
 pub digit_is : (n : ℕ) → is_digit (lowest n) ≡ true
@@ -9,7 +9,7 @@ digit_is n = both_hold (leb 48 (lowest n)) (leb (lowest n) 57) (le-leb 48 (lowes
 
 pub read_append : (a : ℕ) (s t : List ℕ) → read_from a (s ++ t) ≡ read_from (read_from a s) t
 read_append a [] t = refl
-read_append a (x ∷ s) t = read_append (if is_digit x then a * 10 + (x - 48) else a) s t
+read_append a (x ∷ s) t = read_append (if is_digit x then a * 10 + (x - 48) otherwise a) s t
 
 -- one digit more
 pub read_digit : (a : ℕ) (s : List ℕ) (n : ℕ) → read_from a (s ++ (lowest n ∷ [])) ≡ read_from a s * 10 + n % 10

@@ -6,7 +6,7 @@ use Rattle.std.proofs.Common.{sym, ap, ◌∙◌, append_assoc, arith, leb-true,
 use Rattle.std.proofs.lemmas.Bool.{lt-leb}
 use Rattle.std.proofs.lemmas.List.{get_or-replicate, length-replicate, replicate-append-replicate}
 use Rattle.std.proofs.Math.ListN.{get_or-append}
-use Rattle.prelude.specs.Cases.{if◌then◌else◌, split_if, if_true, if_false, both_true}
+use Rattle.prelude.specs.Cases.{if◌then◌otherwise◌, split_if, if_true, if_false, both_true}
 use Rattle.prelude.specs.Span.{splice, length_splice, splice_append, set_splice}
 use Rattle.decimal.specs.Decimal.{blank, point, lowest, digits_by, digits, low_digits, down, decimal, right, is_digit, read_from, number_in, written}
 use Rattle.decimal.specs.Laws.Back.{digit_is}
@@ -148,7 +148,7 @@ same_digits (x ∷ s) [] a c l f g e = absurd (omega arith)
 same_digits (x ∷ s) (y ∷ t) a c l f g e =
     let p : is_digit x ≡ true = f 0 (omega arith) in
     let q : is_digit y ≡ true = g 0 (omega arith) in
-    let r = same_digits s t (if is_digit x then a * 10 + (x - 48) else a) (if is_digit y then c * 10 + (y - 48) else c) (omega arith)
+    let r = same_digits s t (if is_digit x then a * 10 + (x - 48) otherwise a) (if is_digit y then c * 10 + (y - 48) otherwise c) (omega arith)
     (λ k h. f (suc k) (omega arith)) (λ k h. g (suc k) (omega arith)) e in
     let n : a * 10 + (x - 48) ≡ c * 10 + (y - 48) = sym (if_true (is_digit x) (a * 10 + (x - 48)) a p) ∙ r.0 ∙ if_true (is_digit y) (c * 10 + (y - 48)) c q in
     let (x1, x2) = both_true (leb 48 x) (leb x 57) p in

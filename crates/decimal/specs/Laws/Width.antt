@@ -3,7 +3,7 @@ use Rattle.std.specs.Prelude.{ℕ, zero, suc, ◌+◌, ◌*◌, ◌/◌, ◌^◌
 use Rattle.std.proofs.Common.{sym, ap, ◌∙◌, append_assoc, lt_of_lt_of_le, lt_of_le_of_lt, le_trans, mul-le-mul_left, arith, ltb-false, lt-ltb, le-ltb, lit≤, length-append}
 use Rattle.std.proofs.Math.Decide.{dec_lt}
 use Rattle.std.proofs.Math.ListN.{get_or-append}
-use Rattle.prelude.specs.Cases.{if◌then◌else◌, split_if, if_true, if_false}
+use Rattle.prelude.specs.Cases.{if◌then◌otherwise◌, split_if, if_true, if_false}
 use Rattle.prelude.specs.Span.{splice, length_splice, splice_append, splice_before, set_splice}
 use Rattle.decimal.specs.Decimal.{point, lowest, digits_by, digits, low_digits, down, decimal}
 
@@ -42,12 +42,12 @@ down_less (suc p) n = omega (arith, down_less p (n / 10))
 
 -- any f that is large enough gives the same digits
 enough : (f g n : ℕ) → n ≤ f → n ≤ g → digits_by f n ≡ digits_by g n
-unfolding digits_by if◌then◌else◌
+unfolding digits_by if◌then◌otherwise◌
 enough zero zero n h j = refl
 enough zero (suc g) n h j = rw (lt-ltb n 10 (omega arith)) refl
 enough (suc f) zero n h j = rw (lt-ltb n 10 (omega arith)) refl
 enough (suc f) (suc g) n h j =
-    split_if (λ x. x ≡ (if ltb n 10 then lowest n ∷ [] else digits_by g (n / 10) ++ (lowest n ∷ []))) (ltb n 10)
+    split_if (λ x. x ≡ (if ltb n 10 then lowest n ∷ [] otherwise digits_by g (n / 10) ++ (lowest n ∷ []))) (ltb n 10)
     (λ e. rw e refl)
     (λ e. let m : 10 ≤ n = ltb-false n 10 e in rw (e, enough f g (n / 10) (omega arith) (omega arith)) refl)
 

@@ -2,7 +2,7 @@
 -- No promise to others rests on this. Rests on Values and Record.
 use Rattle.std.specs.Prelude.{ℕ, ◌+◌, ◌-◌, ◌*◌, ◌^◌, ◌≤◌, ◌<◌, ◌≡◌, List, [], ◌∷◌, ◌++◌, Bool, true, false, not, eqb, leb, length, get_or, drop}
 use Rattle.std.proofs.Math.Option.{Option, none, some}
-use Rattle.prelude.specs.Cases.{if◌then◌else◌}
+use Rattle.prelude.specs.Cases.{if◌then◌otherwise◌}
 use Rattle.prelude.specs.Below.{all_below}
 use Rattle.prelude.specs.Number.{number}
 use Rattle.prelude.specs.Span.{span}
@@ -56,55 +56,55 @@ exec_from f n l = record { form = 4; from = f; count = n; low = l; high = 0; pla
 -- the value of bit b that stands and ends at `to`, from its number
 unfoldable pub plain_plan : (to n high b : ℕ) → Value
 plain_plan to n high b =
-    if eqb (form_of b) 2 then bytes_from (to - n) n else
-    if eqb (form_of b) 1 then bytes_from (to - 1) 1 else
-    if eqb b 26 then numbered n high (form_of b) else
+    if eqb (form_of b) 2 then bytes_from (to - n) n otherwise
+    if eqb (form_of b) 1 then bytes_from (to - 1) 1 otherwise
+    if eqb b 26 then numbered n high (form_of b) otherwise
     numbered n 0 (form_of b)
 
 unfoldable pub fixed_plan : (m n : ℕ) → Value
-fixed_plan m n = if bit m 27 then worded n else nothing
+fixed_plan m n = if bit m 27 then worded n otherwise nothing
 
 -- the ExecID
 unfoldable pub exec_plan : (m : ℕ) (at ns : List ℕ) → Value
-exec_plan m at ns = if bit m 25 then exec_from (get_or at 3 0 - get_or ns 2 0) (get_or ns 2 0) (get_or ns 25 0) else nothing
+exec_plan m at ns = if bit m 25 then exec_from (get_or at 3 0 - get_or ns 2 0) (get_or ns 2 0) (get_or ns 25 0) otherwise nothing
 
 -- what stands in a reject for a bit that does not
 unfoldable pub instead_plan : (k m n b : ℕ) → Value
 instead_plan k m n b =
-    if not (eqb k 17) then nothing else
-    if eqb b 2 then worded none_number else
-    if eqb b 20 then fixed_plan m n else
+    if not (eqb k 17) then nothing otherwise
+    if eqb b 2 then worded none_number otherwise
+    if eqb b 20 then fixed_plan m n otherwise
     nothing
 
 unfoldable pub planned : (k m : ℕ) (at ns : List ℕ) (high b : ℕ) → Value
 planned k m at ns high b =
-    if eqb b 25 then exec_plan m at ns else
-    if eqb b 27 then fixed_plan m (get_or ns 27 0) else
-    if bit m b then plain_plan (get_or at (b + 1) 0) (get_or ns b 0) high b else
+    if eqb b 25 then exec_plan m at ns otherwise
+    if eqb b 27 then fixed_plan m (get_or ns 27 0) otherwise
+    if bit m b then plain_plan (get_or at (b + 1) 0) (get_or ns b 0) high b otherwise
     instead_plan k m (get_or ns 27 0) b
 
 -- ---- what a planned value is, and how long
 
 unfoldable pub said_by : List ℕ → Value → List ℕ
 said_by s v =
-    if eqb v.form 1 then span s v.from v.count else
-    if eqb v.form 2 then decimal v.places (v.low + 2 ^ 64 * v.high) else
-    if eqb v.form 3 then get_or spoken v.low [] else
+    if eqb v.form 1 then span s v.from v.count otherwise
+    if eqb v.form 2 then decimal v.places (v.low + 2 ^ 64 * v.high) otherwise
+    if eqb v.form 3 then get_or spoken v.low [] otherwise
     span s v.from v.count ++ (46 ∷ digits v.low)
 
 unfoldable pub shown : List ℕ → Value → Option (List ℕ)
-shown s v = if eqb v.form 0 then none else some (said_by s v)
+shown s v = if eqb v.form 0 then none otherwise some (said_by s v)
 
 unfoldable pub long_of : Value → ℕ
 long_of v =
-    if eqb v.form 1 then v.count else
-    if eqb v.form 2 then length (decimal v.places (v.low + 2 ^ 64 * v.high)) else
-    if eqb v.form 3 then length (get_or spoken v.low []) else
+    if eqb v.form 1 then v.count otherwise
+    if eqb v.form 2 then length (decimal v.places (v.low + 2 ^ 64 * v.high)) otherwise
+    if eqb v.form 3 then length (get_or spoken v.low []) otherwise
     v.count + (1 + length (digits v.low))
 
 -- a field: the tag, =, the value, SOH
 unfoldable pub field_long : ℕ → Value → ℕ
-field_long tag v = if eqb v.form 0 then 0 else length (decimal 0 tag) + (1 + (long_of v + 1))
+field_long tag v = if eqb v.form 0 then 0 otherwise length (decimal 0 tag) + (1 + (long_of v + 1))
 
 abbrev pub field_shown : List ℕ → ℕ → Value → List ℕ
 field_shown s tag v = spellings (field_of tag (shown s v) [])
@@ -125,7 +125,7 @@ rows_shown s (r ∷ rows) f = field_shown s r.tag (f r.bit) ++ rows_shown s rows
 -- ---- the room that is left
 
 unfoldable pub less_by : Room → ℕ → Room
-less_by r n = if r.fits then (if leb n r.left then record { fits = true; left = r.left - n } else record { fits = false; left = 0 }) else record { fits = false; left = 0 }
+less_by r n = if r.fits then (if leb n r.left then record { fits = true; left = r.left - n } otherwise record { fits = false; left = 0 }) otherwise record { fits = false; left = 0 }
 
 -- ---- the fields before the body
 
@@ -140,11 +140,11 @@ head_fields k sender target sequence time =
 
 -- 60 in D, F and G
 abbrev pub stamp_fields : ℕ → List ℕ → List Field
-stamp_fields k time = if leb 18 k then field 60 time ∷ [] else []
+stamp_fields k time = if leb 18 k then field 60 time ∷ [] otherwise []
 
 -- their length, from the lengths of the texts
 unfoldable pub stamp_long : (k time : ℕ) → ℕ
-stamp_long k time = if leb 18 k then 4 + time else 0
+stamp_long k time = if leb 18 k then 4 + time otherwise 0
 
 unfoldable pub head_long : (sender target sequence time : ℕ) → ℕ
 head_long sender target sequence time = 5 + (4 + (sender + (4 + (target + (4 + (length (digits sequence) + (4 + time)))))))
@@ -161,8 +161,8 @@ inner_long sender target sequence time k m at ns high =
 
 unfoldable pub text_right : List ℕ → (m to n b : ℕ) → Bool
 text_right s m to n b =
-    if not (eqb (form_of b) 2) then true else
-    if not (bit m b) then true else
+    if not (eqb (form_of b) 2) then true otherwise
+    if not (bit m b) then true otherwise
     is_text (span s (to - n) n)
 
 unfoldable pub texts_right : List ℕ → ℕ → (at ns : List ℕ) → Bool

@@ -10,7 +10,7 @@ use native.Mathlib.Omega.{arith}
 use borrow.Author.Tests.{eqb-true, ne_eqb, leb-true}
 use Rattle.std.proofs.Math.Dec.{eqb}
 use Rattle.std.proofs.Math.ListN.{length, get_or, length-drop, get_or-append}
-use Rattle.prelude.specs.Cases.{if◌then◌else◌, split_if, if_true, if_false, both_true}
+use Rattle.prelude.specs.Cases.{if◌then◌otherwise◌, split_if, if_true, if_false, both_true}
 use Rattle.prelude.specs.Below.{all_below, all_elim}
 use Rattle.prelude.specs.Number.{number}
 use Rattle.prelude.specs.Span.{span, span_none, span_drop}
@@ -32,23 +32,23 @@ use Rattle.fix_table.specs.Table.{spoken, form_of}
 -- ---- what each form shows
 
 shown_bytes : (s : List ℕ) (f n : ℕ) → shown s (bytes_from f n) ≡ some (span s f n)
-unfolding shown said_by if◌then◌else◌
+unfolding shown said_by if◌then◌otherwise◌
 shown_bytes s f n = refl
 
 shown_number : (s : List ℕ) (l h p : ℕ) → shown s (numbered l h p) ≡ some (decimal p (l + 2 ^ 64 * h))
-unfolding shown said_by if◌then◌else◌
+unfolding shown said_by if◌then◌otherwise◌
 shown_number s l h p = refl
 
 shown_words : (s : List ℕ) (n : ℕ) → shown s (worded n) ≡ some (get_or spoken n [])
-unfolding shown said_by if◌then◌else◌
+unfolding shown said_by if◌then◌otherwise◌
 shown_words s n = refl
 
 shown_exec : (s : List ℕ) (f n l : ℕ) → shown s (exec_from f n l) ≡ some (span s f n ++ (46 ∷ digits l))
-unfolding shown said_by if◌then◌else◌
+unfolding shown said_by if◌then◌otherwise◌
 shown_exec s f n l = refl
 
 shown_nothing : (s : List ℕ) → shown s nothing ≡ none
-unfolding shown if◌then◌else◌
+unfolding shown if◌then◌otherwise◌
 shown_nothing s = refl
 
 spoken_text : (n : ℕ) → n < 19 → get_or spoken n [] ≡ words_of n
@@ -73,18 +73,18 @@ two_words (a ∷ b ∷ c ∷ d ∷ e ∷ f ∷ g ∷ x ∷ r) h = omega arith
 
 -- sizes: a code has one byte, a number at most eight but for the fill price
 sized : ℕ → Bool
-sized b = is_text_bit b || (if within side status (range b) then eqb (size b) 1 else (eqb b 26 || leb (size b) 8))
+sized b = is_text_bit b || (if within side status (range b) then eqb (size b) 1 otherwise (eqb b 26 || leb (size b) 8))
 
 all_sized : all_below sized 32 ≡ true
-unfolding sized size range fields all_below if◌then◌else◌
+unfolding sized size range fields all_below if◌then◌otherwise◌
 all_sized = refl
 
 code_one : (b : ℕ) → b < 32 → is_text_bit b ≡ false → within side status (range b) ≡ true → size b ≡ 1
-unfolding sized if◌then◌else◌
+unfolding sized if◌then◌otherwise◌
 code_one b h t w = let q : sized b ≡ true = all_elim sized 32 all_sized b h in eqb-true (size b) 1 (rw (t, w) at q)
 
 number_eight : (b : ℕ) → b < 32 → is_text_bit b ≡ false → within side status (range b) ≡ false → eqb b 26 ≡ false → size b ≤ 8
-unfolding sized if◌then◌else◌
+unfolding sized if◌then◌otherwise◌
 number_eight b h t w z = let q : sized b ≡ true = all_elim sized 32 all_sized b h in leb-true (size b) 8 (rw (t, w, z) at q)
 
 -- the number of decimals is neither mark
@@ -108,9 +108,9 @@ module _ (s : List ℕ) (m : ℕ) (at ns : List ℕ) (high : ℕ) (p : Parted s 
   ends : (b : ℕ) → b < 32 → get_or at (b + 1) 0 ≡ start s 0 m (suc b)
   ends b h = rw add-one (p.places (suc b) (omega arith))
 
-  field_is : (b : ℕ) → field_at s b ≡ (if bit m b then some (content s 0 m b) else none)
+  field_is : (b : ℕ) → field_at s b ≡ (if bit m b then some (content s 0 m b) otherwise none)
   unfolding field_at
-  field_is b = ap (λ (x : ℕ). if bit x b then some (content s 0 x b) else none) (sym p.map)
+  field_is b = ap (λ (x : ℕ). if bit x b then some (content s 0 x b) otherwise none) (sym p.map)
 
   pub on : (b : ℕ) → bit m b ≡ true → field_at s b ≡ some (content s 0 m b)
   on b e = field_is b ∙ if_true (bit m b) (some (content s 0 m b)) none e
@@ -186,7 +186,7 @@ module _ (s : List ℕ) (m : ℕ) (at ns : List ℕ) (high : ℕ) (p : Parted s 
   -- ---- a bit that stands
 
   plain_shown : (b : ℕ) → b < 32 → bit m b ≡ true → shown s (plain_plan (get_or at (b + 1) 0) (get_or ns b 0) high b) ≡ some (spelling b (content s 0 m b))
-  unfolding plain_plan form_of spelling is_plain if◌then◌else◌
+  unfolding plain_plan form_of spelling is_plain if◌then◌otherwise◌
   plain_shown b h e = go (is_text_bit b) refl (within side status (range b)) refl (eqb b 26) refl
     where
       go : (x : Bool) → is_text_bit b ≡ x → (y : Bool) → within side status (range b) ≡ y → (z : Bool) → eqb b 26 ≡ z
@@ -202,7 +202,7 @@ module _ (s : List ℕ) (m : ℕ) (at ns : List ℕ) (high : ℕ) (p : Parted s 
           rw (t, w, (places_no b).0, (places_no b).1, q) (shown_number s (get_or ns b 0) 0 (places b) ∙ ap {B = Option (List ℕ)} (λ (j : ℕ). some (decimal (places b) j)) n)
 
   plain_sound : (b : ℕ) → b < 32 → bit m b ≡ true → Sound s (plain_plan (get_or at (b + 1) 0) (get_or ns b 0) high b)
-  unfolding plain_plan form_of if◌then◌else◌
+  unfolding plain_plan form_of if◌then◌otherwise◌
   plain_sound b h e = go (is_text_bit b) refl (within side status (range b)) refl (eqb b 26) refl
     where
       go : (x : Bool) → is_text_bit b ≡ x → (y : Bool) → within side status (range b) ≡ y → (z : Bool) → eqb b 26 ≡ z
@@ -215,7 +215,7 @@ module _ (s : List ℕ) (m : ℕ) (at ns : List ℕ) (high : ℕ) (p : Parted s 
   -- ---- fixed texts and the ExecID
 
   fixed_number : bit m 27 ≡ true → (get_or ns 27 0 ≡ get_or (content s 0 m 27) 0 0) × (get_or ns 27 0 < 19)
-  unfolding size range fields ranged right_at in_range if◌then◌else◌
+  unfolding size range fields ranged right_at in_range if◌then◌otherwise◌
   fixed_number e =
       let l : length (content s 0 m 27) ≡ 1 = length_number s 0 m 27 (in_field 27 (lit< tt)) e refl in
       let n : get_or ns 27 0 ≡ number (content s 0 m 27) = small_number 27 (lit< tt) refl e (lit≤ tt) in
@@ -232,7 +232,7 @@ module _ (s : List ℕ) (m : ℕ) (at ns : List ℕ) (high : ℕ) (p : Parted s 
   unfolding fixed_plan
   fixed_shown = go (bit m 27) refl
     where
-      go : (x : Bool) → bit m 27 ≡ x → shown s (if bit m 27 then worded (get_or ns 27 0) else nothing) ≡ over fixed_words (field_at s 27)
+      go : (x : Bool) → bit m 27 ≡ x → shown s (if bit m 27 then worded (get_or ns 27 0) otherwise nothing) ≡ over fixed_words (field_at s 27)
       go true e =
           ap (shown s) (if_true (bit m 27) (worded (get_or ns 27 0)) nothing e) ∙ shown_words s (get_or ns 27 0)
           ∙ ap {B = Option (List ℕ)} some (spoken_text (get_or ns 27 0) (fixed_number e).1 ∙ ap words_of (fixed_number e).0)
@@ -250,7 +250,7 @@ module _ (s : List ℕ) (m : ℕ) (at ns : List ℕ) (high : ℕ) (p : Parted s 
   unfolding exec_plan size range fields
   exec_shown = go (bit m 25) refl
     where
-      go : (x : Bool) → bit m 25 ≡ x → shown s (if bit m 25 then exec_from (get_or at 3 0 - get_or ns 2 0) (get_or ns 2 0) (get_or ns 25 0) else nothing) ≡ over (exec_id (field_at s 2)) (field_at s 25)
+      go : (x : Bool) → bit m 25 ≡ x → shown s (if bit m 25 then exec_from (get_or at 3 0 - get_or ns 2 0) (get_or ns 2 0) (get_or ns 25 0) otherwise nothing) ≡ over (exec_id (field_at s 2)) (field_at s 25)
       go true e =
           ap (shown s) (if_true (bit m 25) (exec_from (get_or at 3 0 - get_or ns 2 0) (get_or ns 2 0) (get_or ns 25 0)) nothing e) ∙ shown_exec s (get_or at 3 0 - get_or ns 2 0) (get_or ns 2 0) (get_or ns 25 0)
           ∙ (λ i. some ((text_there 2 (lit< tt) refl ∙ sym name_there) i ++ (46 ∷ digits (small_number 25 (lit< tt) refl e (lit≤ tt) i))))
@@ -264,19 +264,19 @@ module _ (s : List ℕ) (m : ℕ) (at ns : List ℕ) (high : ℕ) (p : Parted s 
 
   -- a bit that stands, of those that have no rule of their own
   planned_on : (k b : ℕ) → b < 32 → eqb b 25 ≡ false → eqb b 27 ≡ false → bit m b ≡ true → shown s (planned k m at ns high b) ≡ some (spelling b (content s 0 m b))
-  unfolding planned if◌then◌else◌
+  unfolding planned if◌then◌otherwise◌
   planned_on k b h p q e = rw (p, q, e) (plain_shown b h e)
 
   planned_off : (k b : ℕ) → eqb b 25 ≡ false → eqb b 27 ≡ false → bit m b ≡ false → planned k m at ns high b ≡ instead_plan k m (get_or ns 27 0) b
-  unfolding planned if◌then◌else◌
+  unfolding planned if◌then◌otherwise◌
   planned_off k b p q e = rw (p, q, e) refl
 
   text_spelled : (b : ℕ) (c : List ℕ) → is_text_bit b ≡ true → spelling b c ≡ c
-  unfolding spelling is_plain if◌then◌else◌
+  unfolding spelling is_plain if◌then◌otherwise◌
   text_spelled b c t = rw t refl
 
   at_2 : (k : ℕ) → Right k 2
-  unfolding value_of instead_plan if◌then◌else◌ size fields
+  unfolding value_of instead_plan if◌then◌otherwise◌ size fields
   at_2 k = go (bit m 2) refl (eqb k 17) refl
     where
       go : (x : Bool) → bit m 2 ≡ x → (y : Bool) → eqb k 17 ≡ y → Right k 2
@@ -289,7 +289,7 @@ module _ (s : List ℕ) (m : ℕ) (at ns : List ℕ) (high : ℕ) (p : Parted s 
       go false e false q = rw (planned_off k 2 refl refl e, q) (shown_nothing s ∙ sym (off 2 e))
 
   at_20 : (k : ℕ) → Right k 20
-  unfolding value_of instead_plan if◌then◌else◌ size fields
+  unfolding value_of instead_plan if◌then◌otherwise◌ size fields
   at_20 k = go (bit m 20) refl (eqb k 17) refl
     where
       go : (x : Bool) → bit m 20 ≡ x → (y : Bool) → eqb k 17 ≡ y → Right k 20
@@ -302,15 +302,15 @@ module _ (s : List ℕ) (m : ℕ) (at ns : List ℕ) (high : ℕ) (p : Parted s 
       go false e false q = rw (planned_off k 20 refl refl e, q) (shown_nothing s ∙ sym (off 20 e))
 
   at_25 : (k : ℕ) → Right k 25
-  unfolding planned value_of if◌then◌else◌
+  unfolding planned value_of if◌then◌otherwise◌
   at_25 k = exec_shown
 
   at_27 : (k : ℕ) → Right k 27
-  unfolding planned value_of if◌then◌else◌
+  unfolding planned value_of if◌then◌otherwise◌
   at_27 k = fixed_shown
 
   other : (k b : ℕ) → b < 32 → eqb b 2 ≡ false → eqb b 20 ≡ false → eqb b 25 ≡ false → eqb b 27 ≡ false → Right k b
-  unfolding value_of instead_plan if◌then◌else◌
+  unfolding value_of instead_plan if◌then◌otherwise◌
   other k b h a c d f = go (bit m b) refl (eqb k 17) refl
     where
       go : (x : Bool) → bit m b ≡ x → (y : Bool) → eqb k 17 ≡ y → Right k b

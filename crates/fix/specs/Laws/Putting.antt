@@ -3,7 +3,7 @@ use Rattle.std.specs.Prelude.{ℕ, suc, ◌+◌, ◌-◌, ◌*◌, ◌^◌, ◌�
 use Rattle.std.proofs.Common.{sym, ap, subst, ◌∙◌, arith, leb-true, le-leb, leb-false, eq-eqb, length-append, drop-cons}
 use Rattle.std.proofs.Math.Option.{Option, none, some}
 use Rattle.std.proofs.lemmas.Bool.{lt-leb}
-use Rattle.prelude.specs.Cases.{if◌then◌else◌, if_true, if_false}
+use Rattle.prelude.specs.Cases.{if◌then◌otherwise◌, if_true, if_false}
 use Rattle.prelude.specs.Span.{span, splice, length_span, length_splice, splice_append, splice_nil, span_whole}
 use Rattle.decimal.specs.Decimal.{digits_by, digits, decimal}
 use Rattle.fix_words.specs.Spelling.{Field, field, spellings}
@@ -19,22 +19,22 @@ use Rattle.fix_table.specs.Table.{spoken}
 -- ---- lengths
 
 pub said_long : (s : List ℕ) (v : Value) → Sound s v → length (said_by s v) ≡ long_of v
-unfolding said_by long_of if◌then◌else◌
+unfolding said_by long_of if◌then◌otherwise◌
 said_long s v h = go (eqb v.form 1) (eqb v.form 2) (eqb v.form 3)
   where
     go : (a b c : Bool)
-        → length (if a then span s v.from v.count else if b then decimal v.places (v.low + 2 ^ 64 * v.high) else if c then get_or spoken v.low [] else span s v.from v.count ++ (46 ∷ digits v.low))
-        ≡ (if a then v.count else if b then length (decimal v.places (v.low + 2 ^ 64 * v.high)) else if c then length (get_or spoken v.low []) else v.count + (1 + length (digits v.low)))
+        → length (if a then span s v.from v.count otherwise if b then decimal v.places (v.low + 2 ^ 64 * v.high) otherwise if c then get_or spoken v.low [] otherwise span s v.from v.count ++ (46 ∷ digits v.low))
+        ≡ (if a then v.count otherwise if b then length (decimal v.places (v.low + 2 ^ 64 * v.high)) otherwise if c then length (get_or spoken v.low []) otherwise v.count + (1 + length (digits v.low)))
     go true b c = length_span s v.from v.count h
     go false true c = refl
     go false false true = refl
     go false false false = length-append (span s v.from v.count) (46 ∷ digits v.low) ∙ omega (arith, length_span s v.from v.count h)
 
 pub shown_long : (s : List ℕ) (tag : ℕ) (v : Value) → Sound s v → length (field_shown s tag v) ≡ field_long tag v
-unfolding shown field_long spellings if◌then◌else◌
+unfolding shown field_long spellings if◌then◌otherwise◌
 shown_long s tag v h = go (eqb v.form 0)
   where
-    go : (a : Bool) → length (spellings (field_of tag (if a then none else some (said_by s v)) [])) ≡ (if a then 0 else length (decimal 0 tag) + (1 + (long_of v + 1)))
+    go : (a : Bool) → length (spellings (field_of tag (if a then none otherwise some (said_by s v)) [])) ≡ (if a then 0 otherwise length (decimal 0 tag) + (1 + (long_of v + 1)))
     go true = refl
     go false = omega (arith, field_long_lem tag (said_by s v), said_long s v h)
 
@@ -56,26 +56,26 @@ shown_none s tag v e = (
 
 -- by form
 pub form_1 : (s : List ℕ) (v : Value) → v.form ≡ 1 → (long_of v ≡ v.count) × (said_by s v ≡ span s v.from v.count)
-unfolding long_of said_by if◌then◌else◌
+unfolding long_of said_by if◌then◌otherwise◌
 form_1 s v e = (rw e refl, rw e refl)
 
 pub form_2 : (s : List ℕ) (v : Value) → v.form ≡ 2
     → (long_of v ≡ length (decimal v.places (v.low + 2 ^ 64 * v.high))) × (said_by s v ≡ decimal v.places (v.low + 2 ^ 64 * v.high))
-unfolding long_of said_by if◌then◌else◌
+unfolding long_of said_by if◌then◌otherwise◌
 form_2 s v e = (rw e refl, rw e refl)
 
 pub form_3 : (s : List ℕ) (v : Value) → v.form ≡ 3 → (long_of v ≡ length (get_or spoken v.low [])) × (said_by s v ≡ get_or spoken v.low [])
-unfolding long_of said_by if◌then◌else◌
+unfolding long_of said_by if◌then◌otherwise◌
 form_3 s v e = (rw e refl, rw e refl)
 
 pub form_4 : (s : List ℕ) (v : Value) → eqb v.form 1 ≡ false → eqb v.form 2 ≡ false → eqb v.form 3 ≡ false
     → (long_of v ≡ v.count + (1 + length (digits v.low))) × (said_by s v ≡ span s v.from v.count ++ (46 ∷ digits v.low))
-unfolding long_of said_by if◌then◌else◌
+unfolding long_of said_by if◌then◌otherwise◌
 form_4 s v e f g = (rw (e, f, g) refl, rw (e, f, g) refl)
 
 -- a number and a text as fields
 number_said : (s : List ℕ) (tag n : ℕ) → field_shown s tag (numbered n 0 0) ≡ spellings (field tag (decimal 0 (n + 2 ^ 64 * 0)) ∷ [])
-unfolding shown said_by if◌then◌else◌
+unfolding shown said_by if◌then◌otherwise◌
 number_said s tag n = refl
 
 pub number_field : (s : List ℕ) (tag n : ℕ) → field_shown s tag (numbered n 0 0) ≡ spellings (field tag (digits n) ∷ [])
@@ -87,7 +87,7 @@ pub number_long : (tag n : ℕ) → field_long tag (numbered n 0 0) ≡ length (
 number_long tag n = sym (shown_long [] tag (numbered n 0 0) (omega arith)) ∙ ap length (number_field [] tag n)
 
 text_said : (s : List ℕ) (tag n : ℕ) → field_shown s tag (bytes_from 0 n) ≡ spellings (field tag (span s 0 n) ∷ [])
-unfolding shown said_by if◌then◌else◌
+unfolding shown said_by if◌then◌otherwise◌
 text_said s tag n = refl
 
 pub text_field : (s : List ℕ) (tag : ℕ) → field_shown s tag (bytes_from 0 (length s)) ≡ spellings (field tag s ∷ [])
@@ -162,7 +162,7 @@ no_room = record { fits = false; left = 0 }
 
 -- a and then b
 pub less_more : (r : Room) (a b : ℕ) → less_by (less_by r a) b ≡ less_by r (a + b)
-unfolding less_by if◌then◌else◌
+unfolding less_by if◌then◌otherwise◌
 less_more r a b = go r.fits (leb a r.left) refl
   where
     under : (x : Bool) → leb b (r.left - a) ≡ x → a ≤ r.left → leb (a + b) r.left ≡ x
@@ -170,14 +170,14 @@ less_more r a b = go r.fits (leb a r.left) refl
     under false e h = lt-leb (a + b) r.left (omega (arith, leb-false b (r.left - a) e))
 
     last : (x : Bool) → leb b (r.left - a) ≡ x → a ≤ r.left
-        → (if leb b (r.left - a) then record { fits = true; left = r.left - a - b } else no_room) ≡ (if leb (a + b) r.left then record { fits = true; left = r.left - (a + b) } else no_room)
+        → (if leb b (r.left - a) then record { fits = true; left = r.left - a - b } otherwise no_room) ≡ (if leb (a + b) r.left then record { fits = true; left = r.left - (a + b) } otherwise no_room)
     last true e h = let z : r.left - a - b ≡ r.left - (a + b) = omega arith in rw (e, under true e h, z) refl
     last false e h = rw (e, under false e h) refl
 
     go : (x y : Bool) → leb a r.left ≡ y
-        → (let t : Room = (if x then (if y then record { fits = true; left = r.left - a } else no_room) else no_room) in
-        if t.fits then (if leb b t.left then record { fits = true; left = t.left - b } else no_room) else no_room)
-        ≡ (if x then (if leb (a + b) r.left then record { fits = true; left = r.left - (a + b) } else no_room) else no_room)
+        → (let t : Room = (if x then (if y then record { fits = true; left = r.left - a } otherwise no_room) otherwise no_room) in
+        if t.fits then (if leb b t.left then record { fits = true; left = t.left - b } otherwise no_room) otherwise no_room)
+        ≡ (if x then (if leb (a + b) r.left then record { fits = true; left = r.left - (a + b) } otherwise no_room) otherwise no_room)
     go false y e = refl
     go true false e = let z : leb (a + b) r.left ≡ false = lt-leb (a + b) r.left (omega (arith, leb-false a r.left e)) in rw z refl
     go true true e = last (leb b (r.left - a)) refl (leb-true a r.left e)
@@ -242,7 +242,7 @@ module _ (s : List ℕ) (f : ℕ → Value) (rows : List Row) (j : ℕ) (h : j <
 -- ---- the header's length
 
 tag_long : (length (decimal 0 35) ≡ 2) × (length (decimal 0 49) ≡ 2) × (length (decimal 0 56) ≡ 2) × (length (decimal 0 34) ≡ 2) × (length (decimal 0 52) ≡ 2) × (length (decimal 0 60) ≡ 2)
-unfolding decimal digits digits_by if◌then◌else◌
+unfolding decimal digits digits_by if◌then◌otherwise◌
 tag_long = (refl, refl, refl, refl, refl, refl)
 
 pub two_fields : (f : Field) (fs : List Field) → length (spellings (f ∷ fs)) ≡ length (spellings (f ∷ [])) + length (spellings fs)
@@ -275,9 +275,9 @@ head_long_lem sender target sequence time letter h =
     )
 
 pub stamp_long_lem : (k : ℕ) (time : List ℕ) → length (spellings (stamp_fields k time)) ≡ stamp_long k (length time)
-unfolding stamp_long if◌then◌else◌ spellings
+unfolding stamp_long if◌then◌otherwise◌ spellings
 stamp_long_lem k time = go (leb 18 k)
   where
-    go : (x : Bool) → length (spellings (if x then field 60 time ∷ [] else [])) ≡ (if x then 4 + length time else 0)
+    go : (x : Bool) → length (spellings (if x then field 60 time ∷ [] otherwise [])) ≡ (if x then 4 + length time otherwise 0)
     go true = omega (arith, field_long_lem 60 time, tag_long.5)
     go false = refl

@@ -9,7 +9,7 @@ use native.Mathlib.Omega.{arith}
 use borrow.Author.Tests.{leb-true, leb-false, le-leb, lt-leb, le-ltb, lt-ltb, ltb-false}
 use Rattle.std.proofs.Math.Dec.{ltb}
 use Rattle.std.proofs.Math.ListN.{length, length-append}
-use Rattle.prelude.specs.Cases.{if◌then◌else◌, clash, test_same, both_true}
+use Rattle.prelude.specs.Cases.{if◌then◌otherwise◌, clash, test_same, both_true}
 use Rattle.prelude.specs.Below.{all_below, all_ext, all_intro, all_elim}
 use Rattle.fix_words.specs.Lists.{every, is_print}
 use Rattle.fix_words.specs.Laws.Lists.{every_below, below_every}
@@ -24,7 +24,7 @@ use Rattle.records.specs.declared.parts.Parts.{Parts}
 use Rattle.records.specs.Laws.Reading.{whole_of}
 use Rattle.decimal.specs.Laws.Width.{length_low}
 use Rattle.prelude.specs.Number.{number}
-use Rattle.fix_words.specs.Laws.Taken.{message_kind}
+use Rattle.fix_words.proofs.Laws.Taken.{message_kind}
 use Rattle.decimal.specs.Decimal.{digits_by, digits, low_digits, decimal}
 use Rattle.fix_words.specs.Spelling.{Field, field, spellings}
 use Rattle.fix_words.specs.Laws.Spelling.{spellings_append}
@@ -34,8 +34,8 @@ use Rattle.fix_words.specs.Laws.Counting.{field_long_lem}
 use Rattle.fix_words.specs.Values.{rows, type_of, value_of, places}
 use Rattle.fix_words.specs.Message.{Writing, version, inner, front, sum, trailer, bytes_for, is_text, text_at, texted, framed, fields_of}
 use Rattle.fix_words.specs.Record.{field_at, Session, writing_of, write_of, write_refusal}
-use Rattle.fix_words.specs.Laws.Kinds.{row_small}
-use Rattle.fix_words.specs.Laws.Trip.{frame}
+use Rattle.fix_words.proofs.Laws.Kinds.{row_small}
+use Rattle.fix_words.proofs.Laws.Trip.{frame}
 use Rattle.fix.specs.declared.room.Room.{Room}
 use Rattle.fix.specs.declared.value.Value.{Value}
 use Rattle.fix.specs.Laws.Plan.{Parted, planned, Sound, rows_long, rows_shown, less_by, first_two, head_fields, stamp_fields, frame_long, inner_long, text_right, texts_right}
@@ -49,10 +49,10 @@ abbrev pub roomy : ℕ → Room
 roomy n = record { fits = true; left = n }
 
 pub room_fits : (room T : ℕ) → (less_by (less_by (roomy room) T) (frame_long (room - (less_by (roomy room) T).left))).fits ≡ leb (T + frame_long T) room
-unfolding less_by if◌then◌else◌
+unfolding less_by if◌then◌otherwise◌
 room_fits room T = go (leb T room) refl
   where
-    later : (x : Bool) → leb (frame_long T) (room - T) ≡ x → T ≤ room → (if leb (frame_long T) (room - T) then roomy (room - T - frame_long T) else record { fits = false; left = 0 }).fits ≡ leb (T + frame_long T) room
+    later : (x : Bool) → leb (frame_long T) (room - T) ≡ x → T ≤ room → (if leb (frame_long T) (room - T) then roomy (room - T - frame_long T) otherwise record { fits = false; left = 0 }).fits ≡ leb (T + frame_long T) room
     later true e h = rw e (sym (le-leb (T + frame_long T) room (omega (arith, leb-true (frame_long T) (room - T) e))))
     later false e h = rw e (sym (lt-leb (T + frame_long T) room (omega (arith, leb-false (frame_long T) (room - T) e))))
 
@@ -64,13 +64,13 @@ room_fits room T = go (leb T room) refl
     go false e = rw e (sym (lt-leb (T + frame_long T) room (omega (arith, leb-false T room e))))
 
 pub room_body : (room T : ℕ) → T ≤ room → room - (less_by (roomy room) T).left ≡ T
-unfolding less_by if◌then◌else◌
+unfolding less_by if◌then◌otherwise◌
 room_body room T h = rw (le-leb T room h) (omega arith)
 
 -- ---- the frame
 
 frame_tags : (length (decimal 0 8) ≡ 1) × (length (decimal 0 9) ≡ 1) × (length (decimal 0 10) ≡ 2)
-unfolding decimal digits digits_by if◌then◌else◌
+unfolding decimal digits digits_by if◌then◌otherwise◌
 frame_tags = (refl, refl, refl)
 
 pub whole_long : (w : Writing) → length (bytes_for w) ≡ length (spellings (inner w)) + frame_long (length (spellings (inner w)))
@@ -196,7 +196,7 @@ text_all (c ∷ s) h =
     (λ e. below_every is_print (c ∷ s) (all_elim (print_at (c ∷ s)) (length (c ∷ s)) e))
 
 pub form_text : (b : ℕ) → form_of b ≡ 2 → is_text_bit b ≡ true
-unfolding form_of if◌then◌else◌
+unfolding form_of if◌then◌otherwise◌
 form_text b e = go (is_text_bit b) refl (within side status (range b)) refl
   where
     go : (x : Bool) → is_text_bit b ≡ x → (y : Bool) → within side status (range b) ≡ y → is_text_bit b ≡ true
@@ -206,7 +206,7 @@ form_text b e = go (is_text_bit b) refl (within side status (range b)) refl
 
 module _ (s : List ℕ) (m : ℕ) (at ns : List ℕ) (high : ℕ) (p : Parted s m at ns high) where
   text_right_lem : (b : ℕ) → b < 32 → text_right s m (get_or at (b + 1) 0) (get_or ns b 0) b ≡ text_at b (field_at s b)
-  unfolding text_right form_of if◌then◌else◌
+  unfolding text_right form_of if◌then◌otherwise◌
   text_right_lem b h = go (is_text_bit b) refl (within side status (range b)) refl (bit m b) refl
     where
       go : (x : Bool) → is_text_bit b ≡ x → (y : Bool) → within side status (range b) ≡ y → (z : Bool) → bit m b ≡ z
@@ -226,7 +226,7 @@ module _ (s : List ℕ) (m : ℕ) (at ns : List ℕ) (high : ℕ) (p : Parted s 
 
 module _ (s : List ℕ) (n : Session) (room : ℕ) where
   pub answer_parts : (parts_refusal s ≡ 0 → ⊥) → write_refusal s n room ≡ parts_refusal s
-  unfolding write_refusal if◌then◌else◌
+  unfolding write_refusal if◌then◌otherwise◌
   answer_parts z = go (whole_message s) refl (ranged s 0) refl
     where
       go : (x : Bool) → whole_message s ≡ x → (y : Bool) → ranged s 0 ≡ y → write_refusal s n room ≡ parts_refusal s
@@ -235,7 +235,7 @@ module _ (s : List ℕ) (n : Session) (room : ℕ) where
       go true a true b = absurd (z (rw (a, b) refl))
 
   pub parts_right : parts_refusal s ≡ 0 → (whole_message s ≡ true) × (ranged s 0 ≡ true)
-  unfolding if◌then◌else◌
+  unfolding if◌then◌otherwise◌
   parts_right e = go (whole_message s) refl (ranged s 0) refl
     where
       go : (x : Bool) → whole_message s ≡ x → (y : Bool) → ranged s 0 ≡ y → (whole_message s ≡ true) × (ranged s 0 ≡ true)
@@ -245,19 +245,19 @@ module _ (s : List ℕ) (n : Session) (room : ℕ) where
 
   module _ (e : parts_refusal s ≡ 0) where
     pub answer_9 : texted (writing_of s n) ≡ false → write_refusal s n room ≡ 9
-    unfolding write_refusal if◌then◌else◌
+    unfolding write_refusal if◌then◌otherwise◌
     answer_9 t = rw ((parts_right e).0, (parts_right e).1, t) refl
 
     pub answer_10 : texted (writing_of s n) ≡ true → room < length (bytes_for (writing_of s n)) → write_refusal s n room ≡ 10
-    unfolding write_refusal if◌then◌else◌
+    unfolding write_refusal if◌then◌otherwise◌
     answer_10 t h = rw ((parts_right e).0, (parts_right e).1, t, lt-ltb room (length (bytes_for (writing_of s n))) h) refl
 
     pub answer_0 : texted (writing_of s n) ≡ true → length (bytes_for (writing_of s n)) ≤ room → write_refusal s n room ≡ 0
-    unfolding write_refusal if◌then◌else◌
+    unfolding write_refusal if◌then◌otherwise◌
     answer_0 t h = rw ((parts_right e).0, (parts_right e).1, t, le-ltb room (length (bytes_for (writing_of s n))) h) refl
 
     pub answer_room : write_refusal s n room ≡ 0 → length (bytes_for (writing_of s n)) ≤ room
-    unfolding write_refusal if◌then◌else◌
+    unfolding write_refusal if◌then◌otherwise◌
     answer_room z = go (texted (writing_of s n)) refl (ltb room (length (bytes_for (writing_of s n)))) refl
       where
         go : (x : Bool) → texted (writing_of s n) ≡ x → (y : Bool) → ltb room (length (bytes_for (writing_of s n))) ≡ y → length (bytes_for (writing_of s n)) ≤ room
@@ -293,7 +293,7 @@ whole_kind s e =
 
 -- the answer 0 has a whole message in range
 pub taken_parts : (s : List ℕ) (n : Session) (room : ℕ) → write_refusal s n room ≡ 0 → parts_refusal s ≡ 0
-unfolding write_refusal if◌then◌else◌
+unfolding write_refusal if◌then◌otherwise◌
 taken_parts s n room z = go (whole_message s) refl (ranged s 0) refl
   where
     go : (x : Bool) → whole_message s ≡ x → (y : Bool) → ranged s 0 ≡ y → parts_refusal s ≡ 0

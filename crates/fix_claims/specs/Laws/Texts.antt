@@ -1,5 +1,5 @@
 -- The texts of a message, one by one: the writer's question asks whether FIX can carry every one of them. Rests on Claims.
-use Rattle.std.specs.Prelude.{ℕ, zero, suc, ◌<◌, ◌≡◌, Bool, not, ◌&&◌, ◌||◌, ◌⊎◌, eqb, leb, ltb, length, get_or}
+use Rattle.std.specs.Prelude.{ℕ, zero, suc, ◌<◌, ◌≡◌, Bool, not, ◌&&◌, ◌||◌, eqb, leb, ltb, length, get_or}
 use Rattle.std.proofs.Math.Path.{refl, ap}
 use Rattle.std.proofs.Common.{sym, ◌∙◌, inl, arith, eqb-true, leb-true, leb-false, ltb-true}
 use mathlib.Core.List.{List, [], ◌∷◌}
@@ -7,7 +7,7 @@ use Rattle.std.proofs.Math.Bool.{true, false}
 use Rattle.std.proofs.Math.Logic.{inr, ⊎_elim}
 use Rattle.std.proofs.Math.Option.{none, some}
 use Rattle.std.proofs.lemmas.Bool.{not-true}
-use Rattle.prelude.specs.Cases.{if◌then◌else◌, if_true, if_false, clash, both_true, either_true}
+use Rattle.prelude.specs.Cases.{if_true, if_false, clash, both_true, either_true}
 use Rattle.prelude.specs.Below.{all_below, all_elim}
 use Rattle.bits.specs.Map.{bit}
 use Rattle.format.specs.Codes.{listed}

@@ -2,14 +2,14 @@
 use Rattle.std.specs.Prelude.{◌≡◌, ℕ, ◌<◌, ◌≤◌, Bool, true, false, not, ◌&&◌, ◌||◌, ◌==◌, ◌≢◌, nat_eq, refl}
 use Rattle.std.proofs.Common.{⊎_elim, arith, eqb-true, eq-eqb, ne_eqb}
 use Rattle.std.proofs.lemmas.Bool.{not-true}
-use Rattle.prelude.specs.Cases.{if◌then◌else◌, clash, both_true, either_true}
+use Rattle.prelude.specs.Cases.{if◌then◌otherwise◌, clash, both_true, either_true}
 use Rattle.prelude.specs.Below.{all_below, all_elim}
 use Rattle.bits.specs.Map.{bit}
 use Rattle.format.specs.Codes.{within}
 use Rattle.format.specs.Format.{size, range, fields, is_text_bit, required, allowed, required_bits, allowed_bits}
 use Rattle.fix_words.specs.Rows.{in_rows}
 use Rattle.fix_words.specs.Values.{tables, rows, is_plain, places}
-use Rattle.fix_words.specs.Laws.Kinds.{by_kind_lem, row_small}
+use Rattle.fix_words.proofs.Laws.Kinds.{by_kind_lem, row_small}
 use Rattle.fix_table.specs.Table.{form_of}
 
 stand_test : (k : ℕ) → within 16 20 k ≡ true → (b : ℕ) → b < 32 → (not (in_rows (rows k) b) || (bit (required k) b || bit (allowed k) b)) ≡ true
@@ -43,7 +43,7 @@ abbrev text_test : ℕ → Bool
 text_test b = not (form_of b == 2) || (is_text_bit b && is_plain b)
 
 all_texts : all_below text_test 32 ≡ true
-unfolding form_of is_plain size range fields places if◌then◌else◌ all_below
+unfolding form_of is_plain size range fields places if◌then◌otherwise◌ all_below
 all_texts = refl
 
 pub text_bit : (b : ℕ) → b < 32 → form_of b ≡ 2 → TextBit b
@@ -61,7 +61,7 @@ abbrev code_test : ℕ → Bool
 code_test b = not (form_of b == 1) || (is_plain b && (not (is_text_bit b) && size b == 1))
 
 all_codes : all_below code_test 32 ≡ true
-unfolding form_of is_plain size range fields places if◌then◌else◌ all_below
+unfolding form_of is_plain size range fields places if◌then◌otherwise◌ all_below
 all_codes = refl
 
 pub code_bit : (b : ℕ) → b < 32 → form_of b ≡ 1 → CodeBit b
@@ -91,7 +91,7 @@ abbrev is_number_bit : ℕ → Bool
 is_number_bit b = not (is_plain b) && (not (is_text_bit b) && (not (b == 20) && (places b == form_of b && sized b)))
 
 number_test : (k : ℕ) → within 16 20 k ≡ true → (b : ℕ) → b < 32 → (not (in_rows (rows k) b) || (apart b || is_number_bit b)) ≡ true
-unfolding rows tables form_of is_plain size range fields places if◌then◌else◌ all_below
+unfolding rows tables form_of is_plain size range fields places if◌then◌otherwise◌ all_below
 number_test =
     by_kind_lem (λ k. (b : ℕ) → b < 32 → test k b ≡ true) (all_elim (test 16) 32 refl) (all_elim (test 17) 32 refl) (all_elim (test 18) 32 refl)
     (all_elim (test 19) 32 refl) (all_elim (test 20) 32 refl)

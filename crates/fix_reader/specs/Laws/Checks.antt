@@ -1,13 +1,13 @@
 -- The reader's questions on the fields of a message: its header, its rows, its end. Bytes are a message exactly where their fields pass them.
 -- Rests on Fits and Trip.
-use Rattle.std.specs.Prelude.{◌≡◌, ℕ, suc, ◌+◌, ◌-◌, ◌%◌, ◌<◌, ◌≤◌, Bool, true, false, not, ◌&&◌, ◌||◌, ltb, ◌⊎◌, List, [], ◌∷◌, ◌++◌, length, take, drop, ◌==◌, nat_le, nat_lt, slice_index, slice_index_or}
+use Rattle.std.specs.Prelude.{◌≡◌, ℕ, suc, ◌-◌, ◌%◌, ◌<◌, Bool, true, false, not, ◌&&◌, ◌||◌, ltb, List, [], ◌∷◌, ◌++◌, length, take, drop, ◌==◌, nat_le, nat_lt, slice_index, slice_index_or}
 use Rattle.std.proofs.Math.Path.{refl, sym, ap, subst}
-use Rattle.std.proofs.Common.{◌∙◌, inl, inr, ⊎_elim, arith, eqb-true, eq-eqb, length-append, drop-cons, get_or-drop, take_at}
+use Rattle.std.proofs.Common.{◌∙◌, ⊎_elim, arith, eqb-true, eq-eqb, length-append, drop-cons, get_or-drop, take_at}
 use Rattle.std.proofs.Math.Option.{Option, none, some}
 use Rattle.std.proofs.Math.Decide.{dec_lt}
 use Rattle.std.proofs.lemmas.Bool.{not-true}
 use Rattle.std.proofs.Math.ListN.{get_or-eq_default}
-use Rattle.prelude.specs.Cases.{if◌then◌else◌, if_true, if_false, is_some, clash, both_true, both_hold, either_true, test_same}
+use Rattle.prelude.specs.Cases.{if_true, if_false, is_some, clash, both_true, both_hold, either_true, test_same}
 use Rattle.prelude.specs.Below.{all_below, all_elim, all_intro}
 use Rattle.prelude.specs.Number.{bound}
 use Rattle.decimal.specs.Decimal.{digits, low_digits, number_in}
@@ -21,11 +21,11 @@ use Rattle.fix_words.specs.Message.{Writing, version, stamp, inner, front, sum, 
 use Rattle.fix_claims.specs.Reading.{no_field, tag_of}
 use Rattle.fix_words.specs.Laws.Lists.{same_true, same_self}
 use Rattle.fix_words.specs.Laws.Rows.{all_apart, stand, value_back, value_none, body_same, body_append}
-use Rattle.fix_words.specs.Laws.Kinds.{by_kind_lem, kind_back, rows_apart, right, must_in, with_name}
+use Rattle.fix_words.proofs.Laws.Kinds.{by_kind_lem, kind_back, rows_apart, right, must_in, with_name}
 use Rattle.fix_words.specs.Laws.Spelling.{fields_back}
-use Rattle.fix_words.specs.Laws.Again.{values_stand}
-use Rattle.fix_words.specs.Laws.Trip.{written_message, read_back}
-use Rattle.fix_reader.specs.Laws.Walk.{Asked, first_value, walk, distinct, ordered, Walked, walk_found, walk_pair, walk_body}
+use Rattle.fix_words.proofs.Laws.Again.{values_stand}
+use Rattle.fix_words.proofs.Laws.Trip.{written_message, read_back}
+use Rattle.fix_reader.specs.Laws.Walk.{first_value, walk, distinct, ordered, Walked, walk_found, walk_pair, walk_body}
 use Rattle.fix_reader.specs.Laws.Fits.{fits, asked_by, asked_stops, asked_fits, name_first, must_name, only_report, fit_right, fit_values, fit_paired, fit_again, fit_once}
 
 -- ---- the questions

@@ -2,16 +2,16 @@
 use Rattle.std.specs.Prelude.{◌≡◌, ℕ, ◌<◌, ◌≤◌, Bool, true, false, not, ◌&&◌, ◌||◌, ltb, List, [], ◌∷◌, length, take, ◌==◌, nat_eq, nat_le, nat_lt, slice_index}
 use Rattle.std.proofs.Math.Path.{refl, sym, ap}
 use Rattle.std.proofs.Common.{◌∙◌, ⊎_elim, arith, eqb-true, eq-eqb, ltb-true, lt-ltb, leb-true, take_all}
-use Rattle.std.proofs.Math.Option.{Option, none, some}
+use Rattle.std.proofs.Math.Option.{none, some}
 use Rattle.std.proofs.lemmas.Bool.{not-true}
-use Rattle.prelude.specs.Cases.{if◌then◌else◌, if_true, if_false, clash, both_true, both_hold, either_true, test_same}
+use Rattle.prelude.specs.Cases.{if◌then◌otherwise◌, if_true, if_false, clash, both_true, both_hold, either_true, test_same}
 use Rattle.prelude.specs.Number.{number, bytes_of, bound, length_bytes, number_bytes, number_bound}
 use Rattle.prelude.specs.Bytes.{bytes_of_lem}
 use Rattle.bits.specs.Map.{bit}
 use Rattle.decimal.specs.Decimal.{decimal, number_in}
 use Rattle.decimal.specs.Laws.Back.{decimal_back}
 use Rattle.format.specs.Codes.{within, is_alnum}
-use Rattle.format.specs.Format.{size, range, fields, is_text_bit, in_range, required, required_bits, allowed, side, status}
+use Rattle.format.specs.Format.{size, range, fields, is_text_bit, in_range, required, allowed}
 use Rattle.format.specs.Places.{value}
 use Rattle.fix_words.specs.Lists.{every, is_print, same}
 use Rattle.fix_words.specs.Values.{is_plain, places, spelling, unspelled, held_in, none_word}
@@ -19,7 +19,7 @@ use Rattle.fix_words.specs.Message.{shape_at, range_at, text_at, is_text, is_nam
 use Rattle.fix_words.specs.Laws.Lists.{same_true, same_self, below_every}
 use Rattle.fix_words.specs.Laws.Held.{number_one, shape_long}
 use Rattle.fix_words.specs.Laws.Rows.{or_right}
-use Rattle.fix_words.specs.Laws.Kinds.{right}
+use Rattle.fix_words.proofs.Laws.Kinds.{right}
 use Rattle.fix_reader.specs.Laws.Fits.{respelled, fits, fits_right, fits_same, fits_is, plain_held, plain_respelled}
 
 and_true : (x : Bool) → (x && true) ≡ x
@@ -178,7 +178,7 @@ module _ (k b : ℕ) (nm v : List ℕ) (stand : (bit (required k) b || bit (allo
 
 -- from 1 to 20 bytes
 name_range_lem : (x : ℕ) → in_range (range 2) x ≡ within 1 20 x
-unfolding in_range range fields if◌then◌else◌
+unfolding in_range range fields if◌then◌otherwise◌
 name_range_lem x = refl
 
 text_bit_2 : is_text_bit 2 ≡ true
@@ -191,11 +191,11 @@ module _ (k : ℕ) (nm v : List ℕ) (stand : (bit (required k) 2 || bit (allowe
   as_name = within 1 20 (length v) && every is_alnum v
 
   name_again : same (respelled nm 2 v) v ≡ true
-  unfolding respelled if◌then◌else◌
+  unfolding respelled if◌then◌otherwise◌
   name_again = same_self v
 
-  name_held : held_in 2 (some v) ≡ (if same v none_word then none else some v)
-  unfolding held_in if◌then◌else◌
+  name_held : held_in 2 (some v) ≡ (if same v none_word then none otherwise some v)
+  unfolding held_in if◌then◌otherwise◌
   name_held = refl
 
   value_2 : value 2 v ≡ length v
@@ -228,10 +228,10 @@ module _ (k : ℕ) (nm v : List ℕ) (stand : (bit (required k) 2 || bit (allowe
           (both_hold _ _ (ap (in_range (range 2)) value_2 ∙ name_range_lem (length v) ∙ h.0) (both_hold _ _ h.1 (not_is (same v none_word) s)))
           (or_right (not (is_text_bit 2)) (is_text v) x))
 
-  pub name_fits : fits k nm 2 v ≡ (if same v none_word then (k == 17) else as_name)
+  pub name_fits : fits k nm 2 v ≡ (if same v none_word then (k == 17) otherwise as_name)
   unfolding fits
-  name_fits = (λ i. right k 2 (name_held i) && name_again i) ∙ and_true (right k 2 (if same v none_word then none else some v)) ∙ go (same v none_word) refl
+  name_fits = (λ i. right k 2 (name_held i) && name_again i) ∙ and_true (right k 2 (if same v none_word then none otherwise some v)) ∙ go (same v none_word) refl
     where
-      go : (x : Bool) → same v none_word ≡ x → right k 2 (if same v none_word then none else some v) ≡ (if same v none_word then (k == 17) else as_name)
+      go : (x : Bool) → same v none_word ≡ x → right k 2 (if same v none_word then none otherwise some v) ≡ (if same v none_word then (k == 17) otherwise as_name)
       go true e = ap (right k 2) (if_true (same v none_word) none (some v) e) ∙ none_right ∙ sym (if_true (same v none_word) (k == 17) as_name e)
       go false e = ap (right k 2) (if_false (same v none_word) none (some v) e) ∙ some_right e ∙ sym (if_false (same v none_word) (k == 17) as_name e)

@@ -4,7 +4,7 @@ use Rattle.std.specs.Prelude.{◌≡◌, ℕ, zero, suc, ◌+◌, ◌-◌, ◌<�
 use Rattle.std.proofs.Common.{sym, ap, subst, ◌∙◌, arith, lt-ltb, le-ltb, drop_of_length-le, drop-cons}
 use Rattle.std.proofs.Math.Decide.{dec_lt}
 use Rattle.std.proofs.Math.ListN.{get_or-eq_default}
-use Rattle.prelude.specs.Cases.{if◌then◌else◌, if_false}
+use Rattle.prelude.specs.Cases.{if_false}
 use Rattle.prelude.specs.Lists.{get_list}
 use Rattle.prelude.specs.Span.{span, span_none, part_span}
 use Rattle.decimal.specs.Decimal.{digits}
@@ -16,7 +16,7 @@ use Rattle.fix_words.specs.Laws.Spelling.{fields_back}
 use Rattle.fix_claims.specs.declared.FixFields.{FixFields}
 use Rattle.fix_claims.specs.Reading.{no_field, tag_of, place_of, length_of, tabled}
 use Rattle.fix_reader.specs.Laws.Split.{Plains, plains_print, Found}
-use Rattle.fix_claims.specs.Laws.Table.{value_stands, value_within}
+use Rattle.fix_claims.proofs.Laws.Table.{value_stands, value_within}
 
 -- the bytes are fields, and the tables say where their values stand
 pub record Placed (s at len : List ℕ) : Type 0 where

@@ -7,7 +7,7 @@ use Rattle.std.proofs.Math.Decide.{dec_lt}
 use borrow.Author.Tests.{eqb-true, eq-eqb, leb-true, ltb-true, lt-ltb}
 use Rattle.std.proofs.Math.ListN.{length-append, length-drop}
 use Rattle.std.proofs.Math.Seq.{split_at, take_at, get_or_at}
-use Rattle.prelude.specs.Cases.{if◌then◌else◌, if_true, if_false, clash, both_true, both_hold, either_true, test_same}
+use Rattle.prelude.specs.Cases.{if_true, if_false, clash, both_true, both_hold, either_true, test_same}
 use Rattle.decimal.specs.Decimal.{is_digit, point, digits, low_digits, down, decimal, read_from, number_in}
 use Rattle.decimal.specs.Laws.Back.{read_append, digits_back, low_back}
 use Rattle.decimal.specs.Laws.Columns.{Digits, low_are, same_digits}

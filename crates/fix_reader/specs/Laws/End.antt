@@ -1,22 +1,22 @@
 -- What the reader answers, from what it cut and what it asked: the contract of its last step. Rests on Checks, Whole and Table.
-use Rattle.std.specs.Prelude.{◌≡◌, ℕ, ◌<◌, Bool, true, false, List, [], length, ◌≢◌, nat_lt, slice_index, refl}
-use Rattle.std.proofs.Common.{sym, ap, subst, ◌∙◌, arith, lt-ltb}
+use Rattle.std.specs.Prelude.{◌≡◌, ℕ, ◌<◌, true, false, List, [], length, ◌≢◌, nat_lt, slice_index}
+use Rattle.std.proofs.Common.{sym, ap, ◌∙◌, arith, lt-ltb}
 use Rattle.std.proofs.Math.Decide.{dec_lt}
 use Rattle.std.proofs.Math.ListN.{get_or-eq_default}
 use Rattle.prelude.specs.Bytes.{bytes_span}
-use Rattle.prelude.specs.Cases.{if◌then◌else◌, if_true, if_false}
+use Rattle.prelude.specs.Cases.{if_true, if_false}
 use Rattle.prelude.specs.Number.{Bytes}
 use Rattle.prelude.specs.Span.{span}
 use Rattle.fix_claims.specs.declared.FixFields.{FixFields}
 use Rattle.fix_words.specs.Lists.{every}
-use Rattle.fix_words.specs.Spelling.{Field, spellings, fields_in}
+use Rattle.fix_words.specs.Spelling.{Field, fields_in}
 use Rattle.fix_words.specs.Message.{value_at, is_message, Read, read_of}
 use Rattle.fix_claims.specs.Reading.{no_field, place_of, length_of, tabled, fields_read}
 use Rattle.fix_words.specs.Laws.Lists.{below_every}
 use Rattle.fix_words.specs.Laws.Spelling.{fields_back}
 use Rattle.fix_reader.specs.Laws.Split.{Splits, plains_print}
 use Rattle.fix_reader.specs.Laws.Checks.{checks, message_is}
-use Rattle.fix_claims.specs.Laws.Table.{value_stands}
+use Rattle.fix_claims.proofs.Laws.Table.{value_stands}
 use Rattle.fix_reader.specs.Laws.Whole.{uncut}
 
 pub bytes_all : (c : List ℕ) → Bytes c → every (λ x. nat_lt x 256) c ≡ true

@@ -5,7 +5,7 @@ use Rattle.std.proofs.Common.{sym, ap, ◌∙◌, arith, add-one, eq-eqb, ne_eqb
 use Rattle.std.proofs.Math.Decide.{dec_lt, ℕ_discrete}
 use Rattle.std.proofs.lemmas.Bool.{lt-leb}
 use Rattle.std.proofs.Math.ListN.{get_or-eq_default}
-use Rattle.prelude.specs.Cases.{if◌then◌else◌, if_true, if_false}
+use Rattle.prelude.specs.Cases.{if◌then◌otherwise◌, if_true, if_false}
 use Rattle.decimal.specs.Decimal.{digits, digits_by, low_digits}
 use Rattle.fix_words.specs.Lists.{same}
 use Rattle.fix_words.specs.Spelling.{Field, field, spellings}
@@ -19,11 +19,11 @@ abbrev pub sum_digits : List ℕ → List ℕ
 sum_digits s = low_digits 3 (sum s % 256)
 
 two_digits_10 : length (digits 10) ≡ 2
-unfolding digits digits_by if◌then◌else◌
+unfolding digits digits_by if◌then◌otherwise◌
 two_digits_10 = refl
 
 two_digits_35 : length (digits 35) ≡ 2
-unfolding digits digits_by if◌then◌else◌
+unfolding digits digits_by if◌then◌otherwise◌
 two_digits_35 = refl
 
 module _ (fs : List Field) where

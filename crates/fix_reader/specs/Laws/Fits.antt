@@ -2,13 +2,13 @@
 -- right record fit. Rests on Again and Walk.
 use Rattle.std.specs.Prelude.{◌≡◌, ℕ, ◌<◌, Bool, true, false, not, ◌&&◌, ◌||◌, ◌⊎◌, List, [], ◌∷◌, ◌++◌, drop, ◌==◌, ◌≢◌, nat_eq}
 use Rattle.std.proofs.Math.Path.{refl, sym, ap, subst}
-use Rattle.std.proofs.Common.{◌∙◌, inl, inr, eqb-true, eq-eqb, ne_eqb, lit<}
+use Rattle.std.proofs.Common.{◌∙◌, inl, inr, eq-eqb, ne_eqb}
 use Rattle.std.proofs.Math.Logic.{⊎_elim}
 use Rattle.std.proofs.Math.Option.{Option, none, some}
 use Rattle.std.proofs.Math.Decide.{ℕ_discrete}
 use native.Mathlib.Omega.{arith}
 use Rattle.std.proofs.lemmas.Bool.{not-true}
-use Rattle.prelude.specs.Cases.{if◌then◌else◌, if_true, if_false, is_some, clash, both_true, both_hold, both_false, either_true, none_some, same_some}
+use Rattle.prelude.specs.Cases.{if◌then◌otherwise◌, if_true, if_false, is_some, clash, both_true, both_hold, both_false, either_true, same_some}
 use Rattle.prelude.specs.Below.{all_below, all_elim}
 use Rattle.prelude.specs.Number.{number, bytes_of}
 use Rattle.bits.specs.Map.{bit}
@@ -17,21 +17,21 @@ use Rattle.format.specs.Codes.{within}
 use Rattle.format.specs.Format.{size, range, fields, required, required_bits}
 use Rattle.fix_words.specs.Lists.{same, after}
 use Rattle.fix_words.specs.Spelling.{Field}
-use Rattle.fix_words.specs.Rows.{Values, leads, first, value_in, in_rows}
-use Rattle.fix_words.specs.Values.{tables, rows, none_word, word_number, is_plain, spelling, over, or_else, either, exec_id, fixed_words, value_of, unspelled, unless_none, held_in, unsaid, contents}
+use Rattle.fix_words.specs.Rows.{Values, value_in, in_rows}
+use Rattle.fix_words.specs.Values.{tables, rows, none_word, word_number, is_plain, spelling, over, or_else, either, exec_id, fixed_words, value_of, unspelled, held_in, unsaid, contents}
 use Rattle.fix_words.specs.Message.{paired}
 use Rattle.fix_words.specs.Laws.Lists.{same_true, same_self}
-use Rattle.fix_words.specs.Laws.Kinds.{by_kind_lem, row_small, with_name, must_in, right, reasoned, unsaid_right}
-use Rattle.fix_words.specs.Laws.Again.{kept, again_right, again_values}
+use Rattle.fix_words.proofs.Laws.Kinds.{by_kind_lem, row_small, with_name, must_in, right, reasoned, unsaid_right}
+use Rattle.fix_words.proofs.Laws.Again.{kept, again_right, again_values}
 use Rattle.fix_reader.specs.Laws.Walk.{Asked, first_value, head_value}
 
 -- a value spelled again from what it holds, where 37's value is nm
 unfoldable pub respelled : List ℕ → ℕ → List ℕ → List ℕ
 respelled nm b v =
-    if b == 2 then v else
-    if b == 20 then v else
-    if b == 25 then nm ++ (46 ∷ digits (number (bytes_of 8 (number_in (after 46 v))))) else
-    if b == 27 then fixed_words (word_number v ∷ []) else
+    if b == 2 then v otherwise
+    if b == 20 then v otherwise
+    if b == 25 then nm ++ (46 ∷ digits (number (bytes_of 8 (number_in (after 46 v))))) otherwise
+    if b == 27 then fixed_words (word_number v ∷ []) otherwise
     spelling b (unspelled b v)
 
 -- THE VALUE v OF BIT b IS ONE THAT THE WRITER YIELDS: what it holds passes the writer's questions, and is spelled so
@@ -76,24 +76,24 @@ by_bit P p2 p20 p25 p27 b other = go (ℕ_discrete b 2) (ℕ_discrete b 20) (ℕ
 
 module _ (b : ℕ) (n2 : nat_eq b 2 ≡ false) (n20 : nat_eq b 20 ≡ false) (n25 : nat_eq b 25 ≡ false) (n27 : nat_eq b 27 ≡ false) where
   plain_value : (k : ℕ) (at : Values) → value_of k at b ≡ over (spelling b) (at b)
-  unfolding value_of if◌then◌else◌
+  unfolding value_of if◌then◌otherwise◌
   plain_value k at = rw (n2, n20, n25, n27) refl
 
   pub plain_held : (v : List ℕ) → held_in b (some v) ≡ some (unspelled b v)
-  unfolding held_in if◌then◌else◌
+  unfolding held_in if◌then◌otherwise◌
   plain_held v = rw (n2, n25, n27) refl
 
   pub plain_respelled : (nm v : List ℕ) → respelled nm b v ≡ spelling b (unspelled b v)
-  unfolding respelled if◌then◌else◌
+  unfolding respelled if◌then◌otherwise◌
   plain_respelled nm v = rw (n2, n20, n25, n27) refl
 
 held_none_none : (b : ℕ) → held_in b none ≡ none
-unfolding held_in if◌then◌else◌
+unfolding held_in if◌then◌otherwise◌
 held_none_none b =
     by_bit (λ b. held_in b none ≡ none) refl refl refl refl b (λ x y z w. rw (x, z, w) refl)
 
 held_some : (b : ℕ) → (b == 2) ≡ false → (o : Option (List ℕ)) → is_some (held_in b o) ≡ is_some o
-unfolding held_in if◌then◌else◌
+unfolding held_in if◌then◌otherwise◌
 held_some b n o =
     by_bit (λ b. (b == 2) ≡ false → (o : Option (List ℕ)) → is_some (held_in b o) ≡ is_some o)
     (λ e. clash true refl e)
@@ -142,30 +142,30 @@ unfolding rows tables
 text_report =
     by_kind_lem (λ k. in_rows (rows k) 27 ≡ true → k ≡ 16) (λ e. refl) (λ e. clash false e refl) (λ e. clash false e refl) (λ e. clash false e refl) (λ e. clash false e refl)
 
-if_self : (x : Bool) → (if x then x else not x) ≡ true
-unfolding if◌then◌else◌
+if_self : (x : Bool) → (if x then x otherwise not x) ≡ true
+unfolding if◌then◌otherwise◌
 if_self true = refl
 if_self false = refl
 
 paired_16 : (at : Values) (x : Bool) → is_some (at 19) ≡ x → is_some (at 28) ≡ x → (is_some (at 20) && is_some (at 27)) ≡ false → paired 16 at ≡ true
-unfolding paired if◌then◌else◌
+unfolding paired if◌then◌otherwise◌
 paired_16 at x p q r = rw (p, q) (both_hold _ _ (if_self x) (rw r refl))
 
 paired_17 : (at : Values) → is_some (at 20) ≡ true → is_some (at 27) ≡ false → paired 17 at ≡ true
-unfolding paired if◌then◌else◌
+unfolding paired if◌then◌otherwise◌
 paired_17 at p q = rw (p, q) refl
 
 both_out : (at : Values) → is_some (at 20) ≡ true → is_some (at 27) ≡ true → paired 16 at ≡ false
-unfolding paired if◌then◌else◌
-both_out at p q = rw (p, q) (both_false (if is_some (at 19) then is_some (at 28) else not (is_some (at 28))))
+unfolding paired if◌then◌otherwise◌
+both_out at p q = rw (p, q) (both_false (if is_some (at 19) then is_some (at 28) otherwise not (is_some (at 28))))
 
 unsaid_origin : (k : ℕ) (o : Option (List ℕ)) → is_some (unsaid k o 28) ≡ is_some o
-unfolding unsaid if◌then◌else◌
+unfolding unsaid if◌then◌otherwise◌
 unsaid_origin k none = refl
 unsaid_origin k (some v) = refl
 
 unsaid_fixed : (o : Option (List ℕ)) → unsaid 17 o 27 ≡ none
-unfolding unsaid if◌then◌else◌ required required_bits
+unfolding unsaid if◌then◌otherwise◌ required required_bits
 unsaid_fixed o = refl
 
 -- ---- values that fit
@@ -202,11 +202,11 @@ module _ (k : ℕ) (kind : within 16 20 k ≡ true) (us : Values) (nm : List ℕ
       go : (j : ℕ) → k ≡ j → within 16 20 j ≡ true → reasoned k (us 19) ≡ true
       go j e w =
           by_kind_lem (λ j. k ≡ j → reasoned k (us 19) ≡ true)
-          (λ e. at 16 e (unfold if◌then◌else◌ in refl))
-          (λ e. at 17 e (unfold if◌then◌else◌ in must 17 e (unfold rows tables in refl)))
-          (λ e. at 18 e (unfold if◌then◌else◌ in rw (out 18 e (unfold rows tables in refl)) refl))
-          (λ e. at 19 e (unfold if◌then◌else◌ in rw (out 19 e (unfold rows tables in refl)) refl))
-          (λ e. at 20 e (unfold if◌then◌else◌ in rw (out 20 e (unfold rows tables in refl)) refl))
+          (λ e. at 16 e (unfold if◌then◌otherwise◌ in refl))
+          (λ e. at 17 e (unfold if◌then◌otherwise◌ in must 17 e (unfold rows tables in refl)))
+          (λ e. at 18 e (unfold if◌then◌otherwise◌ in rw (out 18 e (unfold rows tables in refl)) refl))
+          (λ e. at 19 e (unfold if◌then◌otherwise◌ in rw (out 19 e (unfold rows tables in refl)) refl))
+          (λ e. at 20 e (unfold if◌then◌otherwise◌ in rw (out 20 e (unfold rows tables in refl)) refl))
           j w e
 
   pub fit_right : (b : ℕ) → b < 32 → right k b (now b) ≡ true
@@ -232,38 +232,38 @@ module _ (k : ℕ) (kind : within 16 20 k ≡ true) (us : Values) (nm : List ℕ
       now_in 2 j ∙ ap (held_in 2) (named i) ∙ go (same nm none_word) refl (subst (λ (j : ℕ). right j 2 (held_in 2 (some nm)) ≡ true) r f)
     where
       go : (x : Bool) → same nm none_word ≡ x → right 16 2 (held_in 2 (some nm)) ≡ true → held_in 2 (some nm) ≡ some nm
-      go false e f = unfold held_in if◌then◌else◌ in rw e refl
+      go false e f = unfold held_in if◌then◌otherwise◌ in rw e refl
       go true e f =
-          let z : held_in 2 (some nm) ≡ none = unfold held_in if◌then◌else◌ in rw e refl in
+          let z : held_in 2 (some nm) ≡ none = unfold held_in if◌then◌otherwise◌ in rw e refl in
           clash (right 16 2 (held_in 2 (some nm))) f (rw z (unfold required required_bits in refl))
 
   again_2 : in_rows (rows k) 2 ≡ true → (v : List ℕ) → us 2 ≡ some v → value_of k now 2 ≡ some v
-  unfolding value_of if◌then◌else◌
+  unfolding value_of if◌then◌otherwise◌
   again_2 i v z = ⊎_elim report reject (name_rows k kind i)
     where
-      held : now 2 ≡ (if same v none_word then none else some v)
-      held = now_in 2 i ∙ ap (held_in 2) z ∙ (unfold held_in if◌then◌else◌ in refl)
+      held : now 2 ≡ (if same v none_word then none otherwise some v)
+      held = now_in 2 i ∙ ap (held_in 2) z ∙ (unfold held_in if◌then◌otherwise◌ in refl)
 
       report : k ≡ 16 → value_of k now 2 ≡ some v
       report e =
           let f : right 16 2 (held_in 2 (some v)) ≡ true = subst (λ (j : ℕ). right j 2 (held_in 2 (some v)) ≡ true) e (fits_right k nm 2 v (fit 2 i v z)) in
           rw (ne_eqb k 17 (λ q. absurd (omega arith))) (held ∙ go (same v none_word) refl f)
         where
-          go : (x : Bool) → same v none_word ≡ x → right 16 2 (held_in 2 (some v)) ≡ true → (if same v none_word then none else some v) ≡ some v
+          go : (x : Bool) → same v none_word ≡ x → right 16 2 (held_in 2 (some v)) ≡ true → (if same v none_word then none otherwise some v) ≡ some v
           go false e f = rw e refl
           go true e f =
-              let z : held_in 2 (some v) ≡ none = unfold held_in if◌then◌else◌ in rw e refl in
+              let z : held_in 2 (some v) ≡ none = unfold held_in if◌then◌otherwise◌ in rw e refl in
               clash (right 16 2 (held_in 2 (some v))) f (rw z (unfold required required_bits in refl))
 
       reject : k ≡ 17 → value_of k now 2 ≡ some v
       reject e = rw (eq-eqb k 17 e, held) (go (same v none_word) refl)
         where
-          go : (x : Bool) → same v none_word ≡ x → some (or_else none_word (if same v none_word then none else some v)) ≡ some v
+          go : (x : Bool) → same v none_word ≡ x → some (or_else none_word (if same v none_word then none otherwise some v)) ≡ some v
           go false e = rw e refl
           go true e = rw e (ap (λ (w : List ℕ). some w) (sym (same_true v none_word e)))
 
   held_20 : (o : Option (List ℕ)) → held_in 20 o ≡ o
-  unfolding held_in if◌then◌else◌ unspelled is_plain size range fields
+  unfolding held_in if◌then◌otherwise◌ unspelled is_plain size range fields
   held_20 none = refl
   held_20 (some c) = refl
 
@@ -273,8 +273,8 @@ module _ (k : ℕ) (kind : within 16 20 k ≡ true) (us : Values) (nm : List ℕ
       mine : now 20 ≡ us 20
       mine = now_in 20 i ∙ held_20 (us 20)
 
-      opened : value_of k now 20 ≡ (if nat_eq k 17 then either (now 20) (over fixed_words (now 27)) else now 20)
-      opened = unfold value_of if◌then◌else◌ in refl
+      opened : value_of k now 20 ≡ (if nat_eq k 17 then either (now 20) (over fixed_words (now 27)) otherwise now 20)
+      opened = unfold value_of if◌then◌otherwise◌ in refl
 
       go : (o : Option (List ℕ)) → us 20 ≡ o → Dec (k ≡ 17) → value_of k now 20 ≡ us 20
       go o z (no e) = opened ∙ if_false (k == 17) _ _ (ne_eqb k 17 e) ∙ mine
@@ -286,14 +286,14 @@ module _ (k : ℕ) (kind : within 16 20 k ≡ true) (us : Values) (nm : List ℕ
   again_25 i = go (us 25) refl
     where
       opened : value_of k now 25 ≡ over (exec_id (now 2)) (now 25)
-      opened = unfold value_of if◌then◌else◌ in refl
+      opened = unfold value_of if◌then◌otherwise◌ in refl
 
       go : (o : Option (List ℕ)) → us 25 ≡ o → value_of k now 25 ≡ us 25
       go none z =
           clash (is_some (us 25)) (stands 25 (subst (λ (j : ℕ). must_in (rows j) 25 ≡ true) (sym (only_report k kind i)) (unfold rows tables in refl))) (ap is_some z)
       go (some v) z =
-          let h : now 25 ≡ some (bytes_of 8 (number_in (after 46 v))) = now_in 25 i ∙ ap (held_in 25) z ∙ (unfold held_in if◌then◌else◌ in refl) in
-          let s : nm ++ (46 ∷ digits (number (bytes_of 8 (number_in (after 46 v))))) ≡ v = (unfold respelled if◌then◌else◌ in fits_same k nm 25 v (fit 25 i v z)) in
+          let h : now 25 ≡ some (bytes_of 8 (number_in (after 46 v))) = now_in 25 i ∙ ap (held_in 25) z ∙ (unfold held_in if◌then◌otherwise◌ in refl) in
+          let s : nm ++ (46 ∷ digits (number (bytes_of 8 (number_in (after 46 v))))) ≡ v = (unfold respelled if◌then◌otherwise◌ in fits_same k nm 25 v (fit 25 i v z)) in
           opened
           ∙ (λ x. over (exec_id (now_name i x)) (h x))
           ∙ ap (λ (w : List ℕ). some w) s
@@ -303,26 +303,26 @@ module _ (k : ℕ) (kind : within 16 20 k ≡ true) (us : Values) (nm : List ℕ
   again_27 i = go (us 27) refl
     where
       opened : value_of k now 27 ≡ over fixed_words (now 27)
-      opened = unfold value_of if◌then◌else◌ in refl
+      opened = unfold value_of if◌then◌otherwise◌ in refl
 
       go : (o : Option (List ℕ)) → us 27 ≡ o → value_of k now 27 ≡ us 27
       go none z = opened ∙ ap (over fixed_words) (now_in 27 i ∙ ap (held_in 27) z ∙ held_none_none 27) ∙ sym z
       go (some v) z =
-          let h : now 27 ≡ some (word_number v ∷ []) = now_in 27 i ∙ ap (held_in 27) z ∙ (unfold held_in if◌then◌else◌ in refl) in
-          let s : fixed_words (word_number v ∷ []) ≡ v = (unfold respelled if◌then◌else◌ in fits_same k nm 27 v (fit 27 i v z)) in
+          let h : now 27 ≡ some (word_number v ∷ []) = now_in 27 i ∙ ap (held_in 27) z ∙ (unfold held_in if◌then◌otherwise◌ in refl) in
+          let s : fixed_words (word_number v ∷ []) ≡ v = (unfold respelled if◌then◌otherwise◌ in fits_same k nm 27 v (fit 27 i v z)) in
           opened ∙ ap (over fixed_words) h ∙ ap (λ (w : List ℕ). some w) s ∙ sym z
 
   again_plain : (b : ℕ) → (b == 2) ≡ false → (b == 20) ≡ false → (b == 25) ≡ false → (b == 27) ≡ false → in_rows (rows k) b ≡ true → value_of k now b ≡ us b
   again_plain b n2 n20 n25 n27 i = go (us b) refl
     where
       opened : value_of k now b ≡ over (spelling b) (now b)
-      opened = unfold value_of if◌then◌else◌ in rw (n2, n20, n25, n27) refl
+      opened = unfold value_of if◌then◌otherwise◌ in rw (n2, n20, n25, n27) refl
 
       go : (o : Option (List ℕ)) → us b ≡ o → value_of k now b ≡ us b
       go none z = opened ∙ ap (over (spelling b)) (now_in b i ∙ ap (held_in b) z ∙ held_none_none b) ∙ sym z
       go (some v) z =
-          let h : now b ≡ some (unspelled b v) = now_in b i ∙ ap (held_in b) z ∙ (unfold held_in if◌then◌else◌ in rw (n2, n25, n27) refl) in
-          let q : respelled nm b v ≡ spelling b (unspelled b v) = (unfold respelled if◌then◌else◌ in rw (n2, n20, n25, n27) refl) in
+          let h : now b ≡ some (unspelled b v) = now_in b i ∙ ap (held_in b) z ∙ (unfold held_in if◌then◌otherwise◌ in rw (n2, n25, n27) refl) in
+          let q : respelled nm b v ≡ spelling b (unspelled b v) = (unfold respelled if◌then◌otherwise◌ in rw (n2, n20, n25, n27) refl) in
           opened ∙ ap (over (spelling b)) h ∙ ap (λ (w : List ℕ). some w) (sym q ∙ fits_same k nm b v (fit b i v z)) ∙ sym z
 
   again_name : in_rows (rows k) 2 ≡ true → value_of k now 2 ≡ us 2
@@ -355,9 +355,9 @@ module _ (k : ℕ) (kind : within 16 20 k ≡ true) (us : Values) (nm : List ℕ
       (λ e. to 17 e (paired_17 now
       (some_in 17 20 e (unfold rows tables in refl) refl ∙ stands 20 (subst (λ (j : ℕ). must_in (rows j) 20 ≡ true) (sym e) (unfold rows tables in refl)))
       (ap is_some (unsaid_by 17 27 e (unfold rows tables in refl) ∙ unsaid_fixed (us 19)))))
-      (λ e. to 18 e (unfold paired if◌then◌else◌ in refl))
-      (λ e. to 19 e (unfold paired if◌then◌else◌ in refl))
-      (λ e. to 20 e (unfold paired if◌then◌else◌ in refl))
+      (λ e. to 18 e (unfold paired if◌then◌otherwise◌ in refl))
+      (λ e. to 19 e (unfold paired if◌then◌otherwise◌ in refl))
+      (λ e. to 20 e (unfold paired if◌then◌otherwise◌ in refl))
       k kind refl
     where
       to : (j : ℕ) → k ≡ j → paired j now ≡ true → paired k now ≡ true
@@ -382,18 +382,18 @@ module _ (k : ℕ) (at : Values) (kind : within 16 20 k ≡ true) (ok : (b : ℕ
   read_name i =
       let j = with_name k kind i in
       let e = only_report k kind i in
-      let q : value_of k at 2 ≡ at 2 = (unfold value_of if◌then◌else◌ in rw (ne_eqb k 17 (λ z. absurd (omega arith))) refl) in
+      let q : value_of k at 2 ≡ at 2 = (unfold value_of if◌then◌otherwise◌ in rw (ne_eqb k 17 (λ z. absurd (omega arith))) refl) in
       kept k at kind ok pair us found else_none 2 j (λ z. clash false z refl) ∙ sym q ∙ sym (found 2 j) ∙ named i
 
   spelled : (b : ℕ) → in_rows (rows k) b ≡ true → (v : List ℕ) → us b ≡ some v → respelled nm b v ≡ v
   spelled b i v z =
       by_bit (λ b. in_rows (rows k) b ≡ true → us b ≡ some v → respelled nm b v ≡ v)
-      (λ i z. unfold respelled if◌then◌else◌ in refl)
-      (λ i z. unfold respelled if◌then◌else◌ in refl)
+      (λ i z. unfold respelled if◌then◌otherwise◌ in refl)
+      (λ i z. unfold respelled if◌then◌otherwise◌ in refl)
       (λ i z. let o : value_of k read 25 ≡ some (respelled nm 25 v) =
-      (unfold value_of held_in respelled if◌then◌else◌ in (λ x. over (exec_id (read_name i x)) (read_in 25 i v z x))) in
+      (unfold value_of held_in respelled if◌then◌otherwise◌ in (λ x. over (exec_id (read_name i x)) (read_in 25 i v z x))) in
       same_some o (wrote 25 i v z))
-      (λ i z. let o : value_of k read 27 ≡ some (respelled nm 27 v) = (unfold value_of held_in respelled if◌then◌else◌ in ap (over fixed_words) (read_in 27 i v z)) in
+      (λ i z. let o : value_of k read 27 ≡ some (respelled nm 27 v) = (unfold value_of held_in respelled if◌then◌otherwise◌ in ap (over fixed_words) (read_in 27 i v z)) in
       same_some o (wrote 27 i v z))
       b
       (λ n2 n20 n25 n27 i z. same_some
@@ -410,8 +410,8 @@ module _ (k : ℕ) (at : Values) (kind : within 16 20 k ≡ true) (ok : (b : ℕ
   fit_once i a b =
       let e = text_report k kind i in
       let i20 : in_rows (rows k) 20 ≡ true = subst (λ (j : ℕ). in_rows (rows j) 20 ≡ true) (sym e) (unfold rows tables in refl) in
-      let q20 : value_of k at 20 ≡ at 20 = (unfold value_of if◌then◌else◌ in rw (ne_eqb k 17 (λ z. absurd (omega arith))) refl) in
-      let q27 : value_of k at 27 ≡ over fixed_words (at 27) = (unfold value_of if◌then◌else◌ in refl) in
+      let q20 : value_of k at 20 ≡ at 20 = (unfold value_of if◌then◌otherwise◌ in rw (ne_eqb k 17 (λ z. absurd (omega arith))) refl) in
+      let q27 : value_of k at 27 ≡ over fixed_words (at 27) = (unfold value_of if◌then◌otherwise◌ in refl) in
       let a20 : is_some (at 20) ≡ true = sym (ap is_some (found 20 i20 ∙ q20)) ∙ a in
       let a27 : is_some (at 27) ≡ true = sym (ap is_some (found 27 i ∙ q27) ∙ some_over fixed_words (at 27)) ∙ b in
       let p : paired 16 at ≡ true = subst (λ (j : ℕ). paired j at ≡ true) e pair in

@@ -4,7 +4,7 @@ use Rattle.std.specs.Prelude.{◌≡◌, ℕ, ◌<◌, Bool, true, false, ◌&&�
 use Rattle.std.proofs.Common.{sym, ◌∙◌, inl, inr, ⊎_elim, arith, eqb-true, eq-eqb, ne_eqb}
 use Rattle.std.proofs.Math.Path.{ap}
 use Rattle.std.proofs.Math.Decide.{ℕ_discrete}
-use Rattle.prelude.specs.Cases.{if◌then◌else◌, both_true, both_false}
+use Rattle.prelude.specs.Cases.{if◌then◌otherwise◌, both_true, both_false}
 use Rattle.format.specs.Codes.{within}
 use Rattle.fix_words.specs.Lists.{same}
 use Rattle.fix_words.specs.Spelling.{Field, fields_in}
@@ -27,7 +27,7 @@ tags_in t =
 -- ---- MsgType
 
 kind_cases : (c : ℕ) → (kind_of c ≡ 0) ⊎ ((within 16 20 (kind_of c) ≡ true) × (type_of (kind_of c) ≡ c))
-unfolding kind_of type_of types if◌then◌else◌
+unfolding kind_of type_of types if◌then◌otherwise◌
 kind_cases c = go (ℕ_discrete c 56) (ℕ_discrete c 57) (ℕ_discrete c 68) (ℕ_discrete c 70) (ℕ_discrete c 71)
   where
     go : Dec (c ≡ 56) → Dec (c ≡ 57) → Dec (c ≡ 68) → Dec (c ≡ 70) → Dec (c ≡ 71) → (kind_of c ≡ 0) ⊎ ((within 16 20 (kind_of c) ≡ true) × (type_of (kind_of c) ≡ c))

@@ -1,9 +1,9 @@
 -- The number that a value's digits are, read digit by digit, and two texts compared: laws for the reader's code. Rests on decimal and Lists.
-use Rattle.std.specs.Prelude.{◌≡◌, ℕ, suc, ◌+◌, ◌-◌, ◌*◌, ◌<◌, ◌≤◌, Bool, true, false, ◌&&◌, List, [], ◌∷◌, ◌++◌, length, take, drop, replicate, ◌≢◌, nat_le, slice_index, refl}
+use Rattle.std.specs.Prelude.{◌≡◌, ℕ, ◌+◌, ◌-◌, ◌*◌, ◌<◌, ◌≤◌, Bool, true, false, ◌&&◌, List, [], ◌∷◌, length, take, drop, replicate, ◌≢◌, nat_le, slice_index, refl}
 use Rattle.std.proofs.Common.{sym, ap, ◌∙◌, add-one, arith, le-leb, take-append-drop, take-suc, take_all, take_at, ext_get_or}
 use Rattle.std.proofs.Math.Decide.{ℕ_discrete}
 use Rattle.std.proofs.lemmas.Bool.{lt-leb}
-use Rattle.prelude.specs.Cases.{if◌then◌else◌, split_if, if_true, if_false, both_hold, both_false}
+use Rattle.prelude.specs.Cases.{if◌then◌otherwise◌, split_if, if_true, if_false, both_hold, both_false}
 use Rattle.prelude.specs.Number.{bound, bound_le}
 use Rattle.prelude.specs.Span.{splice}
 use Rattle.decimal.specs.Decimal.{is_digit, read_from, number_in, written}
@@ -16,7 +16,7 @@ use Rattle.fix_words.specs.Laws.Lists.{same_true, same_self}
 
 -- one byte more
 unfoldable pub step_of : ℕ → ℕ → ℕ
-step_of n c = if is_digit c then n * 10 + (c - 48) else n
+step_of n c = if is_digit c then n * 10 + (c - 48) otherwise n
 
 abbrev pub word : ℕ
 word = 18446744073709551616

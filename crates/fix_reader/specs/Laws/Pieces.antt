@@ -1,19 +1,18 @@
 -- The first field of bytes, as code finds it: a tag of at most three digits, '=', printing bytes, SOH; and that there is no other way to read it.
 -- Rests on Spelling.
-use Rattle.std.specs.Prelude.{◌≡◌, ℕ, zero, suc, ◌+◌, ◌-◌, ◌/◌, ◌%◌, ◌<◌, ◌≤◌, true, ◌⊎◌, List, [], ◌∷◌, ◌++◌, length, drop, ◌≢◌, slice_index, slice_index_or, refl}
+use Rattle.std.specs.Prelude.{◌≡◌, ℕ, suc, ◌+◌, ◌-◌, ◌/◌, ◌%◌, ◌<◌, ◌≤◌, true, ◌⊎◌, List, [], ◌∷◌, ◌++◌, length, drop, ◌≢◌, slice_index, slice_index_or}
 use Rattle.std.proofs.Math.Path.{sym, ap}
 use Rattle.std.proofs.Common.{◌∙◌, append_assoc, inl, inr, ⊎_elim, arith, add-one, leb-true, le-leb, lit<, length-append, length-drop, take-append-drop, drop-cons, get_or-drop, get_or-append-add, drop-drop}
 use Rattle.std.proofs.Math.Decide.{dec_lt}
 use Rattle.std.proofs.Math.ListN.{get_or-eq_default, get_or-append}
 use Rattle.prelude.specs.Span.{span, get_span, length_span}
-use Rattle.decimal.specs.Decimal.{digits, lowest, number_in}
-use Rattle.decimal.specs.Laws.Back.{digits_back}
+use Rattle.decimal.specs.Decimal.{digits, lowest}
 use Rattle.decimal.specs.Laws.Width.{digits_one, digits_more}
 use Rattle.fix_reader.specs.declared.Tag.{Tag}
 use Rattle.fix_reader.specs.declared.Piece.{Piece}
-use Rattle.fix_words.specs.Lists.{every, is_print, before, after}
+use Rattle.fix_words.specs.Lists.{every, is_print, after}
 use Rattle.fix_words.specs.Spelling.{Field, field, soh, equals, piece}
-use Rattle.fix_words.specs.Laws.Lists.{before_cut, after_cut, every_below, below_every}
+use Rattle.fix_words.specs.Laws.Lists.{after_cut, every_below, below_every}
 use Rattle.fix_words.specs.Laws.Digits.{digits_not_above}
 
 -- ---- a byte that is not 0 stands within the list

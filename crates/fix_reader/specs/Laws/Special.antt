@@ -8,7 +8,7 @@ use native.Mathlib.Omega.{arith}
 use borrow.Author.Tests.{eq-eqb, lt-ltb, le-leb, leb-true}
 use Rattle.std.proofs.Math.ListN.{get_or-append}
 use Rattle.std.proofs.Math.Seq.{split_at}
-use Rattle.prelude.specs.Cases.{if◌then◌else◌, if_true, if_false, maybe_none, maybe_some, both_true, both_hold, test_same}
+use Rattle.prelude.specs.Cases.{if◌then◌otherwise◌, if_true, if_false, maybe_none, maybe_some, both_true, both_hold, test_same}
 use Rattle.prelude.specs.Below.{all_below, all_elim, all_intro, first_below, First, first_some, first_none, first_more, first_hit}
 use Rattle.prelude.specs.Number.{number, bytes_of, length_bytes}
 use Rattle.prelude.specs.Bytes.{bytes_of_lem}
@@ -21,7 +21,7 @@ use Rattle.fix_words.specs.Lists.{every, same, after}
 use Rattle.fix_words.specs.Values.{texts, words_of, word_number, is_plain, places, spelling, unspelled, held_in, none_word}
 use Rattle.fix_words.specs.Message.{shape_at, range_at, text_at}
 use Rattle.fix_words.specs.Laws.Lists.{every_below, below_every}
-use Rattle.fix_words.specs.Laws.Kinds.{right}
+use Rattle.fix_words.proofs.Laws.Kinds.{right}
 use Rattle.fix_table.specs.Table.{spoken}
 use Rattle.fix_reader.specs.Laws.Numbers.{word}
 use Rattle.fix_reader.specs.Laws.Wrapping.{two_low, low_word, low_words}
@@ -38,11 +38,11 @@ module _ (k : ℕ) (nm v : List ℕ) where
     c = bytes_of 8 (number_in (after 46 v))
 
     exec_right : right k 25 (some c) ≡ true
-    unfolding size range fields in_range if◌then◌else◌
+    unfolding size range fields in_range if◌then◌otherwise◌
     exec_right = both_hold _ _ (both_hold _ _ stand (both_hold _ _ (bytes_every 8 (number_in (after 46 v))) (eq-eqb (length c) 8 (length_bytes 8 (number_in (after 46 v)))))) refl
 
     pub exec_fits : fits k nm 25 v ≡ same (nm ++ (46 ∷ digits (number_in (after 46 v) % word))) v
-    unfolding fits held_in respelled if◌then◌else◌
+    unfolding fits held_in respelled if◌then◌otherwise◌
     exec_fits =
         ap (λ (b : Bool). b && same (nm ++ (46 ∷ digits (number c))) v) exec_right
         ∙ ap (λ (n : ℕ). same (nm ++ (46 ∷ digits n)) v) (low_word (number_in (after 46 v)))
@@ -52,11 +52,11 @@ module _ (k : ℕ) (nm v : List ℕ) where
     d = bytes_of 16 (number_in v)
 
     price_right_lem : right k 26 (some d) ≡ true
-    unfolding size range fields in_range if◌then◌else◌
+    unfolding size range fields in_range if◌then◌otherwise◌
     price_right_lem = both_hold _ _ (both_hold _ _ stand (both_hold _ _ (bytes_every 16 (number_in v)) (eq-eqb (length d) 16 (length_bytes 16 (number_in v))))) refl
 
     pub price_fits : fits k nm 26 v ≡ same (decimal 8 (two_low (number_in v))) v
-    unfolding fits held_in respelled unspelled spelling is_plain places size range fields if◌then◌else◌
+    unfolding fits held_in respelled unspelled spelling is_plain places size range fields if◌then◌otherwise◌
     price_fits =
         ap (λ (b : Bool). b && same (decimal 8 (number d)) v) price_right_lem
         ∙ ap (λ (n : ℕ). same (decimal 8 n) v) (low_words (number_in v))
@@ -110,14 +110,14 @@ module _ (v : List ℕ) where
     n = word_number v
 
     words_right : 1 ≤ n → n < 19 → right k 27 (some (n ∷ [])) ≡ true
-    unfolding size range fields in_range value if◌then◌else◌
+    unfolding size range fields in_range value if◌then◌otherwise◌
     words_right l h =
         let z : n + 256 * 0 ≡ n = omega arith in
         both_hold _ _ (both_hold _ _ stand (both_hold _ _ (both_hold _ _ (lt-ltb n 256 (omega arith)) refl) refl))
         (both_hold _ _ (both_hold _ _ (ap (within 1 18) z ∙ both_hold _ _ (le-leb 1 n l) (le-leb n 18 (omega arith))) refl) refl)
 
     words_least : right k 27 (some (n ∷ [])) ≡ true → 1 ≤ n
-    unfolding size range fields in_range value if◌then◌else◌
+    unfolding size range fields in_range value if◌then◌otherwise◌
     words_least e =
         let z : n + 256 * 0 ≡ n = omega arith in
         let h = both_true (shape_at k 27 (some (n ∷ []))) (range_at 27 (some (n ∷ [])) && text_at 27 (some (n ∷ []))) e in
@@ -126,7 +126,7 @@ module _ (v : List ℕ) where
         omega (arith, leb-true 1 (n + 256 * 0) (both_true (nat_le 1 (n + 256 * 0)) (nat_le (n + 256 * 0) 18) w.0).0)
 
     words_again : fits k nm 27 v ≡ (right k 27 (some (n ∷ [])) && same (words_of n) v)
-    unfolding fits held_in respelled if◌then◌else◌
+    unfolding fits held_in respelled if◌then◌otherwise◌
     words_again = refl
 
     pub words_fit : fits k nm 27 v ≡ nat_le 1 (word_number v)

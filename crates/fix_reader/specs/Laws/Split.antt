@@ -1,13 +1,13 @@
 -- Bytes cut into fields from the front, as code does it: what it has when it came to the end, and that bytes on which it stops spell no
 -- fields. Rests on Reading and Pieces.
-use Rattle.std.specs.Prelude.{◌≡◌, ℕ, zero, suc, ◌+◌, ◌-◌, ◌<◌, ◌≤◌, true, List, [], ◌∷◌, ◌++◌, length, get_or, take, drop, replicate, ◌≢◌, nat_lt, slice_index, slice_index_or, slice_set, refl}
+use Rattle.std.specs.Prelude.{◌≡◌, ℕ, ◌+◌, ◌-◌, ◌<◌, ◌≤◌, true, List, [], ◌∷◌, ◌++◌, length, get_or, take, drop, replicate, ◌≢◌, nat_lt, slice_index, slice_index_or, slice_set, refl}
 use Rattle.std.proofs.Math.Path.{sym, ap}
-use Rattle.std.proofs.Common.{◌∙◌, append_assoc, append-nil, add-one, leb-true, ne_eqb, lt-ltb, le-ltb, lit<, length-append, length-set, drop_of_length-le, drop-drop, take_at, get_or-set_same, get_or-set_other, ext_get_or}
+use Rattle.std.proofs.Common.{◌∙◌, append_assoc, append-nil, leb-true, ne_eqb, lt-ltb, le-ltb, lit<, length-append, length-set, drop_of_length-le, drop-drop, take_at, get_or-set_same, get_or-set_other, ext_get_or}
 use Rattle.std.proofs.Math.Decide.{dec_lt, ℕ_discrete}
 use native.Mathlib.Omega.{arith}
 use Rattle.std.proofs.Math.ListN.{length-drop, get_or-eq_default, get_or-append}
-use Rattle.std.proofs.lemmas.List.{length-replicate, get_or-replicate, take-append-le, get_or_at}
-use Rattle.prelude.specs.Cases.{if◌then◌else◌, if_true, if_false, both_true, both_hold}
+use Rattle.std.proofs.lemmas.List.{get_or-replicate, take-append-le, get_or_at}
+use Rattle.prelude.specs.Cases.{if_true, if_false, both_hold}
 use Rattle.prelude.specs.Lists.{list_below, length_list, get_list}
 use Rattle.prelude.specs.Span.{span, length_span}
 use Rattle.decimal.specs.Decimal.{digits}
@@ -18,7 +18,7 @@ use Rattle.fix_claims.specs.Reading.{no_field, tag_of, place_of, length_of, tabl
 use Rattle.fix_words.specs.Laws.Lists.{every_append, every_map, after_cut}
 use Rattle.fix_words.specs.Laws.Digits.{digits_not}
 use Rattle.fix_words.specs.Laws.Spelling.{spellings_append}
-use Rattle.fix_reader.specs.Laws.Pieces.{Plain, TagAt, PieceAt}
+use Rattle.fix_reader.specs.Laws.Pieces.{Plain, PieceAt}
 
 abbrev pub Plains : List Field → Type 0
 Plains [] = Unit {0}

@@ -3,7 +3,7 @@ use Rattle.std.specs.Prelude.{◌≡◌, ℕ, zero, suc, ◌+◌, ◌<◌, Bool,
 use Rattle.std.proofs.Math.Path.{refl, sym, ap}
 use Rattle.std.proofs.Common.{◌∙◌, arith, add-one, eq-eqb, drop_of_length-le, drop-cons, get_or-drop}
 use Rattle.std.proofs.Math.Option.{Option, none, some}
-use Rattle.prelude.specs.Cases.{if◌then◌else◌, if_true, if_false}
+use Rattle.prelude.specs.Cases.{if◌then◌otherwise◌, if_true, if_false}
 use Rattle.fix_words.specs.Spelling.{Field}
 use Rattle.fix_words.specs.Rows.{Row, leads, rest, in_rows}
 use Rattle.fix_words.specs.Values.{rows}
@@ -21,7 +21,7 @@ asked_of fs k = asked_by k (value_at fs 7)
 
 -- the walk from where it stands
 unfoldable pub walk_on : List Field → ℕ → Taken → List Row → Option (List Field)
-walk_on fs k t rs = if t.goes then walk (asked_of fs k) t.seen rs (drop t.next fs) else none
+walk_on fs k t rs = if t.goes then walk (asked_of fs k) t.seen rs (drop t.next fs) otherwise none
 
 abbrev pub walk_all : List Field → ℕ → Option (List Field)
 walk_all fs k = walk (asked_of fs k) false (rows k) (drop 7 fs)

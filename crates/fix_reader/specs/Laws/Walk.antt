@@ -1,17 +1,17 @@
 -- The rows of a table walked over fields, as the reader does it: what it takes is what `body` writes, and it takes all that `body` writes.
 -- Rests on Rows.
-use Rattle.std.specs.Prelude.{◌≡◌, ℕ, Bool, true, false, not, ◌&&◌, ◌||◌, ◌⊎◌, List, [], ◌∷◌, ◌==◌, nat_eq, slice_index_or}
+use Rattle.std.specs.Prelude.{◌≡◌, ℕ, Bool, true, false, not, ◌&&◌, ◌||◌, List, [], ◌∷◌, ◌==◌, nat_eq, slice_index_or}
 use Rattle.std.proofs.Math.Path.{refl, sym, ap, subst}
-use Rattle.std.proofs.Common.{◌∙◌, inl, inr, arith, eqb-true, eq-eqb}
+use Rattle.std.proofs.Common.{◌∙◌, eqb-true, eq-eqb}
 use Rattle.std.proofs.Math.Logic.{⊎_elim}
 use Rattle.std.proofs.Math.Option.{Option, none, some}
 use Rattle.std.proofs.lemmas.Bool.{not-true}
-use Rattle.prelude.specs.Cases.{if◌then◌else◌, if_true, if_false, is_some, clash, both_true, both_false, either_true, either_false, none_some, same_some}
+use Rattle.prelude.specs.Cases.{if◌then◌otherwise◌, if_true, if_false, is_some, clash, both_true, both_false, either_true, none_some, same_some}
 use Rattle.fix_words.specs.Spelling.{Field, field}
 use Rattle.fix_words.specs.Rows.{Row, Values, field_of, body, leads, first, rest, value_in, in_rows}
 use Rattle.fix_claims.specs.Reading.{no_field}
 use Rattle.fix_words.specs.Laws.Rows.{apart, all_apart, stand, missing, leads_apart, body_same, value_none, or_right}
-use Rattle.fix_words.specs.Laws.Kinds.{must_in, must_row}
+use Rattle.fix_words.proofs.Laws.Kinds.{must_in, must_row}
 
 -- what is asked of the value of a bit, where the venue's text stood or not
 abbrev pub Asked : Type 0
@@ -24,8 +24,8 @@ first_value fs = (slice_index_or fs 0 no_field).value
 unfoldable pub walk : Asked → Bool → List Row → List Field → Option (List Field)
 walk t seen [] fs = some fs
 walk t seen (r ∷ rows) fs =
-    if leads r.tag fs then (if t seen r.bit (first_value fs) then walk t (seen || r.bit == 20) rows (rest fs) else none) else
-    if r.must then none else
+    if leads r.tag fs then (if t seen r.bit (first_value fs) then walk t (seen || r.bit == 20) rows (rest fs) otherwise none) otherwise
+    if r.must then none otherwise
     walk t seen rows fs
 
 -- ---- one row
@@ -37,7 +37,7 @@ data Step (t : Asked) (seen : Bool) (r : Row) (rows : List Row) (gs out : List F
   passed : leads r.tag gs ≡ false → r.must ≡ false → walk t seen rows gs ≡ some out → Step t seen r rows gs out
 
 step : (t : Asked) (seen : Bool) (r : Row) (rows : List Row) (gs out : List Field) → walk t seen (r ∷ rows) gs ≡ some out → Step t seen r rows gs out
-unfolding walk if◌then◌else◌
+unfolding walk if◌then◌otherwise◌
 step t seen r rows gs out e = go (leads r.tag gs) refl (t seen r.bit (first_value gs)) refl r.must refl
   where
     go : (x : Bool) → leads r.tag gs ≡ x → (y : Bool) → t seen r.bit (first_value gs) ≡ y → (z : Bool) → r.must ≡ z → Step t seen r rows gs out

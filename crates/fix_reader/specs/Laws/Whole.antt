@@ -2,20 +2,19 @@
 -- Checks and Split.
 use Rattle.std.specs.Prelude.{◌≡◌, ℕ, Bool, true, false, ◌&&◌, List, [], ◌∷◌, ◌++◌, nat_le, nat_lt}
 use Rattle.std.proofs.Math.Path.{refl}
-use Rattle.std.proofs.Common.{sym, ap, ◌∙◌, ltb-true}
+use Rattle.std.proofs.Common.{ltb-true}
 use Rattle.std.proofs.Math.Option.{Option, none, some}
-use Rattle.prelude.specs.Cases.{if◌then◌else◌, split_if, both_true, both_hold}
+use Rattle.prelude.specs.Cases.{split_if, both_true, both_hold}
 use Rattle.format.specs.Codes.{within}
 use Rattle.fix_words.specs.Lists.{every, is_print, same}
-use Rattle.fix_words.specs.Spelling.{Field, field, spellings, fields_in, printable}
+use Rattle.fix_words.specs.Spelling.{Field, spellings, fields_in, printable}
 use Rattle.fix_words.specs.Rows.{Row, Values, field_of, body}
 use Rattle.fix_words.specs.Values.{tables, rows, value_of}
-use Rattle.fix_words.specs.Message.{Writing, stamp, inner, front, trailer, framed, fields_of, bytes_for, shaped, is_writing, typed, ranged, texted, loose_of, is_message}
+use Rattle.fix_words.specs.Message.{Writing, stamp, inner, front, trailer, framed, fields_of, bytes_for, shaped, is_writing, typed, loose_of, is_message}
 use Rattle.fix_words.specs.Laws.Lists.{same_true}
-use Rattle.fix_words.specs.Laws.Kinds.{by_kind_lem}
-use Rattle.fix_words.specs.Laws.Trip.{fields_print}
-use Rattle.fix_claims.specs.Laws.Table.{fields_few}
-use Rattle.fix_reader.specs.Laws.Pieces.{Plain}
+use Rattle.fix_words.proofs.Laws.Kinds.{by_kind_lem}
+use Rattle.fix_words.proofs.Laws.Trip.{fields_print}
+use Rattle.fix_claims.proofs.Laws.Table.{fields_few}
 use Rattle.fix_reader.specs.Laws.Split.{Plains, NoFields}
 
 -- ---- tags of at most three digits

@@ -4,7 +4,7 @@ use Rattle.std.specs.Prelude.{◌≡◌, ℕ, zero, suc, ◌+◌, ◌-◌, ◌*�
 use Rattle.std.proofs.Common.{sym, ap, ◌∙◌, arith, lit<}
 use Rattle.std.proofs.Math.Nat.{add-mod, mod-add-mod, mod-mod, add-mul-div_right, mul-add-mod_self_right}
 use Rattle.std.proofs.Math.Arith.{digits_div, digits_mod}
-use Rattle.prelude.specs.Cases.{if◌then◌else◌, if_true, if_false}
+use Rattle.prelude.specs.Cases.{if◌then◌otherwise◌, if_true, if_false}
 use Rattle.prelude.specs.Number.{number, bytes_of, bound}
 use Rattle.decimal.specs.Decimal.{is_digit}
 use Rattle.fix_reader.specs.Laws.Numbers.{word, step_of}
@@ -91,13 +91,13 @@ over_word x low over e h =
 
 -- the upper word of two
 unfoldable pub step_high : (low high c : ℕ) → ℕ
-step_high low high c = if is_digit c then (high * 10 + (low * 10 + (c - 48)) / word) % word else high
+step_high low high c = if is_digit c then (high * 10 + (low * 10 + (c - 48)) / word) % word otherwise high
 
 pub step_word : (n c : ℕ) → step_of (n % word) c % word ≡ step_of n c % word
 unfolding step_of
 step_word n c = go (is_digit c) refl
   where
-    go : (b : Bool) → is_digit c ≡ b → (if is_digit c then n % word * 10 + (c - 48) else n % word) % word ≡ (if is_digit c then n * 10 + (c - 48) else n) % word
+    go : (b : Bool) → is_digit c ≡ b → (if is_digit c then n % word * 10 + (c - 48) otherwise n % word) % word ≡ (if is_digit c then n * 10 + (c - 48) otherwise n) % word
     go true e =
         ap (λ (x : ℕ). x % word) (if_true (is_digit c) (n % word * 10 + (c - 48)) (n % word) e)
         ∙ sym (wrap_ten n (c - 48))
@@ -115,7 +115,7 @@ step_high_lem n c = go (is_digit c) refl
     d = c - 48
 
     go : (b : Bool) → is_digit c ≡ b
-        → (if is_digit c then (n / word % word * 10 + (n % word * 10 + (c - 48)) / word) % word else n / word % word) ≡ (if is_digit c then n * 10 + (c - 48) else n) / word % word
+        → (if is_digit c then (n / word % word * 10 + (n % word * 10 + (c - 48)) / word) % word otherwise n / word % word) ≡ (if is_digit c then n * 10 + (c - 48) otherwise n) / word % word
     go true e =
         let o : ℕ = (n % word * 10 + (c - 48)) / word in
         let t : o + n / word * 10 ≡ n / word * 10 + o = omega arith in

@@ -5,7 +5,7 @@ use Rattle.std.proofs.Common.{sym, ap, ◌∙◌, ⊎_elim, arith, eqb-true, ne_
 use Rattle.std.proofs.Math.Option.{Option, none, some}
 use Rattle.std.proofs.Math.Decide.{ℕ_discrete}
 use Rattle.std.proofs.lemmas.Bool.{not-true}
-use Rattle.prelude.specs.Cases.{if◌then◌else◌, if_true, if_false, maybe, clash, both_true, either_true, either_false}
+use Rattle.prelude.specs.Cases.{if◌then◌otherwise◌, if_true, if_false, maybe, clash, both_true, either_true, either_false}
 use Rattle.prelude.specs.Below.{all_below, first_below, all_elim}
 use Rattle.prelude.specs.Number.{number, bytes_of, Bytes, bytes_number}
 use Rattle.bits.specs.Map.{bit}
@@ -63,7 +63,7 @@ unspelled_back k b c e = go (is_plain b) refl
 
 pub held_plain : (k b : ℕ) (o : Option (List ℕ)) → eqb b 2 ≡ false → eqb b 25 ≡ false → eqb b 27 ≡ false → shape_at k b o ≡ true
     → held_in b (over (spelling b) o) ≡ o
-unfolding held_in if◌then◌else◌
+unfolding held_in if◌then◌otherwise◌
 held_plain k b none x y z e = rw (x, y, z) refl
 held_plain k b (some c) x y z e = rw (x, y, z) (ap {B = Option (List ℕ)} some (unspelled_back k b c e))
 
@@ -74,7 +74,7 @@ held_name none e = refl
 held_name (some c) e = if_false (same c none_word) _ _ (not-true _ (both_true (every is_alnum c) _ (both_true (in_range (range 2) (value 2 c)) _ e).1).1)
 
 pub held_none : (o : Option (List ℕ)) → range_at 2 o ≡ true → unless_none (some (or_else none_word o)) ≡ o
-unfolding if◌then◌else◌
+unfolding if◌then◌otherwise◌
 held_none none e = refl
 held_none (some c) e = held_name (some c) e
 
@@ -93,7 +93,7 @@ name_point none e = refl
 name_point (some c) e = every_map is_alnum (is_not 46) alnum_point c (both_true (every is_alnum c) _ (both_true (in_range (range 2) (value 2 c)) _ e).1).0
 
 pub held_exec : (k : ℕ) (name o : Option (List ℕ)) → range_at 2 name ≡ true → shape_at k 25 o ≡ true → held_in 25 (over (exec_id name) o) ≡ o
-unfolding held_in if◌then◌else◌ size fields
+unfolding held_in if◌then◌otherwise◌ size fields
 held_exec k name none r e = refl
 held_exec k name (some c) r e =
     ap {B = Option (List ℕ)} some
@@ -104,7 +104,7 @@ held_exec k name (some c) r e =
 -- ---- the fixed texts
 
 word_back : (n : ℕ) → n < 19 → word_number (words_of n) ≡ n
-unfolding word_number words_of texts first_below maybe all_below if◌then◌else◌
+unfolding word_number words_of texts first_below maybe all_below if◌then◌otherwise◌
 word_back n h = eqb-true _ n (all_elim (λ k. eqb (word_number (words_of k)) k) 19 refl n h)
 
 pub one_byte : (c : List ℕ) → length c ≡ 1 → c ≡ get_or c 0 0 ∷ []
@@ -116,7 +116,7 @@ pub number_one : (c : List ℕ) → length c ≡ 1 → number (take 8 c) ≡ get
 number_one c e = ap (λ (l : List ℕ). number (take 8 l)) (one_byte c e) ∙ omega arith
 
 pub held_words : (k : ℕ) (o : Option (List ℕ)) → shape_at k 27 o ≡ true → range_at 27 o ≡ true → held_in 27 (over fixed_words o) ≡ o
-unfolding held_in if◌then◌else◌ size range fields in_range value
+unfolding held_in if◌then◌otherwise◌ size range fields in_range value
 held_words k none e r = refl
 held_words k (some c) e r =
     let l : length c ≡ 1 = shape_long k 27 c e refl in

@@ -4,12 +4,12 @@ use Rattle.std.proofs.Common.{sym, ap, ◌∙◌, inl, inr, arith, lt_of_le_of_l
 use Rattle.std.proofs.Math.Nat.{div-div-eq-div-mul}
 use Rattle.std.specs.Int.Bits.{bit_and}
 use Rattle.std.proofs.lemmas.Nat.{and_le_r}
-use Rattle.prelude.specs.Cases.{if◌then◌else◌, split_if}
+use Rattle.prelude.specs.Cases.{if◌then◌otherwise◌, split_if}
 use Rattle.bits.specs.Map.{digit, bit, contains}
 use Rattle.bits.specs.Laws.Map.{digit_two, digit_and, two}
 
 abbrev pub one : Bool → ℕ
-one x = if x then 1 else 0
+one x = if x then 1 otherwise 0
 
 one_small : (x : Bool) → one x < 2
 one_small x = split_if (λ (n : ℕ). n < 2) x (λ e. omega arith) (λ e. omega arith)
@@ -64,7 +64,7 @@ contains_all m n h f =
 
 -- the bits of a map that was made
 pub bit_one : (p : ℕ → Bool) (j : ℕ) → j < 32 → bit (map_up p 0 32) j ≡ p j
-unfolding if◌then◌else◌
+unfolding if◌then◌otherwise◌
 bit_one p j h =
     let z : 0 + j ≡ j = omega arith in
     ap (λ (d : ℕ). eqb d 1) (map_digit p 0 32 j h ∙ ap (λ (i : ℕ). one (p i)) z) ∙ go (p j)

@@ -9,7 +9,7 @@ use Rattle.std.proofs.Math.Logic.{⊎_elim}
 use Rattle.std.proofs.Math.Option.{Option, none, some}
 use borrow.Author.Tests.{eqb-true, eq-eqb, not-true}
 use Rattle.std.proofs.Math.Dec.{eqb}
-use Rattle.prelude.specs.Cases.{if◌then◌else◌, split_if, if_true, if_false, is_some, clash, both_true, both_hold, either_true, either_false}
+use Rattle.prelude.specs.Cases.{if◌then◌otherwise◌, split_if, if_true, if_false, is_some, clash, both_true, both_hold, either_true, either_false}
 use Rattle.fix_words.specs.Lists.{every, is_print}
 use Rattle.fix_words.specs.Spelling.{Field, field, printable}
 use Rattle.fix_words.specs.Rows.{Row, Values, field_of, body, leads, first, rest, value_in, in_rows}
@@ -68,7 +68,7 @@ module _ (vs : Values) (last : ℕ) (w : List ℕ) (fs : List Field) where
       go (vs r.bit) refl h.0 g.0 g.1 (value_back rows h.1 g.1 b)
     where
       at : (o : Option (List ℕ)) → vs r.bit ≡ o → (in_rows rows b ≡ true → value_in rows (body rows vs behind) b ≡ vs b)
-          → (x : Bool) → eqb r.bit b ≡ x → (if eqb r.bit b then o else value_in rows (body rows vs behind) b) ≡ vs b
+          → (x : Bool) → eqb r.bit b ≡ x → (if eqb r.bit b then o otherwise value_in rows (body rows vs behind) b) ≡ vs b
       at o z later true e = if_true (eqb r.bit b) _ _ e ∙ sym z ∙ ap vs (eqb-true r.bit b e)
       at o z later false e =
           if_false (eqb r.bit b) _ _ e

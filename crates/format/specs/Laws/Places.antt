@@ -5,7 +5,7 @@ use Rattle.std.proofs.Common.{◌∙◌, le_refl, arith, length-drop}
 use mathlib.Core.List.{List, []}
 use Rattle.std.proofs.Math.Decide.{le_ind}
 use Rattle.std.proofs.Math.ListN.{length}
-use Rattle.prelude.specs.Cases.{if◌then◌else◌, split_if, if_true, if_false}
+use Rattle.prelude.specs.Cases.{if◌then◌otherwise◌, split_if, if_true, if_false}
 use Rattle.prelude.specs.Span.{span_none, length_span}
 use Rattle.prelude.specs.Number.{number}
 use Rattle.bits.specs.Map.{bit}
@@ -64,9 +64,9 @@ value_none b = split_if (λ (n : ℕ). n ≡ 0) (is_text_bit b) (λ e. refl) (λ
 
 -- a field's worth by its bytes
 pub value_text : (b : ℕ) (l : List ℕ) → is_text_bit b ≡ true → value b (strip b l) ≡ length l - 1
-unfolding value strip if◌then◌else◌
+unfolding value strip if◌then◌otherwise◌
 value_text b l e = rw e (length-drop 1 l)
 
 pub value_number : (b : ℕ) (l : List ℕ) → is_text_bit b ≡ false → value b (strip b l) ≡ number (take 8 l)
-unfolding value strip if◌then◌else◌
+unfolding value strip if◌then◌otherwise◌
 value_number b l e = rw e refl

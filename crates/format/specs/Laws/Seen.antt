@@ -4,7 +4,7 @@ use Rattle.std.specs.Prelude.{ℕ, ◌+◌, ◌-◌, ◌≤◌, ◌<◌, ◌≡�
 use Rattle.std.proofs.Math.Path.{refl, sym, ap}
 use Rattle.std.proofs.Common.{◌∙◌, add-one, arith}
 use mathlib.Core.List.{List}
-use Rattle.prelude.specs.Cases.{if◌then◌else◌, split_if}
+use Rattle.prelude.specs.Cases.{if◌then◌otherwise◌, split_if}
 use Rattle.prelude.specs.Span.{span}
 use Rattle.bits.specs.Map.{bit}
 use Rattle.format.specs.Format.{range, in_range}
@@ -22,10 +22,10 @@ pub record Rising (s at : List ℕ) : Type 0 where
 
 -- what field b holds between its places, 0 where its bit does not stand, and whether it is in its range
 unfoldable pub held_at : List ℕ → ℕ → List ℕ → ℕ → ℕ
-held_at s m at b = if bit m b then value b (strip b (between s at b)) else 0
+held_at s m at b = if bit m b then value b (strip b (between s at b)) otherwise 0
 
 unfoldable pub right_in : List ℕ → ℕ → List ℕ → ℕ → Bool
-right_in s m at b = if bit m b then in_range (range b) (value b (strip b (between s at b))) else true
+right_in s m at b = if bit m b then in_range (range b) (value b (strip b (between s at b))) otherwise true
 
 -- ---- laws
 

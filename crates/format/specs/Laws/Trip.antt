@@ -10,7 +10,7 @@ use Rattle.std.proofs.Math.ListN.{length, length-append}
 use Rattle.std.proofs.Math.Seq.{get_or-append_seam, drop-append_seam, take-append_seam}
 use native.Mathlib.Omega.{arith}
 use Rattle.std.proofs.Math.Decide.{le_ind}
-use Rattle.prelude.specs.Cases.{if◌then◌else◌}
+use Rattle.prelude.specs.Cases.{if◌then◌otherwise◌}
 use Rattle.prelude.specs.Span.{span, span_none, span_join}
 use Rattle.bits.specs.Map.{bit}
 use Rattle.format.specs.Format.{size, is_text_bit}
@@ -23,7 +23,7 @@ abbrev pub Fits : ℕ → List ℕ → Type 0
 Fits b q = is_text_bit b ≡ false → length q ≡ size b
 
 extent_encoded : (P q t : List ℕ) (b : ℕ) → Fits b q → extent (P ++ (encode b q ++ t)) b (length P) ≡ length (encode b q)
-unfolding extent encode if◌then◌else◌
+unfolding extent encode if◌then◌otherwise◌
 extent_encoded P q t b ok = go (is_text_bit b) refl
   where
     go : (x : Bool) → is_text_bit b ≡ x → extent (P ++ (encode b q ++ t)) b (length P) ≡ length (encode b q)
@@ -32,7 +32,7 @@ extent_encoded P q t b ok = go (is_text_bit b) refl
 
 next_field : (P t : List ℕ) (m : ℕ) (fs : ℕ → List ℕ) (b : ℕ) → (bit m b ≡ true → Fits b (fs b))
     → next (P ++ (field_bytes m fs b ++ t)) m b (length P) ≡ length P + length (field_bytes m fs b)
-unfolding next field_bytes if◌then◌else◌
+unfolding next field_bytes if◌then◌otherwise◌
 next_field P t m fs b ok = go (bit m b) refl
   where
     go : (x : Bool) → bit m b ≡ x → next (P ++ (field_bytes m fs b ++ t)) m b (length P) ≡ length P + length (field_bytes m fs b)
@@ -59,7 +59,7 @@ module _ (o m : ℕ) (fs : ℕ → List ℕ) (H : List ℕ) (at : length H ≡ o
       let P = H ++ body m fs b in
       let e : H ++ ((body m fs b ++ f) ++ t) ≡ P ++ (f ++ t) = simp append_assoc in
       let i : start (P ++ (f ++ t)) o m b ≡ length P = rw append_assoc (start_at b (f ++ t)) in
-      rw (e, i) (next_field P t m fs b (ok b) ∙ simp length-append (omega arith))
+      ap (λ (s : List ℕ). start s o m (suc b)) e ∙ rw i (next_field P t m fs b (ok b) ∙ simp length-append (omega arith))
 
   -- each field is read as it was written
   pub part_back : (b n : ℕ) → b < n → (post : List ℕ) → part (H ++ (body m fs n ++ post)) o m b ≡ field_bytes m fs b
@@ -78,7 +78,7 @@ module _ (o m : ℕ) (fs : ℕ → List ℕ) (H : List ℕ) (at : length H ≡ o
 
   -- what a field that stands held is read
   pub content_back : (b n : ℕ) → b < n → (post : List ℕ) → bit m b ≡ true → content (H ++ (body m fs n ++ post)) o m b ≡ fs b
-  unfolding content strip field_bytes encode if◌then◌else◌
+  unfolding content strip field_bytes encode if◌then◌otherwise◌
   content_back b n h post e = rw (part_back b n h post, e) (go (is_text_bit b) refl)
     where
       go : (x : Bool) → is_text_bit b ≡ x → strip b (encode b (fs b)) ≡ fs b

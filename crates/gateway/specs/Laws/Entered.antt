@@ -7,7 +7,7 @@ use Rattle.std.proofs.Math.Bool.{true, false}
 use mathlib.Core.List.{List}
 use Rattle.std.proofs.Math.Dec.{eqb}
 use Rattle.std.proofs.lemmas.Bool.{eqb-false}
-use Rattle.prelude.specs.Cases.{if◌then◌else◌, if_true, if_false}
+use Rattle.prelude.specs.Cases.{if◌then◌otherwise◌, if_true, if_false}
 use Rattle.prelude.specs.Span.{splice}
 use Rattle.records.specs.Record.{event_in}
 use Rattle.records.specs.Answer.{answer_bytes, chosen}
@@ -30,9 +30,9 @@ use Rattle.step.specs.Laws.Asked.{room_enough, taken_step}
 -- ---- event
 
 -- an outcome is written where a request is settled, and an origin where one is added
-placed_by : (b : List ℕ) (outcome origin m n : ℕ) (r : Requests) → m ≡ (if eqb r.answered 0 && eqb r.superseded 0 then 0 else outcome)
-    → n ≡ (if eqb r.added 0 then 0 else origin) → place_requests b m n r ≡ place_requests b outcome origin r
-unfolding place_requests mark_link if◌then◌else◌
+placed_by : (b : List ℕ) (outcome origin m n : ℕ) (r : Requests) → m ≡ (if eqb r.answered 0 && eqb r.superseded 0 then 0 otherwise outcome)
+    → n ≡ (if eqb r.added 0 then 0 otherwise origin) → place_requests b m n r ≡ place_requests b outcome origin r
+unfolding place_requests mark_link if◌then◌otherwise◌
 placed_by b outcome origin m n r e f = go (eqb r.answered 0) (eqb r.superseded 0) (eqb r.added 0) refl refl refl
   where
     go : (s t u : Bool) → eqb r.answered 0 ≡ s → eqb r.superseded 0 ≡ t → eqb r.added 0 ≡ u → place_requests b m n r ≡ place_requests b outcome origin r
@@ -54,11 +54,11 @@ module _ (b r a : List ℕ) where
 
   module _ (c : Change) (h : c ≡ call_of b r (length a)) where
     pub left_refused : eqb c.refusal 0 ≡ false → Leaves c.refusal b a
-    unfolding event_of if◌then◌else◌
+    unfolding event_of if◌then◌otherwise◌
     left_refused e = rw (← h, e) refl
 
     left_taken : eqb c.refusal 0 ≡ true → Leaves 0 (book_with b (event_in r) c) (said c)
-    unfolding event_of messages_of if◌then◌else◌
+    unfolding event_of messages_of if◌then◌otherwise◌
     left_taken e = rw (← h, e) refl
 
     long : eqb c.refusal 0 ≡ true → leb 1024 (length a) ≡ true
@@ -74,12 +74,12 @@ module _ (b r a : List ℕ) where
 
     -- the word that was worked out before the tables were written
     opened_is : eqb c.refusal 0 ≡ true → (w : Word) → w ≡ opening_of b c.place c.order.client (leaves_qty c.order) → (t : List ℕ)
-        → (if eqb c.place 0 then t else store_open t w.at w.quantity) ≡ place_open t (after (book_of b) c) c.place c.order.client
+        → (if eqb c.place 0 then t otherwise store_open t w.at w.quantity) ≡ place_open t (after (book_of b) c) c.place c.order.client
     unfolding place_open
     opened_is e w v t = go (eqb c.place 0) refl
       where
         go : (z : Bool) → eqb c.place 0 ≡ z
-            → (if eqb c.place 0 then t else store_open t w.at w.quantity) ≡ place_open t (after (book_of b) c) c.place c.order.client
+            → (if eqb c.place 0 then t otherwise store_open t w.at w.quantity) ≡ place_open t (after (book_of b) c) c.place c.order.client
         go true z = if_true _ _ _ z ∙ sym (if_true _ _ _ z)
         go false z =
             if_false _ _ _ z
@@ -89,11 +89,11 @@ module _ (b r a : List ℕ) where
 
     pub left_0 : eqb c.refusal 0 ≡ true → (leaves : ℕ) (w : Word) (settles from : ℕ) (placed tables book answer : List ℕ) → leaves ≡ leaves_qty c.order
         → w ≡ opening_of b c.place c.order.client leaves
-        → settles ≡ (if eqb c.requests.answered 0 && eqb c.requests.superseded 0 then 0 else outcome_in r)
-        → from ≡ (if eqb c.requests.added 0 then 0 else origin_of b c.order.client c.requests.request.origclordid)
+        → settles ≡ (if eqb c.requests.answered 0 && eqb c.requests.superseded 0 then 0 otherwise outcome_in r)
+        → from ≡ (if eqb c.requests.added 0 then 0 otherwise origin_of b c.order.client c.requests.request.origclordid)
         → placed ≡ place_order b c.place c.order → tables ≡ place_requests placed settles from c.requests
-        → book ≡ (if eqb c.place 0 then tables else store_open tables w.at w.quantity)
-        → answer ≡ (if leb 1024 (length a) then said c else a) → Leaves 0 book answer
+        → book ≡ (if eqb c.place 0 then tables otherwise store_open tables w.at w.quantity)
+        → answer ≡ (if leb 1024 (length a) then said c otherwise a) → Leaves 0 book answer
     unfolding book_with tables_with
     left_0 e leaves w settles from placed tables book answer n v s f p q o u =
         let is : w ≡ opening_of b c.place c.order.client (leaves_qty c.order) = v ∙ ap (opening_of b c.place c.order.client) n in
@@ -106,9 +106,9 @@ module _ (b r a : List ℕ) where
 -- ---- start
 
 pub cleared : (b : List ℕ) (setting : ℕ) (book : List ℕ) → length b ≡ book_size → book ≡ clear_book b setting → (0 ≡ start_refusal b) × (book ≡ start_of b setting)
-unfolding start_refusal start_of clear_book if◌then◌else◌
+unfolding start_refusal start_of clear_book if◌then◌otherwise◌
 cleared b setting book l e = (rw (eq-eqb _ _ l) refl, e)
 
 pub uncleared : (b : List ℕ) (setting : ℕ) → (length b ≡ book_size → ⊥) → (1 ≡ start_refusal b) × (b ≡ start_of b setting)
-unfolding start_refusal start_of if◌then◌else◌
+unfolding start_refusal start_of if◌then◌otherwise◌
 uncleared b setting n = (rw (ne_eqb _ _ n) refl, rw (ne_eqb _ _ n) refl)

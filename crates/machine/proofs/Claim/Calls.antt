@@ -40,10 +40,10 @@ module _ {In Held : Type 0} (f : Form In Held) (good : Held → Type 0) (t : Fai
     by : List In
     is : state_of f s ≡ run f.read (start_from (f.book_of s.image)) by
 
-  reached : (s : SinceReturn f) (is : List (Step f good)) → Reached s → Reached (follow f s is)
-  reached s [] r = r
-  reached s (call i ∷ is) r =
-      reached _ is (record {
+  reached : (is : List (Step f good)) (s : SinceReturn f) → Reached s → Reached (follow f s is)
+  reached [] s r = r
+  reached (call i ∷ is) s r =
+      reached is _ (record {
         from = r.from;
         now = t.stays s.held i r.now;
         by = r.by ++ (i ∷ []);
@@ -52,12 +52,12 @@ module _ {In Held : Type 0} (f : Form In Held) (good : Held → Type 0) (t : Fai
             ∙ ap (λ (x : State). next x (f.read i)) r.is
             ∙ run_more f.read (start_from (f.book_of s.image)) r.by i;
       })
-  reached s (back h g ∷ is) r = reached _ is (record { from = g; now = g; by = []; is = refl })
+  reached (back h g ∷ is) s r = reached is _ (record { from = g; now = g; by = []; is = refl })
 
   pub since_return : Kinds f.read → (h : Held) → good h → (is : List (Step f good))
       → let s = follow f (just_returned f h) is in Demand3From (f.book_of s.image) (state_of f s) × Net (f.book_of s.image) (state_of f s)
   since_return kinds h g is =
       let s = follow f (just_returned f h) is in
-      let r : Reached s = reached (just_returned f h) is (record { from = g; now = g; by = []; is = refl }) in
+      let r : Reached s = reached is (just_returned f h) (record { from = g; now = g; by = []; is = refl }) in
       let image : Book = f.book_of s.image in
       (subst (Demand3From image) (sym r.is) (demand_from In f.read kinds image (kept s.image r.from) r.by), subst (Net image) (sym r.is) (net_from In f.read image r.by))

@@ -4,11 +4,11 @@ use native.Mathlib.Omega.{arith}
 use mathlib.Core.Path.{◌≡◌, refl, sym, ap, ◌∙◌}
 use mathlib.Core.Logic.{◌⊎◌, inl, inr}
 use mathlib.Core.Bool.{Bool, true, false, not, ◌&&◌}
-use mathlib.Core.Option.{none, some}
+use mathlib.Core.Option.{some}
 use lib.Dec.{eqb}
 use lib.ListN.{length}
 use borrow.Author.Tests.{eq-eqb, ne_eqb}
-use Rattle.prelude.specs.Cases.{if◌then◌else◌, maybe, clash, both_hold, both_false, maybe_some, true_or_false}
+use Rattle.prelude.specs.Cases.{if◌then◌otherwise◌, maybe, clash, both_hold, both_false, maybe_some, true_or_false}
 use Rattle.store.specs.declared.GatewayCancel.{GatewayCancel}
 use Rattle.store.specs.declared.Order.{Order}
 use Rattle.store.specs.Book.{Book, order_in, request_in}
@@ -21,7 +21,6 @@ use Rattle.store.specs.Finds.{find_name, find_downstream}
 use Rattle.machine.specs.Machine.{findings_of, order_link}
 use Rattle.machine.specs.Rules.{tries_rule}
 use Rattle.machine.specs.History.{read_as}
-use Rattle.records.specs.Answer.{chosen}
 use Rattle.machine.specs.Claim.{starts, cancels_in}
 use Rattle.machine.specs.declared.Output.{Output}
 use Rattle.machine.specs.declared.Change.{Change}
@@ -49,7 +48,7 @@ module _ (b : Book) (e : Event) (i : ℕ) (c : Change) (n₉ : eqb e.kind 9 ≡ 
   sent_shaped n₂ d = plainly (gateway n₇ n₂ d.out d.by_gateway (inr (asks_none b e n₉ i, d.from, d.room, d.more)))
 
 refusing_shaped : (b : Book) (e : Event) (i n : ℕ) → eqb e.kind 9 ≡ false → eqb e.kind 7 ≡ false → Shaped b e i (refusing n)
-unfolding refusing if◌then◌else◌ cancels_in has_gateway
+unfolding refusing if◌then◌otherwise◌ cancels_in has_gateway
 refusing_shaped b e i n n₉ n₇ = plainly b e i _ n₉ n₇ (idle (asks_none b e n₉ i) refl (inl refl) (λ h. clash false h refl))
 
 has_same : (o p : Order) → p.gateway ≡ o.gateway → has_gateway p ≡ true → has_gateway o ≡ true
@@ -125,7 +124,7 @@ module _ (b : Book) (r : Ruled b) (e : Event) (above : 0 < e.kind) (below : e.ki
     resent_shaped n₇ new_again = idle_shaped b e _ _ n₉ n₇ (left_idle (near_self _, says_mute (plain_new _ _)))
     resent_shaped n₇ (cancel_again t) =
         plainly b e _ _ n₉ n₇
-        (repeats (asks_none b e n₉ _) n₇ (request_in b k).downstream k (find_cong b _ e.ids.downstream (found_text b e.ids.downstream k w) ∙ w) t (unfold if◌then◌else◌ in one_cancel _ _) refl refl)
+        (repeats (asks_none b e n₉ _) n₇ (request_in b k).downstream k (find_cong b _ e.ids.downstream (found_text b e.ids.downstream k w) ∙ w) t (unfold if◌then◌otherwise◌ in one_cancel _ _) refl refl)
     resent_shaped n₇ (replace_again t) = idle_shaped b e _ _ n₉ n₇ (left_idle (near_self _, says_mute (plain_replace _ _ _)))
     resent_shaped n₇ (failing t unfailed) = idle_shaped b e _ _ n₉ n₇ (left_idle (near_self _, calm_mute 0))
     resent_shaped n₇ (failing t (refused r g)) = idle_shaped b e _ _ n₉ n₇ (left_idle (refuses_near r))
@@ -159,6 +158,15 @@ module _ (b : Book) (r : Ruled b) (e : Event) (above : 0 < e.kind) (below : e.ki
   asks_at_lem i j w k =
       ap (λ (x : ℕ). eqb x 9 && maybe false (λ i. eqb i j && starts b i) (find_name b e.ids.name)) k ∙ maybe_some _ i _ _ w
 
+  not_started : (i : ℕ) → (is_done (order_in b i).state.status ≡ true) ⊎ (gateway_cancel_in_flight (findings_of b (i + 1)) (order_in b i) ≡ true) → starts b i ≡ false
+  unfolding starts
+  not_started i (inl d) = ap (λ (x : Bool). not x && not (gateway_cancel_in_flight (findings_of b (i + 1)) (order_in b i))) d
+  not_started i (inr g) = ap (λ (x : Bool). not (is_done (order_in b i).state.status) && not x) g ∙ both_false (not (is_done (order_in b i).state.status))
+
+  started : (i : ℕ) → is_done (order_in b i).state.status ≡ false → gateway_cancel_in_flight (findings_of b (i + 1)) (order_in b i) ≡ false → starts b i ≡ true
+  unfolding starts
+  started i d g = both_hold _ _ (ap not d) (ap not g)
+
   asked_shaped : e.kind ≡ 9 → (i : ℕ) (w : find_name b e.ids.name ≡ some i) {c c' : Change} → AskedBy (findings_of b (i + 1)) (order_in b i) c c' → Shaped b e i c
   asked_shaped z i w s = record {
     alone = λ j n. asks_at_lem i j w z ∙ ap (λ (x : Bool). x && starts b i) (ne_eqb i j (λ y. n (sym y)));
@@ -175,18 +183,11 @@ module _ (b : Book) (r : Ruled b) (e : Event) (above : 0 < e.kind) (below : e.ki
       here : asks_at i b (read_as e) ≡ starts b i
       here = asks_at_lem i i w z ∙ ap (λ (x : Bool). x && starts b i) (eq-eqb i i refl)
 
-      not_started : (is_done (order_in b i).state.status ≡ true) ⊎ (gateway_cancel_in_flight (findings_of b (i + 1)) (order_in b i) ≡ true) → starts b i ≡ false
-      not_started (inl d) = unfold starts in ap (λ (x : Bool). not x && not (gateway_cancel_in_flight (findings_of b (i + 1)) (order_in b i))) d
-      not_started (inr g) = unfold starts in ap (λ (x : Bool). not (is_done (order_in b i).state.status) && not x) g ∙ both_false (not (is_done (order_in b i).state.status))
-
-      started : is_done (order_in b i).state.status ≡ false → gateway_cancel_in_flight (findings_of b (i + 1)) (order_in b i) ≡ false → starts b i ≡ true
-      started d g = unfold starts in both_hold _ _ (ap not d) (ap not g)
-
       by : {c c' : Change} → AskedBy (findings_of b (i + 1)) (order_in b i) c c' → Shape b e i c
       by (declined p) =
-          idle (here ∙ not_started p) (calm_mute 0).silent (inl refl) (λ hg. let (x, t, u) = (near_self (order_in b i)).gate hg in (x, t, λ y. clash _ y n₇))
-      by (waits d g) = begins! (here ∙ started d g) (calm_mute 0).silent refl (begun_none (findings_of b (i + 1)) (order_in b i))
-      by (goes d g) = gateway n₇ n₂ (begun_out (findings_of b (i + 1)) (order_in b i)) (send_fields (findings_of b (i + 1)) _).0 (inl (here ∙ started d g, begun_once (findings_of b (i + 1)) (order_in b i)))
+          idle (here ∙ not_started i p) (calm_mute 0).silent (inl refl) (λ hg. let (x, t, u) = (near_self (order_in b i)).gate hg in (x, t, λ y. clash _ y n₇))
+      by (waits d g) = begins! (here ∙ started i d g) (calm_mute 0).silent refl (begun_none (findings_of b (i + 1)) (order_in b i))
+      by (goes d g) = gateway n₇ n₂ (begun_out (findings_of b (i + 1)) (order_in b i)) (send_fields (findings_of b (i + 1)) _).0 (inl (here ∙ started i d g, begun_once (findings_of b (i + 1)) (order_in b i)))
 
   -- ---- all of them
 

@@ -12,7 +12,7 @@ use lib.ListN.{length, get_or, set, length-append, length-set, get_or-append}
 use lib.Seq.{get_or_at, get_or-set_same, get_or-set_other}
 use borrow.Author.Tests.{leb-true, eqb-true, eq-eqb, ne_eqb, le-leb, lt-leb}
 use Rattle.prelude.specs.Below.{first_some, first_hit, first_ext, First}
-use Rattle.prelude.specs.Cases.{if◌then◌else◌, maybe, split_if, if_true, if_false, true_or_false, none_some}
+use Rattle.prelude.specs.Cases.{if◌then◌otherwise◌, maybe, split_if, if_true, if_false, true_or_false, none_some}
 use Rattle.prelude.specs.Texts.{same_text}
 use Rattle.prelude.specs.Totals.{total_of, Every, every[], every∷, total_append, total_set, every_map}
 use Rattle.prelude.specs.declared.Text.{Text}
@@ -25,7 +25,6 @@ use Rattle.store.specs.Finds.{find_name}
 use Rattle.machine.specs.Machine.{findings_of, booked_order, orders_after, after, step_of}
 use Rattle.machine.specs.Rules.{rules, filled_rule}
 use Rattle.machine.specs.History.{Decoded, unread, read_as, comes_to, messages_of, left_by, line_of, State, next, run, start_from}
-use Rattle.records.specs.Answer.{chosen}
 use Rattle.machine.specs.Claim.{status_of, Each}
 use Rattle.machine.specs.declared.Change.{Change}
 use Rattle.machine.proofs.Kept.Lift.{BookKept}
@@ -229,7 +228,7 @@ unfolding adding unchanged
 booking_place b e = (refl, refl, refl)
 
 pub booking_silent : (b : Book) (e : Event) → tells (booking b e) ≡ []
-unfolding adding unchanged if◌then◌else◌
+unfolding adding unchanged if◌then◌otherwise◌
 booking_silent b e = refl
 
 booked_none : (b : Book) (e : Event) → (booked_order (length b.requests + 1) e).state.cumqty ≡ 0

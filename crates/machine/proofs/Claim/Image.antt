@@ -9,7 +9,7 @@ use mathlib.Core.Option.{Option, none, some}
 use mathlib.Core.List.{List, [], ◌∷◌}
 use lib.ListN.{length, get_or}
 use borrow.Author.Tests.{eqb-true, eq-eqb}
-use Rattle.prelude.specs.Cases.{if◌then◌else◌, maybe, split_if, clash, both_true, both_hold, either_true, if_true, if_false, maybe_some}
+use Rattle.prelude.specs.Cases.{if◌then◌otherwise◌, maybe, split_if, clash, both_true, both_hold, either_true, if_true, if_false, maybe_some}
 use Rattle.prelude.specs.Texts.{same_text, same_back}
 use Rattle.prelude.specs.Totals.{how_many}
 use Rattle.prelude.specs.declared.Text.{Text}
@@ -44,9 +44,9 @@ module _ (p : Request → Bool) where
       later : Place d qs → Place d (q ∷ qs)
       later x = let l = x.below in record { at = suc x.at; below = omega arith; passes = x.passes; same = x.same }
 
-      go : (x : Bool) → p q ≡ x → holds d (if x then q.downstream ∷ downstreams p qs else downstreams p qs) ≡ true → (holds d (downstreams p qs) ≡ true → Place d qs) → Place d (q ∷ qs)
-      go false e h r = later (r (unfold if◌then◌else◌ in h))
-      go true e h r = first (either_true (same_text d q.downstream) (holds d (downstreams p qs)) (unfold if◌then◌else◌ in h))
+      go : (x : Bool) → p q ≡ x → holds d (if x then q.downstream ∷ downstreams p qs otherwise downstreams p qs) ≡ true → (holds d (downstreams p qs) ≡ true → Place d qs) → Place d (q ∷ qs)
+      go false e h r = later (r (unfold if◌then◌otherwise◌ in h))
+      go true e h r = first (either_true (same_text d q.downstream) (holds d (downstreams p qs)) (unfold if◌then◌otherwise◌ in h))
         where
           first : (same_text d q.downstream ≡ true) ⊎ (holds d (downstreams p qs) ≡ true) → Place d (q ∷ qs)
           first (inl s) = record { at = 0; below = omega arith; passes = e; same = s }
@@ -72,8 +72,8 @@ pub downstreams_same : (p r : Request → Bool) (qs : List Request) → ((k : �
 unfolding downstreams
 downstreams_same p r [] f = refl
 downstreams_same p r (q ∷ qs) f =
-    ap (λ (x : Bool). if x then q.downstream ∷ downstreams p qs else downstreams p qs) (f 0 (omega arith))
-    ∙ ap (λ (l : List Text). if r q then q.downstream ∷ l else l) (downstreams_same p r qs (λ k l. f (suc k) (omega arith)))
+    ap (λ (x : Bool). if x then q.downstream ∷ downstreams p qs otherwise downstreams p qs) (f 0 (omega arith))
+    ∙ ap (λ (l : List Text). if r q then q.downstream ∷ l otherwise l) (downstreams_same p r qs (λ k l. f (suc k) (omega arith)))
 
 -- ---- the start
 
@@ -86,7 +86,7 @@ held_found b d h = go (find_downstream b d) refl h
     go (some k) e z = (k, e)
 
 none_failed : (l : List Text) → how_many (failed []) l ≡ 0
-unfolding if◌then◌else◌
+unfolding if◌then◌otherwise◌
 none_failed [] = refl
 none_failed (d ∷ l) = omega (arith, none_failed l)
 
@@ -113,6 +113,6 @@ module _ (laws : NumberedLaws) (image : Book) (good : BookKept image) where
         in_place (mine j) d image.requests w.at (found_request image d w.at w.found) (both_hold _ _ w.by_gateway (eq-eqb _ j w.of_order))
         (same_back _ _ (found_text image d w.at w.found));
     tries = λ hg.
-        let z : (n : ℕ) → (if false then 0 else n) ≡ n = (λ n. if_false false 0 n refl) in
+        let z : (n : ℕ) → (if false then 0 otherwise n) ≡ n = (λ n. if_false false 0 n refl) in
         omega (arith, none_failed (held_at image j), z (length (held_at image j)), z (order_in image j).gateway.tries);
   }

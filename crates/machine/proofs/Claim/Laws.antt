@@ -1,16 +1,13 @@
 -- Words and laws of messages that the claim's proofs share. Rests on the definitions alone.
-use Prim.Native.Nat.{ℕ, zero, suc, ◌+◌, ◌≤◌, ◌<◌}
-use native.Mathlib.Nat.{not-suc-le-zero, le_of_suc-le-suc}
+use Prim.Native.Nat.{ℕ, suc, ◌≤◌}
 use native.Mathlib.Omega.{arith}
-use mathlib.Core.Path.{◌≡◌, refl, sym, ap, ◌∙◌}
+use mathlib.Core.Path.{◌≡◌, refl, ap, ◌∙◌}
 use mathlib.Core.Bool.{Bool, true, false, ◌&&◌}
 use mathlib.Core.List.{List, [], ◌∷◌, ◌++◌}
 use lib.Dec.{eqb}
-use lib.ListN.{length, get_or, set}
 use borrow.Author.Tests.{eqb-false, eq-eqb}
-use Rattle.prelude.specs.Cases.{if◌then◌else◌, split_if}
+use Rattle.prelude.specs.Cases.{if◌then◌otherwise◌, split_if}
 use Rattle.prelude.specs.Texts.{same_text}
-use Rattle.prelude.specs.Totals.{total_of}
 use Rattle.prelude.specs.declared.Text.{Text}
 use Rattle.store.specs.declared.Order.{Order}
 use Rattle.machine.specs.Constants.{report_kind}
@@ -36,25 +33,25 @@ said m = record { client = m.client; name = m.ids.name; symbol = m.ids.symbol; s
 
 -- of the orders that pass a test: the LastQty of a report, and what is filled
 abbrev pub last_qty_by : (Whose → Bool) → Message → ℕ
-last_qty_by p m = if eqb m.kind report_kind && p (said m) then m.exec.lastqty else 0
+last_qty_by p m = if eqb m.kind report_kind && p (said m) then m.exec.lastqty otherwise 0
 
 abbrev pub filled_by : (Whose → Bool) → Order → ℕ
-filled_by p o = if p (whose o) then o.state.cumqty else 0
+filled_by p o = if p (whose o) then o.state.cumqty otherwise 0
 
 -- the test by client and name
 abbrev pub bears : (client : ℕ) (name : Text) → Whose → Bool
 bears client name w = eqb w.client client && same_text w.name name
 
-pub filled_same : (p : Whose → Bool) (o q : Order) (n : ℕ) → whose q ≡ whose o → q.state.cumqty ≡ n → filled_by p q ≡ (if p (whose o) then n else 0)
-filled_same p o q n w c = ap (λ (x : Whose). if p x then q.state.cumqty else 0) w ∙ ap (λ (x : ℕ). if p (whose o) then x else 0) c
+pub filled_same : (p : Whose → Bool) (o q : Order) (n : ℕ) → whose q ≡ whose o → q.state.cumqty ≡ n → filled_by p q ≡ (if p (whose o) then n otherwise 0)
+filled_same p o q n w c = ap (λ (x : Whose). if p x then q.state.cumqty otherwise 0) w ∙ ap (λ (x : ℕ). if p (whose o) then x otherwise 0) c
 
 -- a message goes behind the one that is there
 pub tells_more : (m : Message) (c : Change) → c.output.count ≤ 1 → tells (telling m c) ≡ tells c ++ (m ∷ [])
-unfolding telling if◌then◌else◌
+unfolding telling if◌then◌otherwise◌
 tells_more m c h = go (eqb c.output.count 0) refl
   where
     go : (t : Bool) → eqb c.output.count 0 ≡ t
-        → chosen (if t then 1 else 2) (if t then m else c.output.first) (if t then c.output.second else m)
+        → chosen (if t then 1 otherwise 2) (if t then m otherwise c.output.first) (if t then c.output.second otherwise m)
         ≡ chosen c.output.count c.output.first c.output.second ++ (m ∷ [])
     go true e = rw e
     go false e =

@@ -4,11 +4,11 @@ use native.Mathlib.Omega.{arith}
 use mathlib.Core.Path.{◌≡◌, refl, sym, ap, ◌∙◌}
 use mathlib.Core.Logic.{◌⊎◌, inl, inr}
 use mathlib.Core.Bool.{Bool, true, false, ◌&&◌}
-use mathlib.Core.List.{List, [], ◌∷◌, ◌++◌}
+use mathlib.Core.List.{List}
 use lib.Dec.{eqb}
 use borrow.Author.Tests.{eqb-true}
 use Rattle.wide.specs.declared.Priced.{Priced}
-use Rattle.prelude.specs.Cases.{if◌then◌else◌, split_if, clash, both_false, if_false}
+use Rattle.prelude.specs.Cases.{if◌then◌otherwise◌, split_if, clash, both_false, if_false}
 use Rattle.prelude.specs.Texts.{same_text}
 use Rattle.prelude.specs.Totals.{total_of, total_append}
 use Rattle.prelude.specs.declared.Text.{Text}
@@ -92,7 +92,7 @@ refused_keeps k r o =
     split_if (Keeps o) _ (λ e. first)
     (λ e. split_if (Keeps o) _ (λ h. keeps_trans o _ _ first (live_keeps _ r.status e)) (λ h. keeps_trans o _ _ first (not_pending_keeps _ e)))
   where
-    first : Keeps o (with_pending (if eqb o.pending.request k then no_pending else o.pending) (record_venue_order_id r.venueorderid false o))
+    first : Keeps o (with_pending (if eqb o.pending.request k then no_pending otherwise o.pending) (record_venue_order_id r.venueorderid false o))
     first = record { same = refl; same_cum = refl; same_qty = refl; done = λ h. refl }
 
 -- ---- the change
@@ -123,20 +123,20 @@ module _ {n p : ℕ} {o : Order} {c : Change} (m : Moves n p o c) where
 -- ---- messages that report no rise
 
 quiet_cancel : (o : Order) (d : Text) (t : Whose → Bool) → last_qty_by t (cancel_request o d) ≡ 0
-unfolding cancel_request to_venue if◌then◌else◌
+unfolding cancel_request to_venue if◌then◌otherwise◌
 quiet_cancel o d t = refl
 
 quiet_replace : (o : Order) (d : Text) (terms : Terms) (t : Whose → Bool) → last_qty_by t (replace_request o d terms) ≡ 0
-unfolding replace_request to_venue if◌then◌else◌
+unfolding replace_request to_venue if◌then◌otherwise◌
 quiet_replace o d terms t = refl
 
 quiet_new : (o : Order) (d : Text) (t : Whose → Bool) → last_qty_by t (new_order o d) ≡ 0
-unfolding new_order to_venue if◌then◌else◌
+unfolding new_order to_venue if◌then◌otherwise◌
 quiet_new o d t = refl
 
 quiet_reject : (client : ℕ) (name : Text) (status : ℕ) (clordid origclordid : Text) (responseto : ℕ) (n : Note) (t : Whose → Bool)
     → last_qty_by t (cancel_reject client name status clordid origclordid responseto n) ≡ 0
-unfolding cancel_reject if◌then◌else◌
+unfolding cancel_reject if◌then◌otherwise◌
 quiet_reject client name status clordid origclordid responseto n t = refl
 
 quiet_report : (o : Order) (clordid origclordid : Text) (exectype : ℕ) (price : Priced) (n : Note) (t : Whose → Bool)
@@ -156,15 +156,15 @@ record Hush (out : Output) : Type 0 where
   silent : (t : Whose → Bool) → total_of (last_qty_by t) (chosen out.count out.first out.second) ≡ 0
 
 calm_hush : (a : ℕ) → Hush (calm a)
-unfolding if◌then◌else◌
+unfolding if◌then◌otherwise◌
 calm_hush a = record { few = omega arith; silent = λ t. refl }
 
 behind_hush : (a : ℕ) → Hush (stuck_behind a)
-unfolding if◌then◌else◌
+unfolding if◌then◌otherwise◌
 behind_hush a = record { few = omega arith; silent = λ t. refl }
 
 says_total : (m : Message) (a : ℕ) (t : Whose → Bool) → total_of (last_qty_by t) (chosen (says m a).count m (says m a).second) ≡ last_qty_by t m
-unfolding if◌then◌else◌
+unfolding if◌then◌otherwise◌
 says_total m a t = omega arith
 
 says_hush : {m : Message} {a : ℕ} → ((t : Whose → Bool) → last_qty_by t m ≡ 0) → Hush (says m a)
@@ -210,7 +210,7 @@ pub record Grown (o q : Order) (cum qty : ℕ) : Type 0 where
   pub most : q.terms.qty ≡ qty
 
 pub reported_grown : (accepted : Bool) (s : ℕ) (q : Request) (o : Order) (e : Event) → Grown o (reported_order accepted s q o e) e.exec.cumqty (ordered_qty accepted o)
-unfolding reported_order set_status record_venue_order_id apply_replace pending_terms ordered_qty if◌then◌else◌
+unfolding reported_order set_status record_venue_order_id apply_replace pending_terms ordered_qty if◌then◌otherwise◌
 reported_grown true s q o e = record { same = refl; now = refl; most = refl }
 reported_grown false s q o e = record { same = refl; now = refl; most = refl }
 
@@ -219,12 +219,12 @@ unfolding next_exec
 told_grown o q cum qty g = record { same = g.same; now = g.now; most = g.most }
 
 says_report : (answers : Bool) (rise : ℕ) (q : Request) (price : Priced) (x : Order) (e : Event) (t : Whose → Bool)
-    → last_qty_by t (client_report answers rise q price x e) ≡ (if t (whose x) then rise else 0)
+    → last_qty_by t (client_report answers rise q price x e) ≡ (if t (whose x) then rise otherwise 0)
 unfolding client_report report
 says_report answers rise q price x e t = refl
 
 grown_moves : {o y : Order} {out : Output} {p j s cum qty : ℕ} → Grown o y cum qty → cum ≤ qty → is_done o.state.status ≡ false → out.count ≤ 2
-    → ((t : Whose → Bool) → total_of (last_qty_by t) (chosen out.count out.first out.second) + filled_by t o ≡ (if t (whose o) then cum else 0)) → Moves 2 p o (left p y j s out)
+    → ((t : Whose → Bool) → total_of (last_qty_by t) (chosen out.count out.first out.second) + filled_by t o ≡ (if t (whose o) then cum otherwise 0)) → Moves 2 p o (left p y j s out)
 grown_moves {o} {y} {out} {p} {j} {s} {cum} {qty} g fits live l h = record {
   taken = refl;
   there = refl;
@@ -235,8 +235,8 @@ grown_moves {o} {y} {out} {p} {j} {s} {cum} {qty} g fits live l h = record {
   done = λ z. clash _ z live;
 }
 
-rise_of : (x : Bool) {l : ℕ} (rise old cum : ℕ) → rise + old ≡ cum → l ≡ (if x then rise else 0) → l + (if x then old else 0) ≡ (if x then cum else 0)
-unfolding if◌then◌else◌
+rise_of : (x : Bool) {l : ℕ} (rise old cum : ℕ) → rise + old ≡ cum → l ≡ (if x then rise otherwise 0) → l + (if x then old otherwise 0) ≡ (if x then cum otherwise 0)
+unfolding if◌then◌otherwise◌
 rise_of true rise old cum u e = omega arith
 rise_of false rise old cum u e = omega arith
 
@@ -267,13 +267,13 @@ module _ {k : ℕ} {q : Request} {o : Order} {e : Event} where
   made_left names = left_moves (named_keeps _ _ o) (calm_hush 0)
   made_left (applies a u s) =
       grown_moves (reported_grown _ _ q o e) a.fits a.live (omega arith)
-      (λ t. omega (arith, (calm_hush (reported_alarm k q o e)).silent t, ap (λ (n : ℕ). if t (whose o) then n else 0) u))
+      (λ t. omega (arith, (calm_hush (reported_alarm k q o e)).silent t, ap (λ (n : ℕ). if t (whose o) then n otherwise 0) u))
   made_left (informs a s) =
       let g = told_grown o _ _ _ (reported_grown (accepts k q o e) (status_taken k q o e) q o e) in
       let rise : ℕ = e.exec.cumqty - o.state.cumqty in
       let up : rise + o.state.cumqty ≡ e.exec.cumqty = omega (arith, a.up) in
       grown_moves g a.fits a.live (omega arith)
-      (λ t. rise_of (t (whose o)) rise _ _ up (says_total _ (reported_alarm k q o e) t ∙ says_report _ rise q _ _ e t ∙ ap (λ (w : Whose). if t w then rise else 0) g.same))
+      (λ t. rise_of (t (whose o)) rise _ _ up (says_total _ (reported_alarm k q o e) t ∙ says_report _ rise q _ _ e t ∙ ap (λ (w : Whose). if t w then rise otherwise 0) g.same))
 
 pub made_moves : {f : Findings} {k : ℕ} {q : Request} {o : Order} {e : Event} {c c' : Change} → MadeBy f k q o e c c' → Moves 2 f.place o c
 made_moves (stays l) = made_left l
@@ -291,15 +291,15 @@ goes_moves : (p : ℕ) (o y : Order) (q : Request) (m : Message) → Keeps o y �
 unfolding telling adding unchanged
 goes_moves p o y q m k h =
     let g : Moves 2 p o (left p y 0 0 (says m 0)) = left_moves k (says_hush h) in
-    unfold if◌then◌else◌ in record { taken = refl; there = refl; within = g.within; same = g.same; told = g.told; ordered = g.ordered; done = g.done }
+    unfold if◌then◌otherwise◌ in record { taken = refl; there = refl; within = g.within; same = g.same; told = g.told; ordered = g.ordered; done = g.done }
 
 module _ (f : Findings) (o : Order) (e : Event) where
   pub status_moves : Moves 2 f.place o (redelivered_report f o e)
-  unfolding redelivered_report telling unchanged if◌then◌else◌
+  unfolding redelivered_report telling unchanged if◌then◌otherwise◌
   status_moves = left_moves (told_keeps o) (says_hush (quiet_report _ _ _ _ _ _))
 
   pub told_refusal : (responseto : ℕ) (r : Refusal) → Moves 2 f.place o (refuse f responseto o e r)
-  unfolding refuse telling unchanged if◌then◌else◌
+  unfolding refuse telling unchanged if◌then◌otherwise◌
   told_refusal responseto r = left_moves (same_keeps o) (says_hush (quiet_reject _ _ _ _ _ _ _))
 
   pub cancel_goes_moves : Moves 2 f.place o (cancel_goes f o e)

@@ -3,11 +3,11 @@ use Prim.Native.Nat.{ℕ, ◌+◌, ◌-◌, ◌≤◌, ◌<◌}
 use native.Mathlib.Omega.{arith}
 use mathlib.Core.Path.{◌≡◌, refl, sym, ap, ◌∙◌}
 use mathlib.Core.Logic.{◌⊎◌, inl, inr}
-use mathlib.Core.Bool.{Bool, true, false, not, ◌&&◌}
+use mathlib.Core.Bool.{Bool, true, false, not}
 use mathlib.Core.List.{List, [], ◌∷◌, ◌++◌}
 use lib.Dec.{eqb}
 use Rattle.wide.specs.declared.Priced.{Priced}
-use Rattle.prelude.specs.Cases.{if◌then◌else◌, split_if, clash}
+use Rattle.prelude.specs.Cases.{if◌then◌otherwise◌, split_if, clash}
 use Rattle.prelude.specs.declared.Text.{Text}
 use Rattle.prelude.specs.declared.Terms.{Terms}
 use Rattle.store.specs.declared.Order.{Order}
@@ -36,12 +36,12 @@ use Rattle.machine.proofs.Kept.Keep.{tries_unsent}
 -- ---- messages
 
 cancels_append : (s t : List Message) → cancels_in (s ++ t) ≡ cancels_in s ++ cancels_in t
-unfolding cancels_in if◌then◌else◌
+unfolding cancels_in if◌then◌otherwise◌
 cancels_append [] t = refl
 cancels_append (m ∷ s) t = go (eqb m.kind 19) (cancels_append s t)
   where
     go : (b : Bool) → cancels_in (s ++ t) ≡ cancels_in s ++ cancels_in t
-        → (if b then m.ids.downstream ∷ cancels_in (s ++ t) else cancels_in (s ++ t)) ≡ (if b then m.ids.downstream ∷ cancels_in s else cancels_in s) ++ cancels_in t
+        → (if b then m.ids.downstream ∷ cancels_in (s ++ t) otherwise cancels_in (s ++ t)) ≡ (if b then m.ids.downstream ∷ cancels_in s otherwise cancels_in s) ++ cancels_in t
     go true e = ap (λ (l : List Text). m.ids.downstream ∷ l) e
     go false e = e
 
@@ -50,11 +50,11 @@ abbrev Plain : Message → Type 0
 Plain m = cancels_in (m ∷ []) ≡ []
 
 pub plain_reject : (client : ℕ) (name : Text) (status : ℕ) (clordid origclordid : Text) (responseto : ℕ) (n : Note) → Plain (cancel_reject client name status clordid origclordid responseto n)
-unfolding cancel_reject cancels_in if◌then◌else◌
+unfolding cancel_reject cancels_in if◌then◌otherwise◌
 plain_reject client name status clordid origclordid responseto n = refl
 
 pub plain_report : (o : Order) (clordid origclordid : Text) (exectype lastqty : ℕ) (price : Priced) (n : Note) → Plain (report o clordid origclordid exectype lastqty price n)
-unfolding report cancels_in if◌then◌else◌
+unfolding report cancels_in if◌then◌otherwise◌
 plain_report o clordid origclordid exectype lastqty price n = refl
 
 pub plain_client : (answers : Bool) (rise : ℕ) (q : Request) (price : Priced) (o : Order) (e : Event) → Plain (client_report answers rise q price o e)
@@ -62,15 +62,15 @@ unfolding client_report
 plain_client answers rise q price o e = plain_report _ _ _ _ _ _ _
 
 pub plain_new : (o : Order) (d : Text) → Plain (new_order o d)
-unfolding new_order to_venue cancels_in if◌then◌else◌
+unfolding new_order to_venue cancels_in if◌then◌otherwise◌
 plain_new o d = refl
 
 pub plain_replace : (o : Order) (d : Text) (t : Terms) → Plain (replace_request o d t)
-unfolding replace_request to_venue cancels_in if◌then◌else◌
+unfolding replace_request to_venue cancels_in if◌then◌otherwise◌
 plain_replace o d t = refl
 
 pub one_cancel : (o : Order) (d : Text) → cancels_in (cancel_request o d ∷ []) ≡ d ∷ []
-unfolding cancel_request to_venue cancels_in if◌then◌else◌
+unfolding cancel_request to_venue cancels_in if◌then◌otherwise◌
 one_cancel o d = refl
 
 says_plain : (m : Message) (c : Change) → c.output.count ≤ 1 → Plain m → cancels_in (tells c) ≡ [] → cancels_in (tells (telling m c)) ≡ []
@@ -96,7 +96,7 @@ unfolding unchanged
 none_yet p o = omega arith
 
 none_said : (p : ℕ) (o : Order) → cancels_in (tells (unchanged p o)) ≡ []
-unfolding unchanged if◌then◌else◌ cancels_in
+unfolding unchanged if◌then◌otherwise◌ cancels_in
 none_said p o = refl
 
 -- ---- the order
@@ -121,11 +121,11 @@ pub status_near : (s : ℕ) (o : Order) → Near o (set_status s o)
 unfolding set_status has_gateway
 status_near s o = record { same_name = refl; same_number = refl; gate = λ h. kept (is_done _) h }
   where
-    kept : (t : Bool) → not (eqb (if t then no_gateway else o.gateway).origdownstream 0) ≡ true
-        → (not (eqb o.gateway.origdownstream 0) ≡ true) × ((if t then no_gateway else o.gateway).tries ≡ o.gateway.tries)
-        × ((if t then no_gateway else o.gateway).unsent ≡ o.gateway.unsent)
-    kept true h = unfold if◌then◌else◌ in clash false h refl
-    kept false h = unfold if◌then◌else◌ in (h, refl, refl)
+    kept : (t : Bool) → not (eqb (if t then no_gateway otherwise o.gateway).origdownstream 0) ≡ true
+        → (not (eqb o.gateway.origdownstream 0) ≡ true) × ((if t then no_gateway otherwise o.gateway).tries ≡ o.gateway.tries)
+        × ((if t then no_gateway otherwise o.gateway).unsent ≡ o.gateway.unsent)
+    kept true h = unfold if◌then◌otherwise◌ in clash false h refl
+    kept false h = unfold if◌then◌otherwise◌ in (h, refl, refl)
 
 pub named_near : (given : Text) (replaced : Bool) (o : Order) → Near o (record_venue_order_id given replaced o)
 unfolding record_venue_order_id has_gateway
@@ -150,7 +150,7 @@ refused_near k r o =
     (λ e. split_if (Near o) _ (λ h. near_trans o _ _ first (status_near r.status _))
     (λ h. split_if (Near o) _ (λ t. near_trans o _ _ first (status_near _ _)) (λ t. first)))
   where
-    first : Near o (with_pending (if eqb o.pending.request k then no_pending else o.pending) (record_venue_order_id r.venueorderid false o))
+    first : Near o (with_pending (if eqb o.pending.request k then no_pending otherwise o.pending) (record_venue_order_id r.venueorderid false o))
     first = near_trans o _ _ (named_near r.venueorderid false o) (pending_near _ _)
 
 pub reported_near : (accepted : Bool) (s : ℕ) (q : Request) (o : Order) (e : Event) → Near o (reported_order accepted s q o e)
@@ -159,9 +159,9 @@ reported_near accepted s q o e = near_trans o _ _ (before accepted) (status_near
   where
     before : (a : Bool)
         → Near o (with_state (record { status = o.state.status; cumqty = e.exec.cumqty; avgpx = e.exec.avgpx; execseq = o.state.execseq })
-        (if a then apply_replace q (record_venue_order_id e.ids.venueorderid accepted o) else record_venue_order_id e.ids.venueorderid accepted o))
-    before true = unfold apply_replace record_venue_order_id has_gateway if◌then◌else◌ in record { same_name = refl; same_number = refl; gate = λ h. (h, refl, refl) }
-    before false = unfold record_venue_order_id has_gateway if◌then◌else◌ in record { same_name = refl; same_number = refl; gate = λ h. (h, refl, refl) }
+        (if a then apply_replace q (record_venue_order_id e.ids.venueorderid accepted o) otherwise record_venue_order_id e.ids.venueorderid accepted o))
+    before true = unfold apply_replace record_venue_order_id has_gateway if◌then◌otherwise◌ in record { same_name = refl; same_number = refl; gate = λ h. (h, refl, refl) }
+    before false = unfold record_venue_order_id has_gateway if◌then◌otherwise◌ in record { same_name = refl; same_number = refl; gate = λ h. (h, refl, refl) }
 
 -- the next number is the same for an order that is near
 next_near : (o p : Order) → Near o p → next_downstream p ≡ next_downstream o
@@ -176,15 +176,15 @@ pub record Mute (out : Output) : Type 0 where
   pub silent : cancels_in (chosen out.count out.first out.second) ≡ []
 
 pub calm_mute : (a : ℕ) → Mute (calm a)
-unfolding if◌then◌else◌ cancels_in
+unfolding if◌then◌otherwise◌ cancels_in
 calm_mute a = record { few = omega arith; silent = refl }
 
 behind_mute : (a : ℕ) → Mute (stuck_behind a)
-unfolding if◌then◌else◌ cancels_in
+unfolding if◌then◌otherwise◌ cancels_in
 behind_mute a = record { few = omega arith; silent = refl }
 
 pub says_mute : {m : Message} {a : ℕ} → Plain m → Mute (says m a)
-says_mute {m} {a} h = record { few = omega arith; silent = unfold if◌then◌else◌ in h }
+says_mute {m} {a} h = record { few = omega arith; silent = unfold if◌then◌otherwise◌ in h }
 
 pub record Idle (o : Order) (c : Change) : Type 0 where
   pub near : Near o c.order
@@ -281,7 +281,7 @@ module _ (f : Findings) (o : Order) where
 
   pub replace_fields : (e : Event) → (is_cancel (replace_goes f o e).requests.request ≡ false) × ((replace_goes f o e).order.gateway ≡ o.gateway)
       × (cancels_in (tells (replace_goes f o e)) ≡ []) × ((replace_goes f o e).requests.request.order ≡ f.place - 1)
-  unfolding replace_goes adding telling next_request is_cancel is_first is_replace unchanged numbered_order if◌then◌else◌ cancels_in replace_request to_venue
+  unfolding replace_goes adding telling next_request is_cancel is_first is_replace unchanged numbered_order if◌then◌otherwise◌ cancels_in replace_request to_venue
   replace_fields e = (refl, refl, refl, refl)
 
 -- ---- event 9

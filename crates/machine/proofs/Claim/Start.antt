@@ -6,7 +6,7 @@ use mathlib.Core.Bool.{Bool, false, not, ◌&&◌, ◌||◌}
 use mathlib.Core.List.{List, [], ◌∷◌, ◌++◌}
 use lib.ListN.{length}
 use Rattle.prelude.specs.Below.{first_below}
-use Rattle.prelude.specs.Cases.{if◌then◌else◌, maybe, split_if}
+use Rattle.prelude.specs.Cases.{if◌then◌otherwise◌, maybe, split_if}
 use Rattle.prelude.specs.Totals.{how_many, those_ext}
 use Rattle.prelude.specs.declared.Text.{Text}
 use Rattle.store.specs.Book.{Book, order_in}
@@ -47,14 +47,14 @@ module _ (setting : ℕ) where
   by_same : (name : Text) (e : Entry) (past : List Entry) → put_out_by (known empty) name e past ≡ put_out_by sent name e past
   unfolding put_out_by
   by_same name e past =
-      ap (λ (l : List Text). if of_kind 2 e.input then [] else l)
+      ap (λ (l : List Text). if of_kind 2 e.input then [] otherwise l)
       (those_ext _ _ (once (cancels_in e.messages)) (λ d. ap (λ (x : Bool). is_for name e.left d && not (x || sent d past)) (not_held d)))
 
   new_same : (name : Text) (past : List Entry) → new_out empty name past ≡ put_out name past
   new_same name [] = refl
   new_same name (e ∷ past) =
-      ap (λ (l : List Text). l ++ (if begins name e then [] else new_out empty name past)) (by_same name e past)
-      ∙ ap (λ (l : List Text). put_out_by sent name e past ++ (if begins name e then [] else l)) (new_same name past)
+      ap (λ (l : List Text). l ++ (if begins name e then [] otherwise new_out empty name past)) (by_same name e past)
+      ∙ ap (λ (l : List Text). put_out_by sent name e past ++ (if begins name e then [] otherwise l)) (new_same name past)
 
   pub from_start : (s : State) → Demand3From empty s → Demand3 s
   from_start s h = record {

@@ -10,7 +10,7 @@ use mathlib.Core.List.{[], ◌∷◌}
 use lib.Dec.{eqb, leb, ltb}
 use lib.ListN.{length, set}
 use borrow.Author.Tests.{eqb-true, eq-eqb, ne_eqb, ltb-true, not-true}
-use Rattle.prelude.specs.Cases.{if◌then◌else◌, maybe, clash, both_true, both_hold, both_false, either_true, if_true, if_false, true_or_false}
+use Rattle.prelude.specs.Cases.{if◌then◌otherwise◌, maybe, clash, both_true, both_hold, both_false, either_true, if_true, if_false, true_or_false}
 use Rattle.prelude.specs.Texts.{same_text, same_self, same_back, same_trans}
 use Rattle.prelude.specs.declared.Text.{Text}
 use Rattle.store.specs.declared.GatewayCancel.{GatewayCancel}
@@ -21,7 +21,6 @@ use Rattle.store.specs.Requests.{no_request}
 use Rattle.machine.specs.Orders.{has_gateway, is_done}
 use Rattle.machine.specs.Changes.{Event, is_gateway, is_cancel, is_answered, next_downstream}
 use Rattle.machine.specs.GatewayCancel.{outstanding_cancel, gateway_cancel_in_flight}
-use Rattle.machine.specs.Amend.{cancel}
 use Rattle.store.specs.Finds.{find_name, find_downstream}
 use Rattle.machine.specs.Machine.{latest_cancel, findings_of, has_room, after}
 use Rattle.machine.specs.History.{Decoded, read_as, Entry}
@@ -130,7 +129,7 @@ starts_parts b i h = let (p, q) = both_true (not (is_done (order_in b i).state.s
 pub findings_cancel : (b : Book) (i k : ℕ) → (order_in b i).links.cancel ≡ k + 1 → (findings_of b (i + 1)).cancel ≡ request_in b k
 unfolding findings_of latest_cancel
 findings_cancel b i k e =
-    ap (λ (o : Order). if eqb o.links.cancel 0 then no_request else request_in b (o.links.cancel - 1)) (at_link b i)
+    ap (λ (o : Order). if eqb o.links.cancel 0 then no_request otherwise request_in b (o.links.cancel - 1)) (at_link b i)
     ∙ if_false _ _ _ (ne_eqb (order_in b i).links.cancel 0 (λ z. omega arith))
     ∙ (let z : (order_in b i).links.cancel - 1 ≡ k = omega arith in ap (λ (j : ℕ). request_in b j) z)
 

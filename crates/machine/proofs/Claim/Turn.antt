@@ -11,7 +11,7 @@ use lib.Dec.{eqb}
 use lib.ListN.{length, length-append}
 use borrow.Author.Tests.{eqb-true, eq-eqb}
 use Rattle.prelude.specs.Below.{first_ext}
-use Rattle.prelude.specs.Cases.{if◌then◌else◌, maybe, split_if, clash, both_true, both_hold, both_false, either_true, if_true, if_false, maybe_none, maybe_some, true_or_false, none_some, same_some, or_both}
+use Rattle.prelude.specs.Cases.{if◌then◌otherwise◌, maybe, split_if, clash, both_true, both_hold, both_false, either_true, if_true, if_false, maybe_none, maybe_some, true_or_false, none_some, same_some, or_both}
 use Rattle.prelude.specs.Texts.{same_text, same_self, same_back, same_trans, same_right, same_left}
 use Rattle.prelude.specs.Totals.{some_of, how_many, those, many_append}
 use Rattle.prelude.specs.declared.Text.{Text}
@@ -39,7 +39,7 @@ unfoldable pub begins_at : ℕ → Entry → Bool
 begins_at j e = eqb e.refusal 0 && asks_at j e.before e.input
 
 unfoldable pub new_by_at : Book → ℕ → Entry → List Entry → List Text
-new_by_at image j e earlier = if of_kind 2 e.input then [] else those (λ d. is_for_at j e.left d && not (known image d earlier)) (once (cancels_in e.messages))
+new_by_at image j e earlier = if of_kind 2 e.input then [] otherwise those (λ d. is_for_at j e.left d && not (known image d earlier)) (once (cancels_in e.messages))
 
 -- the image's
 abbrev pub mine : ℕ → Request → Bool
@@ -51,11 +51,11 @@ held_at image j = downstreams (mine j) image.requests
 -- all that count: the new ones, and the image's until the gateway cancel begins again
 abbrev pub out_at : Book → ℕ → List Entry → List Text
 out_at image j [] = held_at image j
-out_at image j (e ∷ earlier) = new_by_at image j e earlier ++ (if begins_at j e then [] else out_at image j earlier)
+out_at image j (e ∷ earlier) = new_by_at image j e earlier ++ (if begins_at j e then [] otherwise out_at image j earlier)
 
 -- a number of the image's, until then
 abbrev pub still_at : ℕ → List Entry → ℕ → ℕ
-still_at j past n = if some_of (begins_at j) past then 0 else n
+still_at j past n = if some_of (begins_at j) past then 0 otherwise n
 
 -- ---- lists of texts
 
@@ -81,18 +81,18 @@ holds_one d d' h = go (either_true (same_text d d') false h)
 many_same : (f g : Text → Bool) (l : List Text) → ((x : Text) → holds x l ≡ true → f x ≡ g x) → how_many f l ≡ how_many g l
 many_same f g [] h = refl
 many_same f g (d ∷ ds) h =
-    ap (λ (b : Bool). (if b then 1 else 0) + how_many f ds) (h d (holds_self d d ds (same_self d)))
-    ∙ ap (λ (c : ℕ). (if g d then 1 else 0) + c) (many_same f g ds (λ x m. h x (or_right (same_text x d) m)))
+    ap (λ (b : Bool). (if b then 1 otherwise 0) + how_many f ds) (h d (holds_self d d ds (same_self d)))
+    ∙ ap (λ (c : ℕ). (if g d then 1 otherwise 0) + c) (many_same f g ds (λ x m. h x (or_right (same_text x d) m)))
 
 -- a test that passes one text more counts one more
 many_one : (f g : Text → Bool) (d : Text) (l : List Text) → Distinct l → holds d l ≡ true
     → ((x : Text) → same_text d x ≡ true → (f x ≡ false) × (g x ≡ true)) → ((x : Text) → same_text d x ≡ false → f x ≡ g x) → how_many g l ≡ how_many f l + 1
-unfolding Distinct if◌then◌else◌
+unfolding Distinct if◌then◌otherwise◌
 many_one f g d [] u h p r = clash false h refl
 many_one f g d (j ∷ js) u h p r = go (same_text d j) refl h (λ m. many_one f g d js u.1 m p r)
   where
     go : (b : Bool) → same_text d j ≡ b → b || holds d js ≡ true → (holds d js ≡ true → how_many g js ≡ how_many f js + 1)
-        → (if g j then 1 else 0) + how_many g js ≡ (if f j then 1 else 0) + how_many f js + 1
+        → (if g j then 1 otherwise 0) + how_many g js ≡ (if f j then 1 otherwise 0) + how_many f js + 1
     go true e m ih =
         let c : how_many f js ≡ how_many g js = many_same f g js (λ x w. r x (off x w (true_or_false (same_text d x)))) in
         rw ((p j e).0, (p j e).1) (omega (arith, c))
@@ -183,7 +183,7 @@ pub data Goes (e : Entry) : Type 0 where
 unfoldable pub new_of : {e : Entry} → Goes e → ℕ → List Text
 new_of (silent m n) j = []
 new_of (repeated d k m w c n) j = []
-new_of {e} (fresh d k m w v g a n) j = if not (of_kind 2 e.input) && eqb (request_in e.left k).order j then d ∷ [] else []
+new_of {e} (fresh d k m w v g a n) j = if not (of_kind 2 e.input) && eqb (request_in e.left k).order j then d ∷ [] otherwise []
 
 -- the tries after the call, of an order whose gateway cancel then stands
 pub data Tried (j : ℕ) (e : Entry) (l : List Text) : Type 0 where
@@ -211,7 +211,7 @@ unfolding is_cancel is_first is_replace
 cancel_same q q' s = rw s.kind
 
 once_one : (d : Text) → once (d ∷ []) ≡ d ∷ []
-unfolding once if◌then◌else◌
+unfolding once if◌then◌otherwise◌
 once_one d = refl
 
 once_none : once [] ≡ []
@@ -247,7 +247,7 @@ module _ (image : Book) (e : Entry) (past : List Entry) (s : Base image e.before
 
   -- what the line puts out
   news : (g : Goes e) (j : ℕ) → new_by_at image j e past ≡ new_of g j
-  unfolding new_by_at new_of if◌then◌else◌
+  unfolding new_by_at new_of if◌then◌otherwise◌
   news (silent m n) j =
       split_if (λ (l : List Text). l ≡ []) (of_kind 2 e.input) (λ c. refl)
       (λ c. ap (λ (l : List Text). those (λ d. is_for_at j e.left d && not (known image d past)) (once l)) m ∙ ap (those (λ d. is_for_at j e.left d && not (known image d past))) once_none)
@@ -258,14 +258,14 @@ module _ (image : Book) (e : Entry) (past : List Entry) (s : Base image e.before
       ∙ if_false _ (d ∷ []) [] (ap (λ (x : Bool). is_for_at j e.left d && not x) (s.cancel_sent d k w c) ∙ both_false (is_for_at j e.left d)))
   news (fresh d k m w v g a n) j = go (of_kind 2 e.input)
     where
-      held : (if is_for_at j e.left d && not (known image d past) then d ∷ [] else []) ≡ (if eqb (request_in e.left k).order j then d ∷ [] else [])
-      held = ap (λ (x : Bool). if is_for_at j e.left d && not x then d ∷ [] else []) (unsent d w) ∙ ap (λ (x : Bool). if x then d ∷ [] else []) (and_true (is_for_at j e.left d) ∙ for_at j d k v)
+      held : (if is_for_at j e.left d && not (known image d past) then d ∷ [] otherwise []) ≡ (if eqb (request_in e.left k).order j then d ∷ [] otherwise [])
+      held = ap (λ (x : Bool). if is_for_at j e.left d && not x then d ∷ [] otherwise []) (unsent d w) ∙ ap (λ (x : Bool). if x then d ∷ [] otherwise []) (and_true (is_for_at j e.left d) ∙ for_at j d k v)
         where
           and_true : (x : Bool) → x && true ≡ x
           and_true true = refl
           and_true false = refl
 
-      go : (x : Bool) → (if x then [] else those (λ d. is_for_at j e.left d && not (known image d past)) (once (cancels_in e.messages))) ≡ (if not x && eqb (request_in e.left k).order j then d ∷ [] else [])
+      go : (x : Bool) → (if x then [] otherwise those (λ d. is_for_at j e.left d && not (known image d past)) (once (cancels_in e.messages))) ≡ (if not x && eqb (request_in e.left k).order j then d ∷ [] otherwise [])
       go true = refl
       go false =
           ap (λ (l : List Text). those (λ d. is_for_at j e.left d && not (known image d past)) (once l)) m
@@ -323,10 +323,10 @@ module _ (image : Book) (e : Entry) (past : List Entry) (s : Base image e.before
     module _ (j : ℕ) (a : At image j e.before past) where
       -- what is counted after the call
       counted : begins_at j e ≡ false → out_at image j (e ∷ past) ≡ new_of t.goes j ++ out_at image j past
-      counted b = ap (λ (l : List Text). l ++ (if begins_at j e then [] else out_at image j past)) (news t.goes j) ∙ ap (λ (l : List Text). new_of t.goes j ++ l) (if_false _ _ _ b)
+      counted b = ap (λ (l : List Text). l ++ (if begins_at j e then [] otherwise out_at image j past)) (news t.goes j) ∙ ap (λ (l : List Text). new_of t.goes j ++ l) (if_false _ _ _ b)
 
       recounted : begins_at j e ≡ true → out_at image j (e ∷ past) ≡ new_of t.goes j ++ []
-      recounted b = ap (λ (l : List Text). l ++ (if begins_at j e then [] else out_at image j past)) (news t.goes j) ∙ ap (λ (l : List Text). new_of t.goes j ++ l) (if_true _ _ _ b)
+      recounted b = ap (λ (l : List Text). l ++ (if begins_at j e then [] otherwise out_at image j past)) (news t.goes j) ∙ ap (λ (l : List Text). new_of t.goes j ++ l) (if_true _ _ _ b)
 
       older : (d : Text) → Own j e.before d → Own j e.left d
       older d w =
@@ -346,9 +346,9 @@ module _ (image : Book) (e : Entry) (past : List Entry) (s : Base image e.before
               record { at = k; found = find_cong e.left d d₀ p ∙ v; by_gateway = g ∙ x; of_order = eqb-true _ _ y }
           mine z (inr p) = f d p
 
-          go : (x : Bool) → not (of_kind 2 e.input) && eqb (request_in e.left k).order j ≡ x → holds d ((if x then d₀ ∷ [] else []) ++ l) ≡ true → Own j e.left d
-          go true z p = mine z (either_true (same_text d d₀) (holds d l) (unfold if◌then◌else◌ in p))
-          go false z p = f d (unfold if◌then◌else◌ in p)
+          go : (x : Bool) → not (of_kind 2 e.input) && eqb (request_in e.left k).order j ≡ x → holds d ((if x then d₀ ∷ [] otherwise []) ++ l) ≡ true → Own j e.left d
+          go true z p = mine z (either_true (same_text d d₀) (holds d l) (unfold if◌then◌otherwise◌ in p))
+          go false z p = f d (unfold if◌then◌otherwise◌ in p)
 
       distinct_new : (g : Goes e) (l : List Text) → Distinct l → ((d : Text) → find_downstream e.before d ≡ none → holds d l ≡ false) → Distinct (new_of g j ++ l)
       unfolding new_of Distinct
@@ -407,8 +407,8 @@ module _ (image : Book) (e : Entry) (past : List Entry) (s : Base image e.before
               before (inl y) k = clash _ (k y) u
               before (inr y) k = y
           go (inr h) =
-              ap (λ (l : List Text). holds d (l ++ (if begins_at j e then [] else out_at image j past))) (news t.goes j)
-              ∙ new_held (new_of t.goes j) (if begins_at j e then [] else out_at image j past) d (new_put t.goes d w h)
+              ap (λ (l : List Text). holds d (l ++ (if begins_at j e then [] otherwise out_at image j past))) (news t.goes j)
+              ∙ new_held (new_of t.goes j) (if begins_at j e then [] otherwise out_at image j past) d (new_put t.goes d w h)
 
       -- a request put out now has not failed
       new_failed : (g : Goes e) → how_many (failed (e ∷ past)) (new_of g j) ≡ 0
@@ -429,7 +429,7 @@ module _ (image : Book) (e : Entry) (past : List Entry) (s : Base image e.before
       dropped b n = if_true _ _ _ (or_left (some_of (begins_at j) past) b)
 
       left : begins_at j e ≡ false → (n : ℕ) → still_at j (e ∷ past) n ≡ still_at j past n
-      left b n = ap (λ (x : Bool). if x || some_of (begins_at j) past then 0 else n) b
+      left b n = ap (λ (x : Bool). if x || some_of (begins_at j) past then 0 otherwise n) b
 
       tries_kept : has_gateway (order_in e.left j) ≡ true → Tries image j (e ∷ past) (order_in e.left j).gateway.tries
       tries_kept hg = go (t.tried j hg)

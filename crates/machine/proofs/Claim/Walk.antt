@@ -11,19 +11,17 @@ use lib.Dec.{eqb}
 use lib.ListN.{length}
 use borrow.Author.Tests.{eq-eqb, ne_eqb, not-true, not-false}
 use Rattle.prelude.specs.Below.{first_some}
-use Rattle.prelude.specs.Cases.{if◌then◌else◌, maybe, split_if, clash, both_true}
+use Rattle.prelude.specs.Cases.{if◌then◌otherwise◌, maybe, split_if, clash, both_true}
 use Rattle.prelude.specs.Texts.{same_text}
 use Rattle.prelude.specs.Totals.{total_of}
 use Rattle.prelude.specs.declared.Text.{Text}
 use Rattle.store.specs.declared.Order.{Order}
 use Rattle.store.specs.Book.{Book, order_in, request_in}
-use Rattle.machine.specs.Constants.{unknown}
 use Rattle.machine.specs.Messages.{cancel_reject}
 use Rattle.machine.specs.Changes.{Event, unchanged, refusing, adding, alarming}
-use Rattle.machine.specs.Amend.{has, refusal, amend_refusal, already_taken}
+use Rattle.machine.specs.Amend.{has, amend_refusal, already_taken}
 use Rattle.store.specs.Finds.{find_name, find_downstream, find_clordid}
 use Rattle.machine.specs.Machine.{order_link, findings_of, booked_order, first_request, unused, nothing, unknown_report, change_of, has_room, step_of}
-use Rattle.records.specs.Answer.{chosen}
 use Rattle.machine.specs.Claim.{cancels_in}
 use Rattle.machine.specs.declared.Findings.{Findings}
 use Rattle.machine.specs.declared.Refusal.{Refusal}
@@ -92,29 +90,29 @@ none_taken f order e p = ap (λ (n : ℕ). has e 21 && not (eqb order 0) && eqb 
 
 pub none_refused : (f : Findings) (order : ℕ) (full : Bool) (o : Order) (e : Event) (own : Refusal) → f.place ≡ 0
     → eqb (amend_refusal f order full o e own).fixedtext 0 ≡ false
-unfolding amend_refusal if◌then◌else◌
+unfolding amend_refusal if◌then◌otherwise◌
 none_refused f order full o e own p =
     split_if (λ (r : Refusal). eqb r.fixedtext 0 ≡ false) (not (eqb order 0)) (λ h. refl)
     (λ h. split_if (λ (r : Refusal). eqb r.fixedtext 0 ≡ false) (eqb f.place 0) (λ k. refl) (λ k. clash _ (eq-eqb f.place 0 p) k))
 
 none_bystands : {f : Findings} {order : ℕ} {full : Bool} {o : Order} {e : Event} {c c' : Change} → f.place ≡ 0 → AmendedBy f order full o e c c' → Bystands c
 none_bystands {f} {order} {full} {o} {e} p (repeated t) = clash _ t (none_taken f order e p)
-none_bystands p (turned w t) = unfold if◌then◌else◌ cancel_reject cancels_in in
+none_bystands p (turned w t) = unfold if◌then◌otherwise◌ cancel_reject cancels_in in
     record { taken = refl; nowhere = p; answers = refl; supersedes = refl; adds = refl; no_report = λ t. refl; no_cancel = refl }
 none_bystands {f} {order} {full} {o} {e} p (unpriced t) = clash _ (not-false _ t) (none_refused f order full o e _ p)
 none_bystands {f} {order} {full} {o} {e} p (cancel_sent z t) = clash _ (not-false _ t) (none_refused f order full o e _ p)
 none_bystands {f} {order} {full} {o} {e} p (replace_sent t u) = clash _ (not-false _ t) (none_refused f order full o e _ p)
 
 nothing_bystands : Bystands nothing
-unfolding unchanged if◌then◌else◌ cancels_in
+unfolding unchanged if◌then◌otherwise◌ cancels_in
 nothing_bystands = record { taken = refl; nowhere = refl; answers = refl; supersedes = refl; adds = refl; no_report = λ t. refl; no_cancel = refl }
 
 unknown_bystands : Bystands unknown_report
-unfolding unchanged alarming if◌then◌else◌ cancels_in
+unfolding unchanged alarming if◌then◌otherwise◌ cancels_in
 unknown_bystands = record { taken = refl; nowhere = refl; answers = refl; supersedes = refl; adds = refl; no_report = λ t. refl; no_cancel = refl }
 
 pub refusing_bystands : Bystands (refusing 0)
-unfolding refusing if◌then◌else◌ cancels_in
+unfolding refusing if◌then◌otherwise◌ cancels_in
 refusing_bystands = record { taken = refl; nowhere = refl; answers = refl; supersedes = refl; adds = refl; no_report = λ t. refl; no_cancel = refl }
 
 pub refusing_away : (n : ℕ) → eqb n 0 ≡ false → eqb (refusing n).refusal 0 ≡ false

@@ -11,9 +11,9 @@ use lib.Dec.{eqb}
 use lib.ListN.{length, length-append, set, get_or-eq_default}
 use borrow.Author.Tests.{eqb-true, eq-eqb, ne_eqb}
 use Rattle.prelude.specs.Below.{first_elim}
-use Rattle.prelude.specs.Cases.{if◌then◌else◌, maybe, split_if, clash, both_hold, both_false, if_true, if_false, maybe_none, test_same, true_or_false, none_some}
+use Rattle.prelude.specs.Cases.{if◌then◌otherwise◌, maybe, split_if, clash, both_hold, both_false, if_true, if_false, maybe_none, test_same, true_or_false, none_some}
 use Rattle.prelude.specs.Texts.{same_text, same_self, same_back}
-use Rattle.prelude.specs.Totals.{total_of, some_of, how_many, those, Every, every[], every∷, many_append, every_map, those_ext, total_one}
+use Rattle.prelude.specs.Totals.{total_of, some_of, how_many, Every, every[], every∷, many_append, every_map, those_ext, total_one}
 use Rattle.prelude.specs.declared.Text.{Text}
 use Rattle.store.specs.declared.Order.{Order}
 use Rattle.store.specs.declared.Request.{Request}
@@ -37,7 +37,7 @@ use Rattle.machine.proofs.Claim.Ruled.{Ruled, ruled, request_ruled}
 use Rattle.machine.proofs.Made.{not_kind}
 use Rattle.machine.proofs.Claim.Walk.{Bystands, booking, Did, Roomy, turned_away, no_order_lem, on_order, new_order, found_request, found_order, found_name, step_walk, refusing_bystands, refusing_away}
 use Rattle.machine.proofs.Claim.Filled.{Moved, Persists, persists_same, same_name, persists_trans, status_stays, call_advances, Steady, steady, orders_set, orders_same, orders_more, at, beside, long, more_at, more_beside, more_long, changed_persists, after_orders, refused_line, taken_line, booking_place, booking_silent}
-use Rattle.machine.proofs.Claim.Records.{there_like, longer, added_at, added_long, none_kept}
+use Rattle.machine.proofs.Claim.Records.{there_like, added_at, added_long, none_kept}
 use Rattle.machine.proofs.Claim.Net.{run_netted}
 use Rattle.machine.proofs.Claim.Turn.{is_for_at, asks_at, begins_at, new_by_at, held_at, out_at, still_at, TriesOf, Tries, Base, At, silent, new_of, goes_on_lem, Turn, base_kept, at_kept}
 use Rattle.machine.proofs.Claim.Image.{downstreams_same, start_base, start_at}
@@ -97,7 +97,7 @@ refused_round b i c h =
 
 -- a change of nothing leaves the book as it was
 none_answered : (qs : List Request) → answer_link 0 qs ≡ qs
-unfolding answer_link if◌then◌else◌
+unfolding answer_link if◌then◌otherwise◌
 none_answered qs = refl
 
 requests_same : (qs : List Request) (c : Change) → c.requests.answered ≡ 0 → c.requests.superseded ≡ 0 → c.requests.added ≡ 0 → requests_after qs c ≡ qs
@@ -386,7 +386,7 @@ module _ (b : Book) (a : Apart b) (j : ℕ) (h : j < length b.orders) where
   by_same : (image : Book) (e : Entry) (past : List Entry) → Known b e → put_out_by (known image) (order_in b j).names.name e past ≡ new_by_at image j e past
   unfolding put_out_by new_by_at
   by_same image e past k =
-      ap (λ (l : List Text). if of_kind 2 e.input then [] else l)
+      ap (λ (l : List Text). if of_kind 2 e.input then [] otherwise l)
       (those_ext _ _ (once (cancels_in e.messages)) (λ d. ap (λ (x : Bool). x && not (known image d past)) (for_same e k d)))
 
   begins_same : (e : Entry) → Known b e → begins (order_in b j).names.name e ≡ begins_at j e
@@ -418,19 +418,19 @@ module _ (b : Book) (a : Apart b) (j : ℕ) (h : j < length b.orders) where
 
     -- the new ones and the image's are all that count
     out_same : (past : List Entry) → Every (Known b) past → new_out image (order_in b j).names.name past ++ base_out image (order_in b j).names.name past ≡ out_at image j past
-    unfolding if◌then◌else◌
+    unfolding if◌then◌otherwise◌
     out_same [] every[] = held_same
     out_same (e ∷ past) (every∷ k ks) =
         go (begins (order_in b j).names.name e) (out_same past ks)
-        ∙ ap (λ (l : List Text). l ++ (if begins (order_in b j).names.name e then [] else out_at image j past)) (by_same image e past k)
-        ∙ ap (λ (x : Bool). new_by_at image j e past ++ (if x then [] else out_at image j past)) (begins_same e k)
+        ∙ ap (λ (l : List Text). l ++ (if begins (order_in b j).names.name e then [] otherwise out_at image j past)) (by_same image e past k)
+        ∙ ap (λ (x : Bool). new_by_at image j e past ++ (if x then [] otherwise out_at image j past)) (begins_same e k)
       where
         new : List Text
         new = put_out_by (known image) (order_in b j).names.name e past
 
         go : (x : Bool) → new_out image (order_in b j).names.name past ++ base_out image (order_in b j).names.name past ≡ out_at image j past
-            → (new ++ (if x then [] else new_out image (order_in b j).names.name past)) ++ (if x || begun_since (order_in b j).names.name past then [] else held_out image (order_in b j).names.name)
-            ≡ new ++ (if x then [] else out_at image j past)
+            → (new ++ (if x then [] otherwise new_out image (order_in b j).names.name past)) ++ (if x || begun_since (order_in b j).names.name past then [] otherwise held_out image (order_in b j).names.name)
+            ≡ new ++ (if x then [] otherwise out_at image j past)
         go true r = append-nil (new ++ [])
         go false r = append_assoc new _ _ ∙ ap (λ (l : List Text). new ++ l) r
 
@@ -444,15 +444,15 @@ module _ (b : Book) (a : Apart b) (j : ℕ) (h : j < length b.orders) where
         let many = many_append (failed past) (new_out image name past) (base_out image name past) in
         let long = length-append (new_out image name past) (base_out image name past) in
         let base : length (base_out image name past) ≡ still_at j past (length (held_at image j)) =
-        cut (begun_since name past) (held_out image name) ∙ ap (λ (x : Bool). if x then 0 else length (held_out image name)) (begun_same past ks)
+        cut (begun_since name past) (held_out image name) ∙ ap (λ (x : Bool). if x then 0 otherwise length (held_out image name)) (begun_same past ks)
         ∙ ap (λ (l : List Text). still_at j past (length l)) held_same in
         let tries : base_tries image name past ≡ still_at j past (order_in image j).gateway.tries =
-        ap (λ (x : Bool). if x then 0 else held_tries image name) (begun_same past ks) ∙ ap (still_at j past) (held_at_lem (λ o. o.gateway.tries) refl) in
+        ap (λ (x : Bool). if x then 0 otherwise held_tries image name) (begun_same past ks) ∙ ap (still_at j past) (held_at_lem (λ o. o.gateway.tries) refl) in
         omega (arith, w, many, long, base, tries)
       where
-        cut : (x : Bool) (l : List Text) → length (if x then [] else l) ≡ (if x then 0 else length l)
-        cut true l = unfold if◌then◌else◌ in refl
-        cut false l = unfold if◌then◌else◌ in refl
+        cut : (x : Bool) (l : List Text) → length (if x then [] otherwise l) ≡ (if x then 0 otherwise length l)
+        cut true l = unfold if◌then◌otherwise◌ in refl
+        cut false l = unfold if◌then◌otherwise◌ in refl
 
 -- ---- demand 3, from an image that keeps its rules
 

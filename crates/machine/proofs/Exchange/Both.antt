@@ -9,7 +9,7 @@ use mathlib.Core.Bool.{true, false, not, ◌||◌}
 use lib.Dec.{eqb, leb, ltb}
 use lib.ListN.{length}
 use borrow.Author.Tests.{eqb-true, eq-eqb, le-leb, lt-ltb, ltb-true}
-use Rattle.prelude.specs.Cases.{if◌then◌else◌, if_true, if_false, both_true, either_true, true_or_false, clash}
+use Rattle.prelude.specs.Cases.{if◌then◌otherwise◌, if_true, if_false, both_true, either_true, true_or_false, clash}
 use Rattle.store.specs.Book.{Book, order_in}
 use Rattle.machine.specs.Orders.{one_more}
 use Rattle.machine.specs.Changes.{Event, refusing}
@@ -35,7 +35,7 @@ pub record Taken (b : Book) (e : Event) : Type 0 where
   pub left : book_after b e ≡ after b (change_of b e)
 
 module _ (b : Book) (e : Event) where
-  left_taken : (c : Change) → c.refusal ≡ 0 → (if eqb c.refusal 0 then after b c else b) ≡ after b c
+  left_taken : (c : Change) → c.refusal ≡ 0 → (if eqb c.refusal 0 then after b c otherwise b) ≡ after b c
   left_taken c z = if_true _ _ _ (eq-eqb c.refusal 0 z)
 
   taken_of : (change_of b e).refusal ≡ 0 → has_room b (change_of b e) ≡ true → Taken b e

@@ -1,5 +1,5 @@
 -- Two changes of different orders, one after the other and the other way round: the tables that they leave. Rests on Links and Frame.
-use Prim.Native.Nat.{ℕ, suc, ◌+◌, ◌-◌, ◌≤◌, ◌<◌}
+use Prim.Native.Nat.{ℕ, ◌+◌, ◌-◌, ◌≤◌, ◌<◌}
 use native.Mathlib.Decide.{ℕ_discrete}
 use native.Mathlib.Omega.{arith}
 use mathlib.Core.Path.{◌≡◌, refl, sym, ap, ◌∙◌}
@@ -10,7 +10,7 @@ use lib.Dec.{eqb}
 use lib.ListN.{length, get_or, set, length-append, length-set, get_or-append}
 use lib.Seq.{get_or-set_same, get_or-set_other, set-append_left, set_comm, get_or_at}
 use borrow.Author.Tests.{eq-eqb, ne_eqb}
-use Rattle.prelude.specs.Cases.{if◌then◌else◌, if_true, if_false}
+use Rattle.prelude.specs.Cases.{if◌then◌otherwise◌, if_true, if_false}
 use Rattle.prelude.specs.Totals.{those, those_append, append_swap}
 use Rattle.store.specs.declared.Order.{Order}
 use Rattle.store.specs.declared.Request.{Request}
@@ -38,7 +38,7 @@ answer_front : (k : ℕ) (s t : List Request) → k ≤ length s → answer_link
 unfolding answer_link
 answer_front k s t l = go (ℕ_discrete k 0)
   where
-    go : Dec (k ≡ 0) → (if eqb k 0 then s ++ t else set (s ++ t) (k - 1) (answered (at (s ++ t) (k - 1)))) ≡ (if eqb k 0 then s else set s (k - 1) (answered (at s (k - 1)))) ++ t
+    go : Dec (k ≡ 0) → (if eqb k 0 then s ++ t otherwise set (s ++ t) (k - 1) (answered (at (s ++ t) (k - 1)))) ≡ (if eqb k 0 then s otherwise set s (k - 1) (answered (at s (k - 1)))) ++ t
     go (yes z) = if_true _ _ _ (eq-eqb k 0 z) ∙ ap (λ (x : List Request). x ++ t) (sym (if_true (eqb k 0) s _ (eq-eqb k 0 z)))
     go (no z) =
         let h : k - 1 < length s = omega arith in
@@ -76,7 +76,7 @@ abbrev pub settle : Requests → List Request → List Request
 settle r qs = answer_link r.superseded (answer_link r.answered qs)
 
 unfoldable pub more : Requests → List Request
-more r = if eqb r.added 0 then [] else r.request ∷ []
+more r = if eqb r.added 0 then [] otherwise r.request ∷ []
 
 pub none_more : (r : Requests) → r.added ≡ 0 → more r ≡ []
 unfolding more
@@ -90,10 +90,10 @@ pub requests_after_lem : (b : Book) (c : Change) → (after b c).requests ≡ se
 unfolding after requests_after more
 requests_after_lem b c = go (eqb c.requests.added 0)
   where
-    go : (a : Bool) → (if a then settle c.requests b.requests else settle c.requests b.requests ++ (c.requests.request ∷ []))
-        ≡ settle c.requests b.requests ++ (if a then [] else c.requests.request ∷ [])
-    go true = unfold if◌then◌else◌ in sym (append-nil (settle c.requests b.requests))
-    go false = unfold if◌then◌else◌ in refl
+    go : (a : Bool) → (if a then settle c.requests b.requests otherwise settle c.requests b.requests ++ (c.requests.request ∷ []))
+        ≡ settle c.requests b.requests ++ (if a then [] otherwise c.requests.request ∷ [])
+    go true = unfold if◌then◌otherwise◌ in sym (append-nil (settle c.requests b.requests))
+    go false = unfold if◌then◌otherwise◌ in refl
 
 pub length_settle : (r : Requests) (qs : List Request) → length (settle r qs) ≡ length qs
 length_settle r qs = length_answer r.superseded _ ∙ length_answer r.answered qs

@@ -1,19 +1,18 @@
 -- What a change to one order leaves as it was: the other orders and their requests, and what is looked up for them. Rests on Records and Lift.
-use Prim.Native.Nat.{ℕ, zero, suc, ◌+◌, ◌-◌, ◌≤◌, ◌<◌}
-use native.Mathlib.Nat.{eq-or-lt_of_le, le_of_suc-le-suc}
+use Prim.Native.Nat.{ℕ, ◌+◌, ◌-◌, ◌≤◌, ◌<◌}
 use native.Mathlib.Decide.{ℕ_discrete}
 use native.Mathlib.Omega.{arith}
 use mathlib.Core.Path.{◌≡◌, refl, sym, ap, subst, ◌∙◌}
 use mathlib.Core.Logic.{◌⊎◌, inl, inr, ⊎_elim}
 use mathlib.Core.Bool.{Bool, true, false, not, ◌&&◌}
-use mathlib.Core.Option.{Option, none, some}
+use mathlib.Core.Option.{some}
 use mathlib.Core.List.{List}
 use lib.Dec.{eqb, leb, ltb}
 use lib.ListN.{length, get_or, set, length-set}
 use lib.Seq.{get_or-set_same, get_or-set_other}
 use borrow.Author.Tests.{eqb-true, eq-eqb, ne_eqb, leb-true}
-use Rattle.prelude.specs.Below.{first_below, count_below, First, first_some, first_hit, first_ext, first_past, count_ext, count_past}
-use Rattle.prelude.specs.Cases.{if◌then◌else◌, maybe, both_true, both_false, either_true, clash}
+use Rattle.prelude.specs.Below.{first_below, First, first_some, first_hit, first_ext, first_past, count_ext, count_past}
+use Rattle.prelude.specs.Cases.{if◌then◌otherwise◌, both_true, both_false, either_true, clash}
 use Rattle.prelude.specs.Texts.{same_text}
 use Rattle.prelude.specs.declared.Text.{Text}
 use Rattle.store.specs.declared.Order.{Order}
@@ -26,7 +25,7 @@ use Rattle.machine.specs.Changes.{is_cancel}
 use Rattle.machine.specs.Machine.{after, latest_cancel}
 use Rattle.machine.specs.Rules.{cancel_rule, current_rule, pending_rule, current_test, pending_test, gateway_range}
 use Rattle.machine.specs.declared.Change.{Change}
-use Rattle.machine.proofs.Kept.Tables.{at, Linked, linked_at}
+use Rattle.machine.proofs.Kept.Tables.{Linked, linked_at}
 use Rattle.machine.proofs.Kept.Lift.{BookKept, after_case}
 use Rattle.machine.proofs.Claim.Filled.{orders_set, after_orders}
 use Rattle.machine.proofs.Claim.Records.{there_like, there_other, longer, added_long, added_at, none_kept}
@@ -189,9 +188,9 @@ module _ (b b' : Book) (i : ℕ) (a : Apart b b' i) where
         go (eqb l 0) (λ e. linked_same l (cancel_of l (good.order j h).cancel) e)
       where
         go : (z : Bool) → (z ≡ false → request_in b' ((order_in b j).links.cancel - 1) ≡ request_in b ((order_in b j).links.cancel - 1))
-            → (if z then no_request else request_in b' ((order_in b j).links.cancel - 1)) ≡ (if z then no_request else request_in b ((order_in b j).links.cancel - 1))
-        go true f = unfold if◌then◌else◌ in refl
-        go false f = unfold if◌then◌else◌ in f refl
+            → (if z then no_request otherwise request_in b' ((order_in b j).links.cancel - 1)) ≡ (if z then no_request otherwise request_in b ((order_in b j).links.cancel - 1))
+        go true f = unfold if◌then◌otherwise◌ in refl
+        go false f = unfold if◌then◌otherwise◌ in f refl
 
 -- ---- the links of a book's orders name its requests
 

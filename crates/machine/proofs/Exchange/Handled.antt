@@ -11,7 +11,7 @@ use lib.Dec.{eqb, leb, ltb}
 use lib.ListN.{length}
 use borrow.Author.Tests.{eqb-true, eq-eqb, ne_eqb}
 use Rattle.prelude.specs.Below.{first_some}
-use Rattle.prelude.specs.Cases.{if◌then◌else◌, maybe, if_true, if_false, maybe_some, both_true, clash}
+use Rattle.prelude.specs.Cases.{if◌then◌otherwise◌, maybe, if_true, if_false, maybe_some, both_true, clash}
 use Rattle.prelude.specs.Texts.{same_text}
 use Rattle.prelude.specs.declared.Text.{Text}
 use Rattle.store.specs.declared.Order.{Order}
@@ -67,35 +67,35 @@ pub data Handled (b : Book) (e : Event) (i : ℕ) : Type 0 where
 
 module _ (e : Event) where
   change_2 : e.kind ≡ 2 → (x : Book) → change_of x e ≡ amending cancel x e
-  unfolding change_of if◌then◌else◌
+  unfolding change_of if◌then◌otherwise◌
   change_2 z x = rw z
 
   change_3 : e.kind ≡ 3 → (x : Book) → change_of x e ≡ amending replace x e
-  unfolding change_of if◌then◌else◌
+  unfolding change_of if◌then◌otherwise◌
   change_3 z x = rw z
 
   change_4 : e.kind ≡ 4 → (x : Book) → change_of x e ≡ on_request unknown_report (on_report e) x e
-  unfolding change_of if◌then◌else◌
+  unfolding change_of if◌then◌otherwise◌
   change_4 z x = rw z
 
   change_5 : e.kind ≡ 5 → (x : Book) → change_of x e ≡ on_request unknown_report (λ f k q o. unknown_at_venue f k o e) x e
-  unfolding change_of if◌then◌else◌
+  unfolding change_of if◌then◌otherwise◌
   change_5 z x = rw z
 
   change_6 : e.kind ≡ 6 → (x : Book) → change_of x e ≡ on_request unknown_report (λ f k q o. venue_cancel_reject f k q o e) x e
-  unfolding change_of if◌then◌else◌
+  unfolding change_of if◌then◌otherwise◌
   change_6 z x = rw z
 
   change_7 : e.kind ≡ 7 → (x : Book) → change_of x e ≡ on_request nothing (λ f k q o. send_failed f k q e.venue (text_note e) o) x e
-  unfolding change_of if◌then◌else◌
+  unfolding change_of if◌then◌otherwise◌
   change_7 z x = rw z
 
   change_8 : e.kind ≡ 8 → (x : Book) → change_of x e ≡ on_request nothing (λ f k q o. unsent f k q e.venue o) x e
-  unfolding change_of if◌then◌else◌
+  unfolding change_of if◌then◌otherwise◌
   change_8 z x = rw z
 
   change_9 : e.kind ≡ 9 → (x : Book) → change_of x e ≡ on_name x e
-  unfolding change_of if◌then◌else◌
+  unfolding change_of if◌then◌otherwise◌
   change_9 z x = rw z
 
 -- what a link that is not 0 was found by

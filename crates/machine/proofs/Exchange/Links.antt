@@ -5,7 +5,7 @@ use mathlib.Core.Path.{◌≡◌, refl, sym, ap, ◌∙◌}
 use mathlib.Core.Logic.{◌⊎◌, inl, inr}
 use mathlib.Core.Bool.{Bool, false}
 use lib.Dec.{eqb}
-use Rattle.prelude.specs.Cases.{if◌then◌else◌, split_if}
+use Rattle.prelude.specs.Cases.{if◌then◌otherwise◌, split_if}
 use Rattle.prelude.specs.declared.Text.{Text}
 use Rattle.store.specs.declared.State.{State}
 use Rattle.store.specs.declared.Pending.{Pending}
@@ -48,10 +48,10 @@ module _ (t : ℕ) (o : Order) (w : Within t o) where
   gateway_within : (g : GatewayCancel) → g.origdownstream ≤ t → Within t (with_gateway g o)
   gateway_within g l = record { current = w.current; cancel = w.cancel; pending = w.pending; named = l }
 
-  none_pending : (a : Bool) → (if a then no_pending else o.pending).request ≤ t
+  none_pending : (a : Bool) → (if a then no_pending otherwise o.pending).request ≤ t
   none_pending a = split_if (λ (p : Pending). p.request ≤ t) a (λ e. omega arith) (λ e. w.pending)
 
-  none_named : (a : Bool) → (if a then no_gateway else o.gateway).origdownstream ≤ t
+  none_named : (a : Bool) → (if a then no_gateway otherwise o.gateway).origdownstream ≤ t
   none_named a = split_if (λ (g : GatewayCancel). g.origdownstream ≤ t) a (λ e. omega arith) (λ e. w.named)
 
   status_within : (s : ℕ) → Within t (set_status s o)
@@ -150,15 +150,15 @@ module _ {t : ℕ} (p : ℕ) (x : Request) (m n : ℕ) {o : Order} (w : Within t
   rest v = same (record { adds = refl; within = v }) refl
 
   send : (y : Order) (j s : ℕ) (out : Output) → Within t y → Pair t m n (send_gateway_cancel (findings p x m) (left p y j s out)) (send_gateway_cancel (findings p x n) (left p y j s out))
-  unfolding send_gateway_cancel numbered_order next_link telling adding try_sent cancel_request to_venue next_request if◌then◌else◌
+  unfolding send_gateway_cancel numbered_order next_link telling adding try_sent cancel_request to_venue next_request if◌then◌otherwise◌
   send y j s out v = cancels refl refl (record { current = v.current; cancel = omega arith; pending = v.pending; named = v.current }) refl
 
   cancel_goes_lem : (e : Event) → Pair t m n (cancel_goes (findings p x m) o e) (cancel_goes (findings p x n) o e)
-  unfolding cancel_goes numbered_order next_link telling adding unchanged cancel_request to_venue next_request if◌then◌else◌
+  unfolding cancel_goes numbered_order next_link telling adding unchanged cancel_request to_venue next_request if◌then◌otherwise◌
   cancel_goes_lem e = cancels refl refl (record { current = w.current; cancel = omega arith; pending = w.pending; named = w.named }) refl
 
   replace_goes_lem : (e : Event) → Pair t m n (replace_goes (findings p x m) o e) (replace_goes (findings p x n) o e)
-  unfolding replace_goes numbered_order next_link new_pending telling adding unchanged replace_request to_venue next_request if◌then◌else◌
+  unfolding replace_goes numbered_order next_link new_pending telling adding unchanged replace_request to_venue next_request if◌then◌otherwise◌
   replace_goes_lem e = replaces refl refl (record { current = w.current; cancel = w.cancel; pending = omega arith; named = w.named }) refl
 
   pub made_pair : {k : ℕ} {q : Request} {e : Event} {c c' : Change} → Made k q o e p x m n c c' → Pair t m n c c'

@@ -18,7 +18,7 @@ use Rattle.machine.proofs.Claim.Records.{added_long}
 use Rattle.machine.proofs.Exchange.Links.{Within, Linked, same, cancels, replaces, with_cancel, with_request, same_requests}
 use Rattle.machine.proofs.Exchange.Commute.{added_one, added_two}
 use Rattle.machine.proofs.Exchange.Both.{next, Crossed, crossed_back, Both, both_ways}
-use Rattle.machine.proofs.Exchange.Whole.{within, one, two, old_at, first_one, first_two, beside_one, beside_two, same_count}
+use Rattle.machine.proofs.Exchange.Whole.{within, old_at, first_one, first_two, beside_one, beside_two, same_count}
 
 -- ---- links
 

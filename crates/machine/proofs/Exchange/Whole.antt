@@ -7,7 +7,7 @@ use mathlib.Core.Logic.{◌⊎◌, inl, inr, ⊎_elim}
 use lib.Dec.{eqb}
 use lib.ListN.{length, get_or-eq_default}
 use borrow.Author.Tests.{eq-eqb, ne_eqb}
-use Rattle.prelude.specs.Cases.{if◌then◌else◌, if_true, if_false}
+use Rattle.prelude.specs.Cases.{if◌then◌otherwise◌, if_true, if_false}
 use Rattle.prelude.specs.Totals.{total_ext}
 use Rattle.prelude.specs.declared.Terms.{Terms}
 use Rattle.store.specs.declared.Order.{Order}
@@ -217,16 +217,16 @@ module _ (b : Book) (good : BookKept b) (i j : ℕ) (c c' d d' : Change) (x : Cr
 
 -- what is left open goes by client, terms and state
 same_leaves : (client : ℕ) (o p : Order) → o.client ≡ p.client → o.terms ≡ p.terms → o.state ≡ p.state
-    → (if eqb o.client client then leaves_qty o else 0) ≡ (if eqb p.client client then leaves_qty p else 0)
+    → (if eqb o.client client then leaves_qty o otherwise 0) ≡ (if eqb p.client client then leaves_qty p otherwise 0)
 unfolding leaves_qty
 same_leaves client o p x y z =
-    ap (λ (k : ℕ). if eqb k client then leaves_of o.state.status o.terms.qty o.state.cumqty else 0) x
-    ∙ ap (λ (t : Terms). if eqb p.client client then leaves_of o.state.status t.qty o.state.cumqty else 0) y
-    ∙ ap (λ (s : State). if eqb p.client client then leaves_of s.status p.terms.qty s.cumqty else 0) z
+    ap (λ (k : ℕ). if eqb k client then leaves_of o.state.status o.terms.qty o.state.cumqty otherwise 0) x
+    ∙ ap (λ (t : Terms). if eqb p.client client then leaves_of o.state.status t.qty o.state.cumqty otherwise 0) y
+    ∙ ap (λ (s : State). if eqb p.client client then leaves_of s.status p.terms.qty s.cumqty otherwise 0) z
 
 same_open : (x y : Book) → length x.orders ≡ length y.orders → ((k : ℕ) → SameOrder x y k) → (client : ℕ) → open_of x client ≡ open_of y client
 same_open x y l s client =
-    total_ext (λ (o : Order). if eqb o.client client then leaves_qty o else 0) no_order x.orders y.orders l
+    total_ext (λ (o : Order). if eqb o.client client then leaves_qty o otherwise 0) no_order x.orders y.orders l
     (λ k. same_leaves client (order_in x k) (order_in y k) (s k).order.client (s k).order.terms (s k).order.state)
 
 -- ---- the two events

@@ -12,7 +12,7 @@ use lib.Dec.{eqb, ltb}
 use lib.ListN.{length}
 use borrow.Author.Tests.{eqb-true, eqb-false, eq-eqb, ne_eqb, ltb-true}
 use Rattle.prelude.specs.Below.{first_below, first_none, first_more, first_hit, count_below, count_le}
-use Rattle.prelude.specs.Cases.{if◌then◌else◌, split_if, both_true, clash}
+use Rattle.prelude.specs.Cases.{if◌then◌otherwise◌, split_if, both_true, clash}
 use Rattle.prelude.specs.Texts.{same_text, same_self, same_back, same_trans}
 use Rattle.prelude.specs.declared.Text.{Text}
 use Rattle.store.specs.Book.{Book, order_in, request_in}
@@ -41,13 +41,13 @@ unfolding count_below
 count_passed p i zero h t = absurd (not-suc-le-zero h)
 count_passed p i (suc j) h t =
     ⊎_elim
-    (λ e. subst (λ (k : ℕ). count_below p i < count_below p k + (if p k then 1 else 0)) e (split_if (λ (n : ℕ). count_below p i < count_below p i + n) (p i) (λ z. omega arith) (λ z. clash (p i) t z)))
+    (λ e. subst (λ (k : ℕ). count_below p i < count_below p k + (if p k then 1 otherwise 0)) e (split_if (λ (n : ℕ). count_below p i < count_below p i + n) (p i) (λ z. omega arith) (λ z. clash (p i) t z)))
     (λ l. let less : count_below p i < count_below p j = count_passed p i j l t in omega arith)
     (eq-or-lt_of_le (le_of_suc-le-suc h))
 
 -- the number is 0 just where the test holds
-number_first : (a : Bool) (n : ℕ) → (if a then eqb n 0 else ltb 0 n) ≡ true → a ≡ eqb n 0
-unfolding if◌then◌else◌
+number_first : (a : Bool) (n : ℕ) → (if a then eqb n 0 otherwise ltb 0 n) ≡ true → a ≡ eqb n 0
+unfolding if◌then◌otherwise◌
 number_first true n e = sym e
 number_first false n e = sym (ne_eqb n 0 (λ z. let h : 0 < n = ltb-true 0 n e in omega arith))
 

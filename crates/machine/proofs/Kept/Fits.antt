@@ -7,7 +7,7 @@ use mathlib.Core.List.{List, [], ◌∷◌, ◌++◌}
 use lib.Dec.{eqb}
 use lib.ListN.{length, get_or, set}
 use borrow.Author.Tests.{eqb-true, eqb-false, ltb-true}
-use Rattle.prelude.specs.Cases.{if◌then◌else◌, split_if}
+use Rattle.prelude.specs.Cases.{if◌then◌otherwise◌, split_if}
 use Rattle.prelude.specs.Texts.{WholeText}
 use Rattle.prelude.specs.Bytes.{bytes_zeros}
 use Rattle.prelude.specs.declared.Text.{Text}
@@ -170,7 +170,7 @@ status_fits o s f = state_fits o f s o.state.status o.state.cumqty o.state.avgpx
 refused_fits : (k : ℕ) (r : Refused) (o : Order) → WholeText r.venueorderid → OrderFits o → OrderFits (refused_order k r o)
 unfolding refused_order not_pending
 refused_fits k r o w f =
-    let n = pending_fits _ (named_fits o f r.venueorderid false w) (if eqb o.pending.request k then no_pending else o.pending) in
+    let n = pending_fits _ (named_fits o f r.venueorderid false w) (if eqb o.pending.request k then no_pending otherwise o.pending) in
     split_if OrderFits _ (λ t. n)
     (λ t. split_if OrderFits _ (λ t. status_fits _ r.status n) (λ t. split_if OrderFits _ (λ t. status_fits _ _ n) (λ t. n)))
 

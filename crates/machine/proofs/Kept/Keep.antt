@@ -9,7 +9,7 @@ use lib.Dec.{eqb, leb, ltb}
 use lib.ListN.{length}
 use borrow.Author.Tests.{eqb-true, eqb-false, eq-eqb, ne_eqb, leb-true, le-leb, lt-ltb, not-true}
 use Rattle.prelude.specs.Below.{all_below}
-use Rattle.prelude.specs.Cases.{if◌then◌else◌, split_if, both_true, if_true, if_false, clash}
+use Rattle.prelude.specs.Cases.{if◌then◌otherwise◌, split_if, both_true, if_true, if_false, clash}
 use Rattle.prelude.specs.Texts.{is_text, same_text, same_self}
 use Rattle.prelude.specs.declared.Text.{Text}
 use Rattle.store.specs.declared.Pending.{Pending}
@@ -84,7 +84,7 @@ pub record Same (o p : Order) : Type 0 where
 module _ (b : Book) (i : ℕ) (f : Findings) (o : Order) (here : Here b i f o) where
   -- no request is added
   left_kept : {y : Order} {k s : ℕ} {out : Output} → Same o y → Owns b i k → Owns b i s → OrderKept i y (answer_link s (answer_link k b.requests)) → Kept b i (left f.place y k s out)
-  unfolding requests_after if◌then◌else◌
+  unfolding requests_after if◌then◌otherwise◌
   left_kept y a w l = record {
     place = here.place;
     name = λ h. y.name ∙ ap (λ (x : Order). x.names.name) here.is;
@@ -97,7 +97,7 @@ module _ (b : Book) (i : ℕ) (f : Findings) (o : Order) (here : Here b i f o) w
 
   -- and none is answered
   pub still_kept : {y : Order} {out : Output} → Same o y → OrderKept i y b.requests → Kept b i (left f.place y 0 0 out)
-  unfolding answer_link if◌then◌else◌
+  unfolding answer_link if◌then◌otherwise◌
   still_kept y l = left_kept y (no_link b i) (no_link b i) l
 
   pub own_still : {out : Output} → Kept b i (left f.place o 0 0 out)
@@ -105,7 +105,7 @@ module _ (b : Book) (i : ℕ) (f : Findings) (o : Order) (here : Here b i f o) w
 
   -- or one
   once_kept : {y : Order} {k : ℕ} {out : Output} → Same o y → Owns b i k → OrderKept i y (answer_link k b.requests) → Kept b i (left f.place y k 0 out)
-  unfolding answer_link if◌then◌else◌
+  unfolding answer_link if◌then◌otherwise◌
   once_kept m w l = left_kept m w (no_link b i) l
 
   answered_kept : {y : Order} {k : ℕ} {out : Output} → Same o y → Owns b i k → (k ≡ y.pending.request → k ≡ 0) → OrderKept i y b.requests → Kept b i (left f.place y k 0 out)
@@ -113,7 +113,7 @@ module _ (b : Book) (i : ℕ) (f : Findings) (o : Order) (here : Here b i f o) w
 
   -- the client's request goes out
   goes_kept : (x : Request) (p : Order) (m : Message) → Same o p → Added b i p x → OrderKept i p (b.requests ++ (x ∷ [])) → Kept b i (telling m (adding x (unchanged f.place p)))
-  unfolding telling unchanged adding requests_after answer_link if◌then◌else◌
+  unfolding telling unchanged adding requests_after answer_link if◌then◌otherwise◌
   goes_kept x p m s a l = record {
     place = here.place;
     name = λ h. s.name ∙ ap (λ (x : Order). x.names.name) here.is;
@@ -208,7 +208,7 @@ module _ (b : Book) (i : ℕ) (f : Findings) (o : Order) (here : Here b i f o) (
   gateway_request = next_request f c.order gateway_kind no_text no_text
 
   send_order : Sends b i c → OrderKept i (with_gateway (try_sent c.order) (numbered_order f true c.order)) (settled_by b.requests c ++ (gateway_request ∷ []))
-  unfolding gateway_request try_sent numbered_order next_number if◌then◌else◌
+  unfolding gateway_request try_sent numbered_order next_number if◌then◌otherwise◌
   send_order s =
       let p : Order = c.order in
       let qs : List Request = settled_by b.requests c in
@@ -238,13 +238,13 @@ module _ (b : Book) (i : ℕ) (f : Findings) (o : Order) (here : Here b i f o) (
       let some : p.links.amendments + 1 ≡ owned i b.requests = amendments_at i p.links.amendments qs l.amendments ∙ owned_settled i b.requests c in
       record {
         order = unfold next_request in let e : f.place ≡ i + 1 = here.place in omega arith;
-        range = unfold next_request request_range is_gateway is_first text_within is_text all_below if◌then◌else◌ in refl;
+        range = unfold next_request request_range is_gateway is_first text_within is_text all_below if◌then◌otherwise◌ in refl;
         number = next_right f p gateway_kind (owned i b.requests) no_text no_text next (omega arith) (unfold is_first next_request in refl);
         fresh = λ j h. unfold next_request in refl;
       }
 
   send_kept : Sends b i c → Kept b i (send_gateway_cancel f c)
-  unfolding send_gateway_cancel telling adding requests_after if◌then◌else◌ gateway_request
+  unfolding send_gateway_cancel telling adding requests_after if◌then◌otherwise◌ gateway_request
   send_kept s = record {
     place = s.kept.place;
     name = unfold numbered_order in s.kept.name;
@@ -278,8 +278,8 @@ unfolding set_status
 set_free s k p h = split_if (λ (x : Pending). k ≡ x.request → k ≡ 0) _ (λ d z. z) (λ d z. h z)
 
 -- the status of an order that is no longer pending
-pub freed_coded : (t : Bool) → is_status (if t then partially_filled else new) ≡ true
-unfolding is_status statuses if◌then◌else◌
+pub freed_coded : (t : Bool) → is_status (if t then partially_filled otherwise new) ≡ true
+unfolding is_status statuses if◌then◌otherwise◌
 freed_coded true = refl
 freed_coded false = refl
 
@@ -294,7 +294,7 @@ set_after s i k o p qs live coded a = record {
 
 module _ (i : ℕ) (o : Order) (qs : List Request) (l : OrderKept i o qs) (k : ℕ) where
   cleared_after : (given : Text) → text_within 0 32 given ≡ true
-      → After i k o (with_pending (if eqb o.pending.request k then no_pending else o.pending) (record_venue_order_id given false o)) qs
+      → After i k o (with_pending (if eqb o.pending.request k then no_pending otherwise o.pending) (record_venue_order_id given false o)) qs
   unfolding record_venue_order_id
   cleared_after given w =
       let n : OrderKept i (record_venue_order_id given false o) qs = named_kept i o qs l given false w in
@@ -306,7 +306,7 @@ module _ (i : ℕ) (o : Order) (qs : List Request) (l : OrderKept i o qs) (k : �
   unfolding refused_order not_pending record_venue_order_id
   refused_after r s w =
       let a = cleared_after r.venueorderid w in
-      let p : Order = with_pending (if eqb o.pending.request k then no_pending else o.pending) (record_venue_order_id r.venueorderid false o) in
+      let p : Order = with_pending (if eqb o.pending.request k then no_pending otherwise o.pending) (record_venue_order_id r.venueorderid false o) in
       split_if (λ (x : Order). After i k o x qs) _ (λ e. a)
       (λ e. split_if (λ (x : Order). After i k o x qs) _
       (λ t. set_after r.status i k o p qs e (s (not-true (eqb r.status 0) t)) a)
@@ -423,7 +423,7 @@ module _ (b : Book) (i : ℕ) (f : Findings) (o : Order) (here : Here b i f o) (
     retried_kept {r} out w u g h few =
         let s : Sent (refused_order (j + 1) r o) = sent_after w u g h in
         send_kept b i f o here _
-        (record { kept = gone_kept w; idle = refl; live = s.live; quiet = unfold requests_after answer_link if◌then◌else◌ in s.quiet; few = omega arith; free = s.free })
+        (record { kept = gone_kept w; idle = refl; live = s.live; quiet = unfold requests_after answer_link if◌then◌otherwise◌ in s.quiet; few = omega arith; free = s.free })
 
   -- the one that waited goes
   resumed_kept : {y : Order} {k s : ℕ} {out : Output} → Kept b i (left f.place y k s out) → has_gateway y ≡ true → y.gateway.unsent ≡ true → Kept b i (send_gateway_cancel f (left f.place y k s out))
@@ -484,7 +484,7 @@ module _ (b : Book) (i : ℕ) (f : Findings) (o : Order) (here : Here b i f o) (
     unfolding accepts pending_here
     accepts_here a = eqb-true o.pending.request (j + 1) (both_true (eqb o.pending.request (j + 1)) (not (is_rejection e)) (both_true (eqb o.pending.request (j + 1) && not (is_rejection e)) _ a).0).0
 
-    status_given : (s : ℕ) → s ≡ status_taken (j + 1) q o e → is_status (if eqb s 0 then o.state.status else s) ≡ true
+    status_given : (s : ℕ) → s ≡ status_taken (j + 1) q o e → is_status (if eqb s 0 then o.state.status otherwise s) ≡ true
     status_given s is = split_if (λ (n : ℕ). is_status n ≡ true) _ (λ z. here.kept.coded) (λ z. taken z is)
       where
         taken : eqb s 0 ≡ false → s ≡ status_taken (j + 1) q o e → is_status s ≡ true
@@ -494,7 +494,7 @@ module _ (b : Book) (i : ℕ) (f : Findings) (o : Order) (here : Here b i f o) (
 
     reported_order_lem : (accepted : Bool) (s : ℕ) → accepted ≡ accepts (j + 1) q o e → s ≡ status_taken (j + 1) q o e → is_done o.state.status ≡ false
         → max e.exec.cumqty o.state.cumqty ≤ ordered_qty accepted o → Reported accepted (reported_order accepted s q o e)
-    unfolding reported_order ordered_qty if◌then◌else◌ apply_replace pending_terms record_venue_order_id
+    unfolding reported_order ordered_qty if◌then◌otherwise◌ apply_replace pending_terms record_venue_order_id
     reported_order_lem true s is taken live fits =
         let p : Order = record_venue_order_id e.ids.venueorderid true o in
         let l : OrderKept i p b.requests = named_kept i o b.requests here.kept e.ids.venueorderid true ranged.venueorderid in
@@ -606,7 +606,7 @@ module _ (b : Book) (i : ℕ) (f : Findings) (o : Order) (here : Here b i f o) w
   asked_kept (waits live idle) = begun_kept live idle
   asked_kept (goes live idle) =
       send_kept b i f o here _
-      (unfold begun requests_after answer_link if◌then◌else◌ in
+      (unfold begun requests_after answer_link if◌then◌otherwise◌ in
       record { kept = begun_kept live idle; idle = refl; live = live; quiet = quiet_idle live idle; few = omega arith; free = refl })
 
   pub status_kept : {out : Output} → Kept b i (left f.place (next_exec o) 0 0 out)
@@ -657,7 +657,7 @@ module _ (b : Book) (i : ℕ) (f : Findings) (o : Order) (here : Here b i f o) w
         same = unfold numbered_order in record { name = refl; client = refl }
 
         flights : Flights i (numbered_order f false o) b.requests
-        flights = unfold numbered_order in_flight_rule if◌then◌else◌ in here.kept.flight
+        flights = unfold numbered_order in_flight_rule if◌then◌otherwise◌ in here.kept.flight
 
         numbered : OrderKept i (numbered_order f false o) (b.requests ++ (x ∷ []))
         numbered = own_kept i b.requests x f false o here.count here.few (unfold next_request in let z : f.place ≡ i + 1 = here.place in omega arith) (λ t. clash false t refl)

@@ -11,7 +11,7 @@ use lib.ListN.{length, get_or, set, length-append, length-set, get_or-append}
 use lib.Seq.{get_or-set_same, get_or-set_other, get_or-append_seam}
 use borrow.Author.Tests.{eqb-true, leb-true, leb-false, le-leb, ltb-true, lt-ltb, lt-leb, not-true}
 use Rattle.prelude.specs.Below.{all_below, all_elim, all_intro, count_below, count_ext}
-use Rattle.prelude.specs.Cases.{if◌then◌else◌, split_if, both_true}
+use Rattle.prelude.specs.Cases.{if◌then◌otherwise◌, split_if, both_true}
 use Rattle.prelude.specs.Texts.{same_text}
 use Rattle.prelude.specs.declared.Text.{Text}
 use Rattle.store.specs.declared.Order.{Order}
@@ -35,8 +35,8 @@ use Rattle.machine.proofs.Kept.Keep.{Added, Kept, settled_by, after_settled, aft
 pub record RangeKept (q : Request) : Type 0 where
   pub kind : q.kind ≤ 3
   pub answered : q.answered ≤ 1
-  pub clordid : (if is_gateway q then text_within 0 0 q.clordid else text_within 1 32 q.clordid) ≡ true
-  pub origclordid : (if is_first q || is_gateway q then text_within 0 0 q.origclordid else text_within 1 32 q.origclordid) ≡ true
+  pub clordid : (if is_gateway q then text_within 0 0 q.clordid otherwise text_within 1 32 q.clordid) ≡ true
+  pub origclordid : (if is_first q || is_gateway q then text_within 0 0 q.origclordid otherwise text_within 1 32 q.origclordid) ≡ true
 
 pub range_kept : (q : Request) → request_range q ≡ true → RangeKept q
 unfolding request_range

@@ -9,7 +9,7 @@ use lib.Dec.{eqb, leb, ltb}
 use lib.ListN.{length}
 use borrow.Author.Tests.{eqb-true, eq-eqb, leb-true, le-leb, ltb-true, ltb-false, lt-ltb, not-true}
 use Rattle.prelude.specs.Below.{count_le}
-use Rattle.prelude.specs.Cases.{if◌then◌else◌, split_if, both_true, either_true, if_true, if_false, clash}
+use Rattle.prelude.specs.Cases.{if◌then◌otherwise◌, split_if, both_true, either_true, if_true, if_false, clash}
 use Rattle.prelude.specs.Texts.{same_text, same_self}
 use Rattle.prelude.specs.declared.Text.{Text}
 use Rattle.prelude.specs.declared.Terms.{Terms}
@@ -25,7 +25,7 @@ use Rattle.machine.specs.Changes.{is_first, is_replace, is_gateway, is_cancel, i
 use Rattle.machine.specs.Machine.{answer_link}
 use Rattle.format.specs.Codes.{is_side, is_status, statuses, is_qty, is_price, pending_new, new}
 use Rattle.machine.specs.Ranges.{text_within, name_range}
-use Rattle.machine.specs.Rules.{linked, names_range, force_range, priced_range, terms_range, pending_range, gateway_range, order_range, current_test, pending_test, current_rule, cancel_rule, pending_rule, filled_rule, status_rule, done_rule, tries_rule, of_order, amendments_rule, order_rule, in_flight_rule}
+use Rattle.machine.specs.Rules.{names_range, force_range, priced_range, terms_range, pending_range, gateway_range, order_range, current_test, pending_test, current_rule, cancel_rule, pending_rule, filled_rule, status_rule, done_rule, tries_rule, of_order, amendments_rule, order_rule, in_flight_rule}
 use Rattle.machine.specs.declared.Findings.{Findings}
 use Rattle.machine.proofs.Kept.Laws.{both, or_left, or_right, or_map, or_else, and_false, not_is, is_not, decide}
 use Rattle.machine.proofs.Kept.Tables.{at, Linked, linked_at, at_linked, linked_answer, linked_more, linked_new, length_answer, answer_case, length_more, more_case, owned, owned_answer, owned_own, owned_other, amendments_at, at_amendments}
@@ -428,7 +428,7 @@ module _ (i : ℕ) (o : Order) (qs : List Request) (l : OrderKept i o qs) where
 
   -- none any more
   pub cleared_kept : OrderKept i (with_pending no_pending o) qs
-  unfolding current_rule filled_rule in_flight_rule pending_range pending_rule if◌then◌else◌ done_rule has_pending has_gateway
+  unfolding current_rule filled_rule in_flight_rule pending_range pending_rule if◌then◌otherwise◌ done_rule has_pending has_gateway
   cleared_kept = record {
     names = l.names;
     terms = l.terms;
@@ -477,14 +477,14 @@ gateway_none n = both (le-leb 0 n (omega arith)) refl
 
 -- what a done order gives up
 done_if : (d : Bool) (p : Pending) (g : GatewayCancel)
-    → not d || (not (not (eqb (if d then no_pending else p).request 0)) && not (not (eqb (if d then no_gateway else g).origdownstream 0))) ≡ true
-unfolding if◌then◌else◌
+    → not d || (not (not (eqb (if d then no_pending otherwise p).request 0)) && not (not (eqb (if d then no_gateway otherwise g).origdownstream 0))) ≡ true
+unfolding if◌then◌otherwise◌
 done_if true p g = refl
 done_if false p g = refl
 
 flight_if : (d s c : Bool) (g : GatewayCancel) → s || (c && ltb 0 g.tries && not g.unsent && not g.stuck) ≡ true
-    → s || d || (c && ltb 0 (if d then no_gateway else g).tries && not (if d then no_gateway else g).unsent && not (if d then no_gateway else g).stuck) ≡ true
-unfolding if◌then◌else◌
+    → s || d || (c && ltb 0 (if d then no_gateway otherwise g).tries && not (if d then no_gateway otherwise g).unsent && not (if d then no_gateway otherwise g).stuck) ≡ true
+unfolding if◌then◌otherwise◌
 flight_if true s c g e = or_left _ (or_right s refl)
 flight_if false s c g e = or_map s _ (λ p. or_left false p) (λ p. p) e
 
@@ -506,7 +506,7 @@ state_kept s cumqty avgpx execseq i o qs live coded priced fits l =
       terms = l.terms;
       coded = status_coded cumqty s' (short_coded o.terms.qty cumqty s coded);
       average = priced;
-      waiting = split_if (λ (p : Pending). pending_range p ≡ true) d (λ e. unfold pending_range if◌then◌else◌ in refl) (λ e. l.waiting);
+      waiting = split_if (λ (p : Pending). pending_range p ≡ true) d (λ e. unfold pending_range if◌then◌otherwise◌ in refl) (λ e. l.waiting);
       gateway = split_if (λ (g : GatewayCancel). gateway_range (length qs) g ≡ true) d (λ e. gateway_none (length qs)) (λ e. l.gateway);
       current = l.current;
       cancel = l.cancel;
@@ -515,7 +515,7 @@ state_kept s cumqty avgpx execseq i o qs live coded priced fits l =
       filled = fits;
       status = status_right cumqty s';
       done = unfold done_rule has_pending has_gateway in done_if d o.pending o.gateway;
-      tries = split_if (λ (g : GatewayCancel). tries_rule g ≡ true) d (λ e. unfold tries_rule if◌then◌else◌ in refl) (λ e. l.tries);
+      tries = split_if (λ (g : GatewayCancel). tries_rule g ≡ true) d (λ e. unfold tries_rule if◌then◌otherwise◌ in refl) (λ e. l.tries);
       flight = λ j h e. unfold in_flight_rule in flight_if d (settled (at qs j)) (eqb o.links.cancel (j + 1)) o.gateway (live_flight (j + 1) (at qs j) o live (l.flight j h e));
     }
 
@@ -545,7 +545,7 @@ pending_parts i o qs some l =
 pub replaced_kept : (i : ℕ) (o : Order) (qs : List Request) (q : Request) → is_done o.state.status ≡ false → eqb o.pending.request 0 ≡ false
     → at qs (o.pending.request - 1) ≡ q → text_within 1 32 q.clordid ≡ true → text_within 1 32 q.downstream ≡ true → leb o.state.cumqty o.pending.qty ≡ true
     → OrderKept i o qs → OrderKept i (apply_replace q o) qs
-unfolding apply_replace pending_terms current_rule pending_range pending_rule if◌then◌else◌ filled_rule in_flight_rule
+unfolding apply_replace pending_terms current_rule pending_range pending_rule if◌then◌otherwise◌ filled_rule in_flight_rule
 replaced_kept i o qs q live some here clordid downstream fits l =
     let p : PendingKept i o qs = pending_parts i o qs some l in
     let link : Linked pending_test i o.pending.request qs = p.link in

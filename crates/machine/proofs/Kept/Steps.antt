@@ -9,7 +9,7 @@ use lib.Dec.{eqb, ltb}
 use lib.ListN.{length}
 use borrow.Author.Tests.{eqb-true, eqb-false, eq-eqb, ne_eqb, le-leb, lt-ltb, not-true, not-false}
 use Rattle.prelude.specs.Below.{all_below, first_below, first_elim, First, first_some, count_below, count_le, count_ext}
-use Rattle.prelude.specs.Cases.{if◌then◌else◌, maybe, split_if, both_true, if_false, clash}
+use Rattle.prelude.specs.Cases.{if◌then◌otherwise◌, maybe, split_if, both_true, if_false, clash}
 use Rattle.prelude.specs.Texts.{is_text, same_text, same_self, same_back, same_length}
 use Rattle.prelude.specs.declared.Text.{Text}
 use Rattle.store.specs.declared.Order.{Order}
@@ -65,7 +65,7 @@ refusing_keeps b n h e r = refusing_taken b n h e
 
 -- no order, no request
 nothing_keeps : (b : Book) (o : Order) (out : Output) → rules b ≡ true → Keeps b (left 0 o 0 0 out)
-unfolding after orders_after requests_after answer_link if◌then◌else◌
+unfolding after orders_after requests_after answer_link if◌then◌otherwise◌
 nothing_keeps b o out k e r = k
 
 kept_keeps : (b : Book) (i : ℕ) (c : Change) → BookKept b → i < length b.orders → Kept b i c → Keeps b c
@@ -164,8 +164,8 @@ amend_passes f order full o e own =
     (λ t. split_if P _ (λ t z. clash true refl z)
     (λ t z. record { unused = not-false (eqb order 0) unused; found = found; live = live; silent = not-false (eqb own.fixedtext 0) z })))))
 
-silent_if : (t : Bool) (r : Refusal) → eqb r.fixedtext 0 ≡ false → (q : Refusal) → eqb (if t then r else q).fixedtext 0 ≡ true → (t ≡ false) × (eqb q.fixedtext 0 ≡ true)
-unfolding if◌then◌else◌
+silent_if : (t : Bool) (r : Refusal) → eqb r.fixedtext 0 ≡ false → (q : Refusal) → eqb (if t then r otherwise q).fixedtext 0 ≡ true → (t ≡ false) × (eqb q.fixedtext 0 ≡ true)
+unfolding if◌then◌otherwise◌
 silent_if true r n q e = clash (eqb r.fixedtext 0) e n
 silent_if false r n q e = (refl, e)
 
@@ -205,7 +205,7 @@ module _ (b : Book) (e : Event) (good : BookKept b) (k : rules b ≡ true) (amen
 -- ---- event 1
 
 none_count : (n : ℕ) → count_below (λ j. false) n ≡ 0
-unfolding count_below if◌then◌else◌
+unfolding count_below if◌then◌otherwise◌
 none_count zero = refl
 none_count (suc n) = let h : count_below (λ j. false) n ≡ 0 = none_count n in omega arith
 
@@ -219,7 +219,7 @@ none_owned b good =
 module _ (b : Book) (e : Event) (good : BookKept b) (booking : Booking e) (ranged : Ranged e) (priced : priced_right e.terms.ordtype e ≡ true)
     (unused' : eqb (order_of b e.client e.ids.clordid) 0 ≡ true) where
   booked_kept : OrderKept (length b.orders) (booked_order (length b.requests + 1) e) (b.requests ++ (first_request (length b.orders) e ∷ []))
-  unfolding booked_order first_request is_cancel is_first is_replace is_gateway is_status statuses pending_range if◌then◌else◌ current_rule cancel_rule pending_rule filled_rule status_rule done_rule is_done tries_rule
+  unfolding booked_order first_request is_cancel is_first is_replace is_gateway is_status statuses pending_range if◌then◌otherwise◌ current_rule cancel_rule pending_rule filled_rule status_rule done_rule is_done tries_rule
   booked_kept =
       let n : ℕ = length b.orders in
       let qs : List Request = b.requests ++ (first_request (length b.orders) e ∷ []) in
@@ -246,14 +246,14 @@ module _ (b : Book) (e : Event) (good : BookKept b) (booking : Booking e) (range
   unfolding booked_order first_request
   first_added = record {
     order = refl;
-    range = unfold request_range is_first is_gateway if◌then◌else◌ in both booking.clordid (unfold text_within is_text all_below in refl);
+    range = unfold request_range is_first is_gateway if◌then◌otherwise◌ in both booking.clordid (unfold text_within is_text all_below in refl);
     number = subst (λ (n : ℕ). number_rule e.ids.name n (first_request (length b.orders) e) ≡ true) (sym (none_owned b good))
-        (unfold number_rule name_number is_first if◌then◌else◌ in both (same_self e.ids.name) refl);
+        (unfold number_rule name_number is_first if◌then◌otherwise◌ in both (same_self e.ids.name) refl);
     fresh = λ j h. and_tail (not (is_empty e.ids.clordid)) _ _ (fresh_key b e.client e.ids.clordid booking.clordid unused' j h (good.request j h).order);
   }
 
   first_kept : Kept b (length b.orders) (adding (first_request (length b.orders) e) (unchanged (length b.orders + 1) (booked_order (length b.requests + 1) e)))
-  unfolding adding unchanged requests_after answer_link if◌then◌else◌
+  unfolding adding unchanged requests_after answer_link if◌then◌otherwise◌
   first_kept = record {
     place = refl;
     name = λ h. absurd (omega arith);
@@ -264,11 +264,18 @@ module _ (b : Book) (e : Event) (good : BookKept b) (booking : Booking e) (range
     rule = booked_kept;
   }
 
+-- a name that no order bears is apart from each order's
+named_apart : (b : Book) (e : Event) → ((j : ℕ) → j < length b.orders → same_text e.ids.name (order_in b j).names.name ≡ false)
+    → length b.orders ≤ length b.orders → (j : ℕ) → j < length b.orders
+    → same_text (adding (first_request (length b.orders) e) (unchanged (length b.orders + 1) (booked_order (length b.requests + 1) e))).order.names.name (order_in b j).names.name ≡ false
+unfolding adding unchanged booked_order
+named_apart b e apart l j h = apart j h
+
 booking_keeps : (b : Book) (e : Event) → BookKept b → Booking e → Ranged e → unused b e ≡ true → priced_right e.terms.ordtype e ≡ true
     → Keeps b (adding (first_request (length b.orders) e) (unchanged (length b.orders + 1) (booked_order (length b.requests + 1) e)))
 booking_keeps b e good booking ranged u priced z r =
     let (name, key) = both_true (maybe true (λ k. false) (find_name b e.ids.name)) (eqb (order_of b e.client e.ids.clordid) 0) (unfold unused in u) in
-    kept_book _ (lift b (length b.orders) _ good (first_kept b e good booking ranged priced key) (omega arith) r (λ l j h. unfold adding unchanged booked_order in apart name j h))
+    kept_book _ (lift b (length b.orders) _ good (first_kept b e good booking ranged priced key) (omega arith) r (named_apart b e (apart name)))
   where
     apart : maybe true (λ k. false) (find_name b e.ids.name) ≡ true → (j : ℕ) → j < length b.orders → same_text e.ids.name (order_in b j).names.name ≡ false
     apart t j h = untrue _ (λ s. clash (bears_name e.ids.name (order_in b j)) (same_back e.ids.name (order_in b j).names.name s) (go (find_name b e.ids.name) refl t))

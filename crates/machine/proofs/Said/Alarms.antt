@@ -4,7 +4,7 @@ use native.Mathlib.Omega.{arith}
 use mathlib.Core.Path.{◌≡◌, refl}
 use mathlib.Core.Logic.{◌⊎◌, inl, inr}
 use mathlib.Core.Bool.{Bool}
-use Rattle.prelude.specs.Cases.{if◌then◌else◌, split_if}
+use Rattle.prelude.specs.Cases.{if◌then◌otherwise◌, split_if}
 use Rattle.store.specs.declared.Order.{Order}
 use Rattle.store.specs.declared.Request.{Request}
 use Rattle.store.specs.Book.{Book}
@@ -49,7 +49,7 @@ shorted (inr e) = alone (omega arith)
 
 -- the gateway cannot cancel the order: 1 alone, or behind 6
 behind : {a : ℕ} → (a ≡ 0) ⊎ (a ≡ filled_short) → Rings (stuck_behind a)
-unfolding if◌then◌else◌
+unfolding if◌then◌otherwise◌
 behind (inl e) = record { rings = rw e (record { listed = omega arith; second = inl refl }) }
 behind (inr e) = record { rings = rw e (record { listed = omega arith; second = inr (refl, refl) }) }
 
@@ -105,7 +105,7 @@ amended_has c c' (cancel_sent z t) = record { has = none }
 amended_has c c' (replace_sent t u) = record { has = none }
 
 ways : (b : Book) (e : Event) → Ways Has b e
-unfolding refusing unchanged alarming adding if◌then◌else◌
+unfolding refusing unchanged alarming adding if◌then◌otherwise◌
 ways b e = record {
   refuses = λ n z. record { has = none };
   no_order_lem = λ z. record { has = none };

@@ -7,7 +7,7 @@ use mathlib.Core.Logic.{⊎_elim}
 use mathlib.Core.Bool.{Bool, true, false, not, ◌&&◌}
 use lib.Dec.{eqb, leb, lit<}
 use borrow.Author.Tests.{eqb-true, eqb-false, ne_eqb, leb-true, le-leb, lt-ltb, not-true, not-false}
-use Rattle.prelude.specs.Cases.{if◌then◌else◌, split_if, clash, both_true, both_false, either_true}
+use Rattle.prelude.specs.Cases.{if◌then◌otherwise◌, split_if, clash, both_true, both_false, either_true}
 use Rattle.prelude.specs.declared.Text.{Text}
 use Rattle.wide.specs.Words.{upper_word}
 use Rattle.wide.specs.Price.{price_fits, source_range}
@@ -71,13 +71,13 @@ unfolding adding
 adding_says q c s = record { first = s.first; second = s.second }
 
 telling_says : (m : Message) (c : Change) → is_message m ≡ true → Says c → Says (telling m c)
-unfolding telling if◌then◌else◌
+unfolding telling if◌then◌otherwise◌
 telling_says m c r s = record {
   first = λ z. split_if (λ (x : Message). is_message x ≡ true) (eqb c.output.count 0) (λ e. r) (λ e. s.first e);
   second = λ z. behind (eqb c.output.count 0);
 }
   where
-    behind : (t : Bool) → eqb (if t then 1 else 2) 1 ≡ false → is_message (if t then c.output.second else m) ≡ true
+    behind : (t : Bool) → eqb (if t then 1 otherwise 2) 1 ≡ false → is_message (if t then c.output.second otherwise m) ≡ true
     behind true y = clash true refl y
     behind false y = r
 
@@ -120,7 +120,7 @@ module _ (e : Event) (h : Right e) where
 
   venue_noted : Noted (venue_note e)
   unfolding venue_note
-  venue_noted = said_noted e.reason (if has e 19 then venues else 0) (ranges e h).reason
+  venue_noted = said_noted e.reason (if has e 19 then venues otherwise 0) (ranges e h).reason
       (split_if (λ (n : ℕ). n ≤ 2) _ (λ t. omega arith) (λ t. omega arith))
       (split_if (λ (n : ℕ). n ≡ 0 → e.reason ≡ 0) (has e 19) (λ t z. absurd (omega arith)) (λ t z. h.absent 19 (lit< tt) t))
 
@@ -129,15 +129,15 @@ module _ (e : Event) (h : Right e) where
 
   report_noted : Noted (report_note e)
   unfolding report_note
-  report_noted = said_noted (if is_rejection e then e.reason else 0) (if is_rejection e && has e 19 then venues else 0)
+  report_noted = said_noted (if is_rejection e then e.reason otherwise 0) (if is_rejection e && has e 19 then venues otherwise 0)
       (split_if (λ (n : ℕ). n < 2 ^ 32) _ (λ t. (ranges e h).reason) (λ t. omega arith))
       (split_if (λ (n : ℕ). n ≤ 2) _ (λ t. omega arith) (λ t. omega arith))
       (silent (is_rejection e) (has e 19) (h.absent 19 (lit< tt)))
     where
-      silent : (a b : Bool) → (b ≡ false → e.reason ≡ 0) → (if a && b then venues else 0) ≡ 0 → (if a then e.reason else 0) ≡ 0
-      silent true true g z = unfold if◌then◌else◌ in let y : ◌≡◌ {A = ℕ} 2 0 = z in absurd (omega arith)
-      silent true false g z = unfold if◌then◌else◌ in g refl
-      silent false b g z = unfold if◌then◌else◌ in refl
+      silent : (a b : Bool) → (b ≡ false → e.reason ≡ 0) → (if a && b then venues otherwise 0) ≡ 0 → (if a then e.reason otherwise 0) ≡ 0
+      silent true true g z = unfold if◌then◌otherwise◌ in let y : ◌≡◌ {A = ℕ} 2 0 = z in absurd (omega arith)
+      silent true false g z = unfold if◌then◌otherwise◌ in g refl
+      silent false b g z = unfold if◌then◌otherwise◌ in refl
 
 -- a refusal's note has a reason, and a text or a fixed text
 record Answered (n : Note) : Type 0 where
@@ -150,7 +150,7 @@ unfolding refused_note
 refused_note_lem n k =
     let x : Bool = eqb n.text.len 0 in
     let y : Bool = eqb n.fixedtext 0 in
-    let t : ℕ = if x && y then text_rejected else n.fixedtext in
+    let t : ℕ = if x && y then text_rejected otherwise n.fixedtext in
     let alone : not x ≡ not (not (eqb t 0)) = exactly x y refl k.one in
     record {
       noted = record {
@@ -158,7 +158,7 @@ refused_note_lem n k =
         fixedtext = split_if (λ (m : ℕ). m ≤ 18) _ (λ e. omega arith) (λ e. k.fixedtext);
         reason = split_if (λ (m : ℕ). m < 2 ^ 32) _ (λ e. omega arith) (λ e. k.reason);
         origin = split_if (λ (m : ℕ). m ≤ 2) _ (λ e. omega arith) (λ e. k.origin);
-        unsaid = split_if (λ (m : ℕ). m ≡ 0 → (if eqb n.origin 0 then other else n.reason) ≡ 0) (eqb n.origin 0) (λ e z. absurd (omega arith)) (λ e z. absurd (eqb-false n.origin 0 e z));
+        unsaid = split_if (λ (m : ℕ). m ≡ 0 → (if eqb n.origin 0 then other otherwise n.reason) ≡ 0) (eqb n.origin 0) (λ e z. absurd (omega arith)) (λ e z. absurd (eqb-false n.origin 0 e z));
         one = ap (λ (b : Bool). b && not (eqb t 0)) alone ∙ apart (not (eqb t 0));
       };
       one = alone;
@@ -169,10 +169,10 @@ refused_note_lem n k =
     apart true = refl
     apart false = refl
 
-    exactly : (x y : Bool) → eqb n.fixedtext 0 ≡ y → not x && not y ≡ false → not x ≡ not (not (eqb (if x && y then text_rejected else n.fixedtext) 0))
-    exactly true true e o = unfold if◌then◌else◌ in refl
-    exactly true false e o = unfold if◌then◌else◌ in rw e refl
-    exactly false true e o = unfold if◌then◌else◌ in rw e refl
+    exactly : (x y : Bool) → eqb n.fixedtext 0 ≡ y → not x && not y ≡ false → not x ≡ not (not (eqb (if x && y then text_rejected otherwise n.fixedtext) 0))
+    exactly true true e o = unfold if◌then◌otherwise◌ in refl
+    exactly true false e o = unfold if◌then◌otherwise◌ in rw e refl
+    exactly false true e o = unfold if◌then◌otherwise◌ in rw e refl
     exactly false false e o = clash true refl o
 
 -- ---- a request refused
@@ -181,7 +181,7 @@ refused_tellable : (k : ℕ) (r : Refused) (o : Order) → (eqb r.status 0 ≡ f
 unfolding refused_order not_pending
 refused_tellable k r o s v t =
     let n : Tellable (record_venue_order_id r.venueorderid false o) = named_tellable r.venueorderid false o v t in
-    let p : Tellable (with_pending (if eqb o.pending.request k then no_pending else o.pending) (record_venue_order_id r.venueorderid false o)) =
+    let p : Tellable (with_pending (if eqb o.pending.request k then no_pending otherwise o.pending) (record_venue_order_id r.venueorderid false o)) =
     pending_tellable _ (record_venue_order_id r.venueorderid false o)
     (unfold record_venue_order_id pending_terms in
     split_if (λ (x : Pending). eqb x.request 0 ≡ false → terms_range (record { side = o.terms.side; ordtype = x.ordtype; timeinforce = x.timeinforce; qty = x.qty; price = x.price }) ≡ true) _
@@ -238,7 +238,7 @@ module _ (o : Order) (t : Tellable o) (k : ℕ) (q : Request) (a : Asks q) (some
   unfolding accepts pending_here
   pending_there z = (both_true (eqb o.pending.request k) (not (is_rejection e)) (both_true (eqb o.pending.request k && not (is_rejection e)) _ z).0).0
 
-  status_listed : (s : ℕ) → s ≡ status_taken k q o e → is_status (if eqb s 0 then o.state.status else s) ≡ true
+  status_listed : (s : ℕ) → s ≡ status_taken k q o e → is_status (if eqb s 0 then o.state.status otherwise s) ≡ true
   status_listed s taken = split_if (λ (x : ℕ). is_status x ≡ true) (eqb s 0) (λ z. t.state.status) (λ z. listed z)
     where
       listed : eqb s 0 ≡ false → is_status s ≡ true
@@ -248,7 +248,7 @@ module _ (o : Order) (t : Tellable o) (k : ℕ) (q : Request) (a : Asks q) (some
 
   -- the order as the report leaves it
   reported_tellable : (accepted : Bool) (s : ℕ) → accepted ≡ accepts k q o e → s ≡ status_taken k q o e → Tellable (reported_order accepted s q o e)
-  unfolding reported_order record_venue_order_id if◌then◌else◌
+  unfolding reported_order record_venue_order_id if◌then◌otherwise◌
   reported_tellable true s is taken =
       let here : eqb o.pending.request k ≡ true = pending_there (sym is) in
       let n : Tellable (record_venue_order_id e.ids.venueorderid true o) = named_tellable e.ids.venueorderid true o given t in
@@ -349,7 +349,7 @@ record Turns (r : Refusal) : Type 0 where
   fixedtext : r.fixedtext ≤ 18
 
 -- one of known numbers, or else the next
-or_known : (t : Bool) (r : Refusal) {s : Refusal} → leb r.reason 99 && leb r.fixedtext 18 ≡ true → Turns s → Turns (if t then r else s)
+or_known : (t : Bool) (r : Refusal) {s : Refusal} → leb r.reason 99 && leb r.fixedtext 18 ≡ true → Turns s → Turns (if t then r otherwise s)
 or_known t r e k =
     let (a, c) = both_true (leb r.reason 99) (leb r.fixedtext 18) e in
     split_if Turns t (λ z. record { reason = omega (arith, leb-true r.reason 99 a); fixedtext = leb-true r.fixedtext 18 c }) (λ z. k)
@@ -367,7 +367,7 @@ cancel_refuses f o = or_known _ _ refl no_refusal
 
 -- the verdicts 1 to 7 are the texts 12 to 18
 verdict_text_lem : (v : ℕ) → v ≤ 7 → verdict_text v ≡ 11 + v
-unfolding verdict_text if◌then◌else◌
+unfolding verdict_text if◌then◌otherwise◌
 verdict_text_lem v h = rw (lt-ltb v 244 (omega arith))
 
 replace_refuses : (f : Findings) (o : Order) (e : Event) → e.verdict ≤ 7 → Turns (replace_refusal f o e)
@@ -390,7 +390,7 @@ module _ (f : Findings) (order : ℕ) (full : Bool) (o : Order) (e : Event) (h :
   record Named : Type 0 where
     name : RightText o.names.name
     named : is_empty o.names.name ≡ false → is_name o.names.name ≡ true
-    status : is_status (if eqb f.place 0 then rejected else o.state.status) ≡ true
+    status : is_status (if eqb f.place 0 then rejected otherwise o.state.status) ≡ true
 
   seen_named : Seen f.place o → Named
   seen_named (some_order t) = record {
@@ -401,7 +401,7 @@ module _ (f : Findings) (order : ℕ) (full : Bool) (o : Order) (e : Event) (h :
   seen_named (no_order_seen p s) = record {
     name = subst (λ (x : Order). RightText x.names.name) (sym s) no_right_text;
     named = subst (λ (x : Order). is_empty x.names.name ≡ false → is_name x.names.name ≡ true) (sym s) (λ z. clash true refl z);
-    status = ap (λ (x : ℕ). is_status (if eqb x 0 then rejected else o.state.status)) p ∙ (unfold is_status statuses if◌then◌else◌ in refl);
+    status = ap (λ (x : ℕ). is_status (if eqb x 0 then rejected otherwise o.state.status)) p ∙ (unfold is_status statuses if◌then◌otherwise◌ in refl);
   }
 
   refuse_heard : {kind : ℕ} {own : Refusal} → Own order full o e f.place f.cancel f.requests f.requests kind own → Named

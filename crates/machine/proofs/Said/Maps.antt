@@ -1,6 +1,6 @@
 -- The presence maps of the machine's messages: which bits stand, by the tests that set them, and that each map is right for its kind. Rests on Messages and format.
 -- A map is a sum of powers of two, some of them behind tests. The tests are taken as variables, so that each of their combinations is a number to compute with.
-use Prim.Native.Nat.{ℕ, zero, suc, ◌+◌, ◌^◌, ◌<◌}
+use Prim.Native.Nat.{ℕ, ◌+◌, ◌^◌, ◌<◌}
 use mathlib.Core.Path.{◌≡◌, refl}
 use mathlib.Core.Bool.{Bool, true, false, not, ◌&&◌, ◌||◌}
 use mathlib.Core.List.{List, [], ◌∷◌}
@@ -8,7 +8,7 @@ use lib.Dec.{ltb}
 use lib.ListN.{get_or}
 use borrow.Author.Tests.{ltb-true}
 use Rattle.prelude.specs.Below.{all_below, all_elim}
-use Rattle.prelude.specs.Cases.{if◌then◌else◌, clash, both_true}
+use Rattle.prelude.specs.Cases.{if◌then◌otherwise◌, clash, both_true}
 use Rattle.prelude.specs.Number.{bound}
 use Rattle.format.specs.Format.{is_kind, required_bits, allowed_bits, required, allowed, joined, bits_right}
 use Rattle.machine.specs.Messages.{bit_if}
@@ -58,7 +58,7 @@ report_map a p t x f r =
     required 16 + (bit_if a 4 + (bit_if p 10 + bit_if t 11 + (bit_if x 20 + bit_if f 27 + (bit_if r 19 + bit_if r 28))))
 
 pub report_mapped : (a p t x f r : Bool) → x && f ≡ false → Mapped 16 (report_map a p t x f r) (report_bits a p t x f r)
-unfolding bit_if if◌then◌else◌ bits_right is_kind required allowed required_bits allowed_bits joined all_below
+unfolding bit_if if◌then◌otherwise◌ bits_right is_kind required allowed required_bits allowed_bits joined all_below
 report_mapped a p t x f r one =
     mapped 16 (report_map a p t x f r) (report_bits a p t x f r)
     (or_else (x && f) _ one (each 6 (λ a p t x f r. (x && f) || fits 16 (report_map a p t x f r) (report_bits a p t x f r)) refl a p t x f r))
@@ -76,7 +76,7 @@ abbrev reject_map : (n x f r : Bool) → ℕ
 reject_map n x f r = map_of (0 ∷ (3 ∷ (4 ∷ (13 ∷ (29 ∷ []))))) + (bit_if n 2 + (bit_if x 20 + bit_if f 27 + (bit_if r 19 + bit_if r 28)))
 
 pub reject_mapped : (n x f r : Bool) → x ≡ not f → r ≡ true → Mapped 17 (reject_map n x f r) (reject_bits n x f r)
-unfolding bit_if if◌then◌else◌ bits_right is_kind required allowed required_bits allowed_bits joined all_below
+unfolding bit_if if◌then◌otherwise◌ bits_right is_kind required allowed required_bits allowed_bits joined all_below
 reject_mapped n x f r one reason =
     mapped 17 (reject_map n x f r) (reject_bits n x f r)
     (or_else (alike x f || not r) _ (rw (one, reason) (apart f))
@@ -99,15 +99,15 @@ abbrev venue_map : (bits : ℕ) (p t : Bool) → ℕ
 venue_map bits p t = map_of (1 ∷ (5 ∷ (6 ∷ (7 ∷ (8 ∷ (9 ∷ [])))))) + (bits + (bit_if p 10 + bit_if t 11))
 
 pub new_mapped : (p t : Bool) → Mapped 18 (venue_map 0 p t) (venue_bits false false p t)
-unfolding bit_if if◌then◌else◌ bits_right is_kind required allowed required_bits allowed_bits joined all_below
+unfolding bit_if if◌then◌otherwise◌ bits_right is_kind required allowed required_bits allowed_bits joined all_below
 new_mapped p t = mapped 18 (venue_map 0 p t) (venue_bits false false p t) (each 2 (λ p t. fits 18 (venue_map 0 p t) (venue_bits false false p t)) refl p t)
 
 pub cancel_mapped : (v p t : Bool) → Mapped 19 (venue_map (2 ^ 30 + bit_if v 18) p t) (venue_bits v true p t)
-unfolding bit_if if◌then◌else◌ bits_right is_kind required allowed required_bits allowed_bits joined all_below
+unfolding bit_if if◌then◌otherwise◌ bits_right is_kind required allowed required_bits allowed_bits joined all_below
 cancel_mapped v p t = mapped 19 (venue_map (2 ^ 30 + bit_if v 18) p t) (venue_bits v true p t)
     (each 3 (λ v p t. fits 19 (venue_map (2 ^ 30 + bit_if v 18) p t) (venue_bits v true p t)) refl v p t)
 
 pub replace_mapped : (v p t : Bool) → Mapped 20 (venue_map (2 ^ 30 + bit_if v 18) p t) (venue_bits v true p t)
-unfolding bit_if if◌then◌else◌ bits_right is_kind required allowed required_bits allowed_bits joined all_below
+unfolding bit_if if◌then◌otherwise◌ bits_right is_kind required allowed required_bits allowed_bits joined all_below
 replace_mapped v p t = mapped 20 (venue_map (2 ^ 30 + bit_if v 18) p t) (venue_bits v true p t)
     (each 3 (λ v p t. fits 20 (venue_map (2 ^ 30 + bit_if v 18) p t) (venue_bits v true p t)) refl v p t)

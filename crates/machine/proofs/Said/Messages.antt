@@ -9,7 +9,7 @@ use lib.ListN.{length, get_or, replicate}
 use borrow.Author.Tests.{eqb-true, eqb-false, leb-true, le-leb, not-true, not-false}
 use Rattle.wide.specs.declared.Priced.{Priced}
 use Rattle.prelude.specs.Below.{all_below, all_elim}
-use Rattle.prelude.specs.Cases.{if◌then◌else◌, clash, both_true, split_if}
+use Rattle.prelude.specs.Cases.{if◌then◌otherwise◌, clash, both_true, split_if}
 use Rattle.prelude.specs.Texts.{is_text}
 use Rattle.prelude.specs.declared.Text.{Text}
 use Rattle.prelude.specs.declared.Terms.{Terms}
@@ -93,32 +93,32 @@ no_long_text_lem = record { long = refl; short = omega arith; filled = all_elim 
 
 -- a code of a list is a byte
 side_there : (c : ℕ) → is_side c ≡ true → Has true 7 c
-unfolding range fields size in_range if◌then◌else◌ is_side sides
+unfolding range fields size in_range if◌then◌otherwise◌ is_side sides
 side_there c e = there 7 c e (listed_small c sides refl e)
 
 type_there : (c : ℕ) → is_ordtype c ≡ true → Has true 8 c
-unfolding range fields size in_range if◌then◌else◌ is_ordtype ordtypes
+unfolding range fields size in_range if◌then◌otherwise◌ is_ordtype ordtypes
 type_there c e = there 8 c e (listed_small c ordtypes refl e)
 
 force_there : (c : ℕ) → is_timeinforce c ≡ true → Has true 11 c
-unfolding range fields size in_range if◌then◌else◌ is_timeinforce timesinforce
+unfolding range fields size in_range if◌then◌otherwise◌ is_timeinforce timesinforce
 force_there c e = there 11 c e (listed_small c timesinforce refl e)
 
 exec_there : (c : ℕ) → is_exectype c ≡ true → Has true 12 c
-unfolding range fields size in_range if◌then◌else◌ is_exectype exectypes
+unfolding range fields size in_range if◌then◌otherwise◌ is_exectype exectypes
 exec_there c e = there 12 c e (listed_small c exectypes refl e)
 
 status_there : (c : ℕ) → is_status c ≡ true → Has true 13 c
-unfolding range fields size in_range if◌then◌else◌ is_status statuses
+unfolding range fields size in_range if◌then◌otherwise◌ is_status statuses
 status_there c e = there 13 c e (listed_small c statuses refl e)
 
 -- quantities and prices
 qty_at : (b v : ℕ) → range b ≡ 1 → size b ≡ 8 → is_qty v ≡ true → Has true b v
-unfolding in_range if◌then◌else◌
+unfolding in_range if◌then◌otherwise◌
 qty_at b v r s e = there b v (rw r e) (rw s (let h : v ≤ 1000000000000 = leb-true v (10 ^ 12) e in omega arith))
 
 price_at : (b v : ℕ) → range b ≡ 2 → size b ≡ 8 → is_price v ≡ true → Has true b v
-unfolding in_range if◌then◌else◌
+unfolding in_range if◌then◌otherwise◌
 price_at b v r s e = there b v (rw r e) (rw s (let h : v ≤ 100000000000000 = leb-true v (10 ^ 14) e in omega arith))
 
 record TermsRows (t : Terms) : Type 0 where
@@ -152,7 +152,7 @@ record NoteRows (n : Note) : Type 0 where
   origin : Has (not (eqb n.origin 0)) 28 n.origin
 
 note_rows : (n : Note) → Noted n → NoteRows n
-unfolding range fields size in_range if◌then◌else◌
+unfolding range fields size in_range if◌then◌otherwise◌
 note_rows n k =
     let zero' : (v : ℕ) → not (eqb v 0) ≡ false → v ≡ 0 = λ v e. eqb-true v 0 (not-false (eqb v 0) e) in
     let some' : (v : ℕ) → not (eqb v 0) ≡ true → 1 ≤ v = λ v e. let z : (v ≡ 0 → ⊥) = eqb-false v 0 (not-true (eqb v 0) e) in omega arith in
@@ -173,7 +173,7 @@ unfolding name_range
 named_is t n = (both_true (is_text t) (is_name t) n.range).1
 
 name_there : (t : Text) → is_name t ≡ true → Has true 2 t.len
-unfolding is_name range fields size in_range if◌then◌else◌
+unfolding is_name range fields size in_range if◌then◌otherwise◌
 name_there t e =
     let w : within 1 20 t.len ≡ true = (both_true (within 1 20 t.len) _ e).0 in
     there 2 t.len w (let h : t.len ≤ 20 = leb-true t.len 20 (both_true (leb 1 t.len) (leb t.len 20) w).1 in omega arith)
@@ -189,7 +189,7 @@ leaves_range o e =
 pub report_right : (o : Order) (clordid origclordid : Text) (exectype lastqty : ℕ) (price : Priced) (n : Note)
     → Tellable o → Fine 1 32 clordid → Fine 0 32 origclordid → is_exectype exectype ≡ true → is_qty lastqty ≡ true → Words price.price → price.source ≤ 3 → Noted n
     → is_message (report o clordid origclordid exectype lastqty price n) ≡ true
-unfolding report terms_bits note_bits range fields size in_range if◌then◌else◌
+unfolding report terms_bits note_bits range fields size in_range if◌then◌otherwise◌
 report_right o clordid origclordid exectype lastqty price n k c d x q w s m =
     let t : TermsRows o.terms = terms_rows o.terms k.terms in
     let a : NoteRows n = note_rows n m in
@@ -249,7 +249,7 @@ pub reject_right : (client : ℕ) (name : Text) (status : ℕ) (clordid origclor
     → client < 2 ^ 16 → RightText name → (is_empty name ≡ false → is_name name ≡ true) → is_status status ≡ true → Fine 1 32 clordid → Fine 1 32 origclordid
     → within 1 2 responseto ≡ true → Noted n → not (eqb n.text.len 0) ≡ not (not (eqb n.fixedtext 0)) → not (eqb n.origin 0) ≡ true
     → is_message (cancel_reject client name status clordid origclordid responseto n) ≡ true
-unfolding cancel_reject note_bits range fields size in_range if◌then◌else◌
+unfolding cancel_reject note_bits range fields size in_range if◌then◌otherwise◌
 reject_right client name status clordid origclordid responseto n b t i s c d w m one reason =
     let a : NoteRows n = note_rows n m in
     let l : List Bool = reject_bits (not (is_empty name)) (not (eqb n.text.len 0)) (not (eqb n.fixedtext 0)) (not (eqb n.origin 0)) in
@@ -292,7 +292,7 @@ module _ (o : Order) (k : Tellable o) (downstream : Text) (d : Fine 1 32 downstr
       → Mapped kind (to_venue kind bits o downstream venueorderid origdownstream terms).map (venue_bits v g (eqb terms.ordtype limit) (not (eqb terms.timeinforce 0)))
       → RightText venueorderid → RightText origdownstream → Has v 18 venueorderid.len → Has g 30 origdownstream.len
       → is_message (to_venue kind bits o downstream venueorderid origdownstream terms) ≡ true
-  unfolding to_venue range fields size in_range if◌then◌else◌
+  unfolding to_venue range fields size in_range if◌then◌otherwise◌
   venue_right kind bits venueorderid origdownstream v g high mapped vt gt vh gh =
       let r : TermsRows terms = terms_rows terms t in
       written_message (to_venue kind bits o downstream venueorderid origdownstream terms) (venue_bits v g (eqb terms.ordtype limit) (not (eqb terms.timeinforce 0))) high
@@ -334,7 +334,7 @@ module _ (o : Order) (k : Tellable o) (downstream : Text) (d : Fine 1 32 downstr
       → Mapped kind (to_venue kind (2 ^ 30 + bit_if (not (is_empty o.names.venueorderid)) 18) o downstream o.names.venueorderid o.names.downstream terms).map
       (venue_bits (not (is_empty o.names.venueorderid)) true (eqb terms.ordtype limit) (not (eqb terms.timeinforce 0)))
       → is_message (to_venue kind (2 ^ 30 + bit_if (not (is_empty o.names.venueorderid)) 18) o downstream o.names.venueorderid o.names.downstream terms) ≡ true
-  unfolding range fields size in_range if◌then◌else◌
+  unfolding range fields size in_range if◌then◌otherwise◌
   amend_right kind high mapped =
       venue_right kind (2 ^ 30 + bit_if (not (is_empty o.names.venueorderid)) 18) o.names.venueorderid o.names.downstream (not (is_empty o.names.venueorderid)) true high mapped
       (fine_text 0 32 o.names.venueorderid k.names.venueorderid) (fine_text 1 32 o.names.downstream k.names.downstream)

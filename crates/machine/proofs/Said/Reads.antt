@@ -5,16 +5,16 @@ use native.Mathlib.Omega.{arith}
 use mathlib.Core.Path.{◌≡◌, refl, sym, ap, subst, ◌∙◌}
 use mathlib.Core.Logic.{⊎_elim}
 use mathlib.Core.Bool.{Bool, true, false}
-use mathlib.Core.List.{List, ◌∷◌, ◌++◌}
+use mathlib.Core.List.{List, ◌++◌}
 use lib.Dec.{eqb, leb, lit<}
 use lib.ListN.{length, get_or, replicate}
 use borrow.Author.Tests.{eq-eqb, leb-true, le-leb}
-use Rattle.prelude.specs.Cases.{if◌then◌else◌, if_true, split_if, clash, both_true, either_true}
+use Rattle.prelude.specs.Cases.{if◌then◌otherwise◌, if_true, split_if, clash, both_true, either_true}
 use Rattle.prelude.specs.Number.{Bytes}
 use Rattle.prelude.specs.Texts.{text_of, WholeText}
 use Rattle.prelude.specs.Bytes.{bytes_span, bytes_drop, bytes_take, bytes_append, bytes_zeros}
 use Rattle.prelude.specs.declared.Text.{Text}
-use Rattle.format.specs.Codes.{within, is_name, is_ordtype, is_timeinforce, is_status, is_exectype, is_qty, is_price}
+use Rattle.format.specs.Codes.{within, is_name, is_ordtype, is_timeinforce, is_status, is_exectype}
 use Rattle.format.specs.Format.{fields, range, in_range, required_bits, required, is_kind, bits_right}
 use Rattle.format.specs.Places.{start, strip, part, content, kind_at, map_at, shaped}
 use Rattle.records.specs.declared.Ids.{Ids}
@@ -57,7 +57,7 @@ module _ (e : Event) (h : Right e) where
   field k b l z t = h.range b l (must k b z t)
 
   booked : e.kind ≡ 1 → Booking e
-  unfolding required required_bits range fields in_range if◌then◌else◌ name_range name_in
+  unfolding required required_bits range fields in_range if◌then◌otherwise◌ name_range name_in
   booked z = record {
     name = both h.name.stored (sym (if_true (has e 2) (is_name e.ids.name) true (must 1 2 z refl)) ∙ h.named);
     clordid = text_of_lem 1 32 e.ids.clordid h.clordid (field 1 3 (lit< tt) z refl);
@@ -67,7 +67,7 @@ module _ (e : Event) (h : Right e) where
   }
 
   amends : (k : ℕ) → e.kind ≡ k → bit (required k) 3 ≡ true → bit (required k) 4 ≡ true → Amendment e
-  unfolding range fields in_range if◌then◌else◌
+  unfolding range fields in_range if◌then◌otherwise◌
   amends k z c d = record {
     clordid = text_of_lem 1 32 e.ids.clordid h.clordid (field k 3 (lit< tt) z c);
     origclordid = text_of_lem 1 32 e.ids.origclordid h.origclordid (field k 4 (lit< tt) z d);
@@ -92,7 +92,7 @@ module _ (e : Event) (h : Right e) where
       }
 
   pub right_exectype : e.kind ≡ 4 → is_exectype e.exec.exectype ≡ true
-  unfolding required required_bits range fields in_range if◌then◌else◌
+  unfolding required required_bits range fields in_range if◌then◌otherwise◌
   right_exectype z = field 4 12 (lit< tt) z refl
 
 -- ---- bytes
@@ -149,7 +149,7 @@ event_right_facts e ok = right e (both_true (is_record e) (leb e.kind 9) ok).0
 -- ---- kinds
 
 accepted : (x y : Bool) → refusal_by x y ≡ 0 → x ≡ true
-unfolding if◌then◌else◌
+unfolding if◌then◌otherwise◌
 accepted true y e = refl
 accepted false y e = absurd (omega arith)
 

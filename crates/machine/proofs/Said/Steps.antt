@@ -10,7 +10,7 @@ use lib.ListN.{length}
 use Rattle.prelude.specs.Span.{splice}
 use borrow.Author.Tests.{eqb-true, ne_eqb}
 use Rattle.prelude.specs.Below.{first_some}
-use Rattle.prelude.specs.Cases.{if◌then◌else◌, split_if, both_true}
+use Rattle.prelude.specs.Cases.{split_if, both_true}
 use Rattle.records.specs.Record.{is_message}
 use Rattle.records.specs.Answer.{answer_bytes, answer_alarm, answer_alarm2, chosen, are_messages}
 use Rattle.store.specs.declared.Order.{Order}

@@ -8,7 +8,7 @@ use mathlib.Core.Option.{Option, none, some}
 use lib.Dec.{eqb}
 use lib.ListN.{length}
 use borrow.Author.Tests.{eqb-true, eqb-false, eq-eqb}
-use Rattle.prelude.specs.Cases.{if◌then◌else◌, split_if, split_maybe, if_true, maybe_none, maybe_some, clash, true_or_false, same_some}
+use Rattle.prelude.specs.Cases.{if◌then◌otherwise◌, split_if, split_maybe, if_true, maybe_none, maybe_some, clash, true_or_false, same_some}
 use Rattle.prelude.specs.Totals.{Every, every[], every∷}
 use Rattle.records.specs.Answer.{chosen}
 use Rattle.store.specs.declared.Order.{Order}
@@ -80,7 +80,7 @@ record Mute (c : Change) : Type 0 where
   count : eqb c.output.count 0 ≡ true
 
 mute : (b : Book) (e : Event) → find_downstream b e.ids.downstream ≡ none → (handle : Findings → ℕ → Request → Order → Change) → Mute (on_request unknown_report handle b e)
-unfolding on_request unchanged alarming if◌then◌else◌
+unfolding on_request unchanged alarming if◌then◌otherwise◌
 mute b e w handle = subst Mute (sym (maybe_none (find_downstream b e.ids.downstream) _ _ w)) (record { alarm = refl; count = refl })
 
 -- or one of the book: the change is of its order, and is right

@@ -4,7 +4,7 @@ use mathlib.Core.Path.{◌≡◌, refl}
 use mathlib.Core.Bool.{Bool, true, false, not}
 use lib.Dec.{eqb}
 use borrow.Author.Tests.{not-true, not-false}
-use Rattle.prelude.specs.Cases.{if◌then◌else◌, split_if, clash}
+use Rattle.prelude.specs.Cases.{if◌then◌otherwise◌, split_if, clash}
 use Rattle.store.specs.declared.Order.{Order}
 use Rattle.store.specs.declared.Request.{Request}
 use Rattle.machine.specs.Constants.{report_kind, stuck_cancel}
@@ -29,7 +29,7 @@ pub record Fits (P : Message → Type 0) (A : ℕ → Type 0) (O : Order → Typ
 -- P asks about reports alone; alarm 1 behind the one that is there, and the gateway cancel's record, change nothing
 pub record Ways (P : Message → Type 0) (A : ℕ → Type 0) (O : Order → Type 0) : Type 0 where
   pub others : (m : Message) → eqb m.kind report_kind ≡ false → P m
-  pub behind : (a : ℕ) → A a → A (if eqb a 0 then stuck_cancel else a)
+  pub behind : (a : ℕ) → A a → A (if eqb a 0 then stuck_cancel otherwise a)
   pub sent : (f : Findings) (x : Order) → O x → O (with_gateway (try_sent x) (numbered_order f true x))
   pub given : (x : Order) → O x → O (with_gateway (given_up x) x)
 
@@ -52,7 +52,7 @@ module _ {P : Message → Type 0} {A : ℕ → Type 0} {O : Order → Type 0} wh
     adding_fits q = record { first = h.first; second = h.second; alarm = h.alarm; order = h.order }
 
     pub telling_fits : (m : Message) → P m → Fits P A O (telling m c)
-    unfolding telling if◌then◌else◌
+    unfolding telling if◌then◌otherwise◌
     telling_fits m p = record {
       first = λ z. split_if P (eqb c.output.count 0) (λ e. p) (λ e. h.first e);
       second = λ z. second (eqb c.output.count 0);
@@ -60,7 +60,7 @@ module _ {P : Message → Type 0} {A : ℕ → Type 0} {O : Order → Type 0} wh
       order = h.order;
     }
       where
-        second : (t : Bool) → eqb (if t then 1 else 2) 1 ≡ false → P (if t then c.output.second else m)
+        second : (t : Bool) → eqb (if t then 1 otherwise 2) 1 ≡ false → P (if t then c.output.second otherwise m)
         second true y = clash true refl y
         second false y = p
 
@@ -72,7 +72,7 @@ module _ {P : Message → Type 0} {A : ℕ → Type 0} {O : Order → Type 0} wh
 
 -- the first alarm of a change
 pub alarming_fits : {P : Message → Type 0} {A : ℕ → Type 0} {O : Order → Type 0} (a : ℕ) (c : Change) → Fits P (λ x. x ≡ 0) O c → A a → Fits P A O (alarming a c)
-unfolding alarming if◌then◌else◌
+unfolding alarming if◌then◌otherwise◌
 alarming_fits a c h p = record { first = h.first; second = h.second; alarm = rw h.alarm p; order = h.order }
 
 -- ---- the gateway's own cancels, and a request refused

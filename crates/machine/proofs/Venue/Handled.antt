@@ -7,7 +7,7 @@ use mathlib.Core.Bool.{Bool, true, false, not, ◌&&◌, ◌||◌}
 use mathlib.Core.Option.{some}
 use lib.Dec.{eqb, ltb}
 use borrow.Author.Tests.{ne_eqb, not-true, not-false, ltb-false}
-use Rattle.prelude.specs.Cases.{if◌then◌else◌, split_if, if_true, if_false, clash, either_false, true_or_false}
+use Rattle.prelude.specs.Cases.{if◌then◌otherwise◌, split_if, if_true, if_false, clash, either_false, true_or_false}
 use Rattle.wide.specs.Price.{source_range}
 use Rattle.format.specs.Codes.{filled, rejected}
 use Rattle.store.specs.declared.Order.{Order}
@@ -19,7 +19,7 @@ use Rattle.machine.specs.Orders.{is_done, short_alarm}
 use Rattle.machine.specs.Messages.{report}
 use Rattle.machine.specs.Changes.{Event, unchanged, is_first, is_answered, numbered_order}
 use Rattle.machine.specs.Amend.{refused_order, refused_alarm, refuse_request, venue_cancel_reject}
-use Rattle.machine.specs.Report.{says_unknown_at_venue, unknown_at_venue, is_rejection, behind, stale, repeats, accepts, dropped_stale, dropped_repeat, status_taken, ordered_qty, reported_order, fill_price_of, client_report, apply_report, venue_report}
+use Rattle.machine.specs.Report.{says_unknown_at_venue, unknown_at_venue, is_rejection, stale, repeats, accepts, dropped_stale, dropped_repeat, status_taken, ordered_qty, reported_order, fill_price_of, client_report, apply_report, venue_report}
 use Rattle.machine.specs.Machine.{on_report}
 use Rattle.machine.specs.Status.{refuses, reports, qty_by, heard, takes_refusal, takes_report, brings, refused_to, reported_to, Left}
 use Rattle.machine.specs.declared.Findings.{Findings}
@@ -77,10 +77,10 @@ sourced o e = (source_range e.exec.lastqty e.exec.lastpx e.exec.cumqty e.exec.av
 
 module _ (b : Book) (k : ℕ) (q : Request) (o : Order) (e : Event) where
   abbrev cum_by : ℕ
-  cum_by = if takes_report k q o e then e.exec.cumqty else o.state.cumqty
+  cum_by = if takes_report k q o e then e.exec.cumqty otherwise o.state.cumqty
 
   abbrev ordered : ℕ
-  ordered = if takes_report k q o e then qty_by k q o e else o.terms.qty
+  ordered = if takes_report k q o e then qty_by k q o e otherwise o.terms.qty
 
   unfoldable pub six : Bool
   six = (takes_refusal q o e || takes_report k q o e) && (eqb (brings k q o e) filled && ltb cum_by ordered)
@@ -94,7 +94,7 @@ module _ (b : Book) (k : ℕ) (q : Request) (o : Order) (e : Event) where
   abbrev pub T : Change → Type 0
   T = Fits (Said b e) Six L
 
-  behind_six : (a : ℕ) → Six a → Six (if eqb a 0 then 1 else a)
+  behind_six : (a : ℕ) → Six a → Six (if eqb a 0 then 1 otherwise a)
   behind_six a h = split_if Six (eqb a 0) (λ z. sym (zero a z) ∙ h) (λ z. h)
     where
       zero : (a : ℕ) → eqb a 0 ≡ true → eqb a filled_short ≡ false
@@ -124,7 +124,7 @@ module _ (b : Book) (k : ℕ) (q : Request) (o : Order) (e : Event) where
   -- a refusal is
   by_refusal : takes_refusal q o e ≡ true → takes_report k q o e ≡ false → (s a : ℕ) (x : Order) → brings k q o e ≡ s
       → Is (refused_to o s) o.terms.qty o.state.cumqty x → eqb a filled_short ≡ eqb s filled && ltb o.state.cumqty o.terms.qty → Six a × L x
-  unfolding six if◌then◌else◌
+  unfolding six if◌then◌otherwise◌
   by_refusal p p' s a x w i h = (
     rw (p, p', w) h,
     record {
@@ -138,7 +138,7 @@ module _ (b : Book) (k : ℕ) (q : Request) (o : Order) (e : Event) where
   by_report : takes_refusal q o e ≡ false → takes_report k q o e ≡ true → (s : ℕ) → brings k q o e ≡ s
       → ((a : ℕ) → eqb a filled_short ≡ eqb s filled && ltb e.exec.cumqty (qty_by k q o e) → Six a)
       × ((x : Order) → Is (reported_to (qty_by k q o e) e.exec.cumqty o s) (qty_by k q o e) e.exec.cumqty x → L x)
-  unfolding six if◌then◌else◌
+  unfolding six if◌then◌otherwise◌
   by_report p p' s w = (
     λ a h. rw (p, p', w) h,
     λ x i. record {
@@ -299,7 +299,7 @@ module _ (b : Book) (k : ℕ) (q : Request) (o : Order) (e : Event) where
       module _ (s : stale k q o e ≡ false) where
         passes : ltb (qty_by k q o e) e.exec.cumqty ≡ ltb (ordered_qty (accepts k q o e) o) (max e.exec.cumqty o.state.cumqty)
         unfolding qty_by ordered_qty
-        passes = ap (ltb (if accepts k q o e then o.pending.qty else o.terms.qty)) (sym (most (not_lower s)))
+        passes = ap (ltb (if accepts k q o e then o.pending.qty otherwise o.terms.qty)) (sym (most (not_lower s)))
 
         over : ltb (ordered_qty (accepts k q o e) o) (max e.exec.cumqty o.state.cumqty) ≡ true → takes_report k q o e ≡ false
         unfolding takes_report
@@ -333,9 +333,9 @@ module _ (b : Book) (k : ℕ) (q : Request) (o : Order) (e : Event) where
       four_reports = rw (four, known, rj) refl
 
       -- a Rejected is the request's
-      four_brings : brings k q o e ≡ (if eqb e.exec.status rejected then 0 else e.exec.status)
+      four_brings : brings k q o e ≡ (if eqb e.exec.status rejected then 0 otherwise e.exec.status)
       unfolding brings
-      four_brings = if_true _ _ _ four_refuses ∙ ap (λ (t : Bool). if t && eqb e.exec.status rejected then 0 else e.exec.status) four
+      four_brings = if_true _ _ _ four_refuses ∙ ap (λ (t : Bool). if t && eqb e.exec.status rejected then 0 otherwise e.exec.status) four
 
       rejected_right : T (venue_report f k q o e)
       unfolding venue_report

@@ -6,7 +6,7 @@ use mathlib.Core.Logic.{◌⊎◌, inl, inr}
 use mathlib.Core.Bool.{Bool, true, false, not, ◌&&◌, ◌||◌}
 use lib.Dec.{eqb, ltb}
 use borrow.Author.Tests.{eqb-true, eqb-false, lt-ltb, le-ltb}
-use Rattle.prelude.specs.Cases.{if◌then◌else◌, split_if, if_true, if_false, clash, true_or_false}
+use Rattle.prelude.specs.Cases.{if◌then◌otherwise◌, split_if, if_true, if_false, clash, true_or_false}
 use Rattle.prelude.specs.declared.Text.{Text}
 use Rattle.format.specs.Codes.{pending_new, new, partially_filled, filled}
 use Rattle.store.specs.declared.Order.{Order}
@@ -28,14 +28,14 @@ above n = go (true_or_false (eqb n 0))
     go (inl z) = let y : n ≡ 0 = eqb-true n 0 z in le-ltb 0 n (omega arith) ∙ sym (ap not z)
     go (inr z) = let y : (n ≡ 0 → ⊥) = eqb-false n 0 z in lt-ltb 0 n (omega arith) ∙ sym (ap not z)
 
-turned : (t : Bool) → (if not t then partially_filled else new) ≡ (if t then new else partially_filled)
-unfolding if◌then◌else◌
+turned : (t : Bool) → (if not t then partially_filled otherwise new) ≡ (if t then new otherwise partially_filled)
+unfolding if◌then◌otherwise◌
 turned true = refl
 turned false = refl
 
-at_new : (cumqty : ℕ) → status_at cumqty new ≡ (if eqb cumqty 0 then new else partially_filled)
+at_new : (cumqty : ℕ) → status_at cumqty new ≡ (if eqb cumqty 0 then new otherwise partially_filled)
 unfolding status_at
-at_new cumqty = ap (λ (t : Bool). if t then partially_filled else new) (above cumqty) ∙ turned (eqb cumqty 0)
+at_new cumqty = ap (λ (t : Bool). if t then partially_filled otherwise new) (above cumqty) ∙ turned (eqb cumqty 0)
 
 -- the machine's two steps are the one of the papers
 as_set_lem : (qty cumqty s : ℕ) → status_at cumqty (unless_short qty cumqty s) ≡ as_set qty cumqty s
@@ -46,16 +46,16 @@ as_set_lem qty cumqty s = go (true_or_false (eqb s filled && ltb cumqty qty))
     go (inl z) = ap (status_at cumqty) (if_true _ new s z) ∙ at_new cumqty ∙ sym (if_true _ _ _ z)
     go (inr z) =
         ap (status_at cumqty) (if_false _ new s z)
-        ∙ ap (λ (t : Bool). if (eqb s new || eqb s pending_new) && t then partially_filled else s) (above cumqty)
+        ∙ ap (λ (t : Bool). if (eqb s new || eqb s pending_new) && t then partially_filled otherwise s) (above cumqty)
         ∙ sym (if_false _ _ _ z)
 
 -- no longer pending: New or PartiallyFilled, by the cumulative
-as_freed : (qty cumqty : ℕ) → as_set qty cumqty (if ltb 0 cumqty then partially_filled else new) ≡ as_set qty cumqty new
+as_freed : (qty cumqty : ℕ) → as_set qty cumqty (if ltb 0 cumqty then partially_filled otherwise new) ≡ as_set qty cumqty new
 as_freed qty cumqty = go (true_or_false (eqb cumqty 0))
   where
-    go : (eqb cumqty 0 ≡ true) ⊎ (eqb cumqty 0 ≡ false) → as_set qty cumqty (if ltb 0 cumqty then partially_filled else new) ≡ as_set qty cumqty new
+    go : (eqb cumqty 0 ≡ true) ⊎ (eqb cumqty 0 ≡ false) → as_set qty cumqty (if ltb 0 cumqty then partially_filled otherwise new) ≡ as_set qty cumqty new
     go (inl z) = ap (as_set qty cumqty) (if_false _ _ _ (above cumqty ∙ ap not z))
-    go (inr z) = ap (as_set qty cumqty) (if_true _ _ _ (above cumqty ∙ ap not z)) ∙ (unfold as_set if◌then◌else◌ in rw z refl)
+    go (inr z) = ap (as_set qty cumqty) (if_true _ _ _ (above cumqty ∙ ap not z)) ∙ (unfold as_set if◌then◌otherwise◌ in rw z refl)
 
 -- ---- the orders
 
@@ -102,14 +102,14 @@ module _ (k : ℕ) (r : Refused) (o : Order) where
 
 pub reported_is : (accepted : Bool) (s : ℕ) (q : Request) (o : Order) (e : Event)
     → Is (reported_to (ordered_qty accepted o) e.exec.cumqty o s) (ordered_qty accepted o) e.exec.cumqty (reported_order accepted s q o e)
-unfolding reported_order record_venue_order_id apply_replace pending_terms ordered_qty reported_to if◌then◌else◌
-reported_is true s q o e = let i = set_is (if eqb s 0 then o.state.status else s) _ in record { status = i.status; ordered = i.ordered; filled! = i.filled! }
-reported_is false s q o e = let i = set_is (if eqb s 0 then o.state.status else s) _ in record { status = i.status; ordered = i.ordered; filled! = i.filled! }
+unfolding reported_order record_venue_order_id apply_replace pending_terms ordered_qty reported_to if◌then◌otherwise◌
+reported_is true s q o e = let i = set_is (if eqb s 0 then o.state.status otherwise s) _ in record { status = i.status; ordered = i.ordered; filled! = i.filled! }
+reported_is false s q o e = let i = set_is (if eqb s 0 then o.state.status otherwise s) _ in record { status = i.status; ordered = i.ordered; filled! = i.filled! }
 
 -- ---- alarm 6
 
-six_if : (t : Bool) → eqb (if t then filled_short else 0) filled_short ≡ t
-unfolding if◌then◌else◌
+six_if : (t : Bool) → eqb (if t then filled_short otherwise 0) filled_short ≡ t
+unfolding if◌then◌otherwise◌
 six_if true = refl
 six_if false = refl
 

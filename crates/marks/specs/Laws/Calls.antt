@@ -2,44 +2,44 @@
 use Rattle.std.specs.Prelude.{ℕ, ◌≡◌, true, false, List, ◌++◌}
 use Rattle.std.proofs.Math.Option.{none, some}
 use Rattle.std.proofs.lemmas.Bool.{not-true, not-false}
-use Rattle.prelude.specs.Cases.{if◌then◌else◌, maybe, split_if, split_maybe}
+use Rattle.prelude.specs.Cases.{if◌then◌otherwise◌, maybe, split_if, split_maybe}
 use Rattle.prelude.specs.Span.{splice}
 use Rattle.opens.specs.Keeps.{keeps_of}
 use Rattle.marks.specs.Marks.{place, image_at, is_mark_name, name_bytes, set_place, return_place, Marked, marked, set_mark_of, return_of}
 
 module _ (b name p : List ℕ) where
   pub set_bad : keeps_of b ≡ false → marked 1 b p ≡ set_mark_of b name p
-  unfolding set_mark_of if◌then◌else◌
+  unfolding set_mark_of if◌then◌otherwise◌
   set_bad e = rw e
 
   pub return_bad : keeps_of b ≡ false → marked 1 b p ≡ return_of b name p
-  unfolding return_of if◌then◌else◌
+  unfolding return_of if◌then◌otherwise◌
   return_bad e = rw e
 
   module _ (k : keeps_of b ≡ true) where
     pub set_malformed : is_mark_name name ≡ false → marked 13 b p ≡ set_mark_of b name p
-    unfolding set_mark_of if◌then◌else◌
+    unfolding set_mark_of if◌then◌otherwise◌
     set_malformed e = rw (k, e)
 
     pub return_malformed : is_mark_name name ≡ false → marked 13 b p ≡ return_of b name p
-    unfolding return_of if◌then◌else◌
+    unfolding return_of if◌then◌otherwise◌
     return_malformed e = rw (k, e)
 
     module _ (n : is_mark_name name ≡ true) where
       pub set_full : set_place p name ≡ none → marked 15 b p ≡ set_mark_of b name p
-      unfolding set_mark_of if◌then◌else◌ maybe
+      unfolding set_mark_of if◌then◌otherwise◌ maybe
       set_full e = rw (k, n, e)
 
       pub set_done : (i : ℕ) → set_place p name ≡ some i → marked 0 b (splice p (place i) (name_bytes name ++ b)) ≡ set_mark_of b name p
-      unfolding set_mark_of if◌then◌else◌ maybe
+      unfolding set_mark_of if◌then◌otherwise◌ maybe
       set_done i e = rw (k, n, e)
 
       pub return_none : return_place p name ≡ none → marked 14 b p ≡ return_of b name p
-      unfolding return_of if◌then◌else◌ maybe
+      unfolding return_of if◌then◌otherwise◌ maybe
       return_none e = rw (k, n, e)
 
       pub return_done : (i : ℕ) → return_place p name ≡ some i → marked 0 (image_at p i) p ≡ return_of b name p
-      unfolding return_of if◌then◌else◌ maybe
+      unfolding return_of if◌then◌otherwise◌ maybe
       return_done i e = rw (k, n, e)
 
   -- what holds of each end holds of the call

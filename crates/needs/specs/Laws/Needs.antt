@@ -4,7 +4,7 @@ use Rattle.std.proofs.Math.Path.{refl, sym, ap}
 use Rattle.std.proofs.Common.{◌∙◌}
 use mathlib.Core.List.{List}
 use Rattle.std.proofs.lemmas.List.{length-replicate}
-use Rattle.prelude.specs.Cases.{if◌then◌else◌, if_true, if_false}
+use Rattle.prelude.specs.Cases.{if◌then◌otherwise◌, if_true, if_false}
 use Rattle.records.specs.Answer.{answer_bytes, chosen}
 use Rattle.records.specs.Laws.Writing.{length_answer}
 use Rattle.machine.specs.declared.Change.{Change}
@@ -18,7 +18,7 @@ use Rattle.needs.specs.Needs.{answer_length, field_count, fields_of, added_count
 -- ---- the answer's length, by its writer
 
 pub written_length : (r alarm alarm2 : ℕ) (ms : List Message)
-    → r ≡ (if leb 1024 (length {A = ℕ} (replicate 1024 0)) then length (answer_bytes alarm alarm2 ms) else 0) → r ≡ answer_length ms
+    → r ≡ (if leb 1024 (length {A = ℕ} (replicate 1024 0)) then length (answer_bytes alarm alarm2 ms) otherwise 0) → r ≡ answer_length ms
 unfolding answer_length
 written_length r alarm alarm2 ms e = e ∙ if_true _ _ _ (ap (leb 1024) (length-replicate {A = ℕ} 1024 0)) ∙ length_answer alarm alarm2 ms
 
@@ -40,16 +40,16 @@ counts length messages requests first second = record {
 
 module _ (out : Output) (added n k : ℕ) (long : n ≡ answer_length (put out)) (adds : k ≡ added_count added) where
   pub needed_none : eqb out.count 0 ≡ true → counts n 0 k 0 0 ≡ needed (put out) added
-  unfolding needed fields_of if◌then◌else◌
+  unfolding needed fields_of if◌then◌otherwise◌
   needed_none z = rw (long, adds, z) refl
 
   module _ (some : eqb out.count 0 ≡ false) (f : ℕ) (fs : f ≡ field_count out.first) where
     pub needed_one : eqb out.count 1 ≡ true → counts n 1 k f 0 ≡ needed (put out) added
-    unfolding needed fields_of if◌then◌else◌
+    unfolding needed fields_of if◌then◌otherwise◌
     needed_one z = rw (long, adds, fs, some, z) refl
 
     pub needed_two : eqb out.count 1 ≡ false → (g : ℕ) → g ≡ field_count out.second → counts n 2 k f g ≡ needed (put out) added
-    unfolding needed fields_of if◌then◌else◌
+    unfolding needed fields_of if◌then◌otherwise◌
     needed_two z g gs = rw (long, adds, fs, gs, some, z) refl
 
 -- ---- the call

@@ -1,11 +1,10 @@
 -- What the book's rules give the lines, a turn of the loop over the orders, and the ways the call ends. Rests on Pair and Lines.
-use Rattle.std.specs.Prelude.{ℕ, zero, suc, ◌+◌, ◌-◌, ◌*◌, ◌^◌, ◌≤◌, ◌<◌, ◌≡◌, refl, Bool, true, false, not, ◌&&◌, ◌||◌, leb, ltb, length, take, drop}
+use Rattle.std.specs.Prelude.{ℕ, zero, suc, ◌+◌, ◌-◌, ◌*◌, ◌^◌, ◌≤◌, ◌<◌, ◌≡◌, refl, Bool, true, false, ◌&&◌, leb, length, take, drop}
 use Rattle.std.proofs.Common.{sym, subst, ◌∙◌, add-one, arith, length-append}
 use Rattle.std.proofs.Math.Path.{ap}
 use mathlib.Core.List.{List, [], ◌∷◌, ◌++◌, append-nil}
 use borrow.Author.Tests.{lt-ltb, le-ltb}
-use Rattle.prelude.specs.Cases.{if◌then◌else◌, split_if, if_true, if_false, both_true}
-use Rattle.prelude.specs.Number.{Bytes}
+use Rattle.prelude.specs.Cases.{if◌then◌otherwise◌, split_if, if_true, if_false, both_true}
 use Rattle.prelude.specs.Pieces.{joined, length_joined}
 use Rattle.prelude.specs.Span.{splice, length_splice, splice_nil, part_splice}
 use Rattle.prelude.specs.Texts.{is_text}
@@ -92,8 +91,8 @@ module _ (b : List ℕ) (kept : keeps_of b ≡ true) where
 
 -- what the turn at order i makes of the buffer and of the count of lines
 pub record IsNext (b : Book) (i lines : ℕ) (out : List ℕ) (r : ℕ) (left : List ℕ) : Type 0 where
-  pub number : r ≡ (if is_first b i then lines + 1 else lines)
-  pub bytes : left ≡ (if is_first b i then splice out (27 * lines) (line_bytes (position_of b (order_in b i))) else out)
+  pub number : r ≡ (if is_first b i then lines + 1 otherwise lines)
+  pub bytes : left ≡ (if is_first b i then splice out (27 * lines) (line_bytes (position_of b (order_in b i))) otherwise out)
 
 -- by what was loaded, compared, summed and written
 module _ (b : List ℕ) (i : ℕ) (h : i < order_count b) (o : Order) (e : o ≡ load_order b i) where
@@ -174,18 +173,18 @@ net_few b kept = omega (arith, ap length (whole b (order_count b) refl), fewest 
 -- ---- how the call ends
 
 pub net_bad : (b lines : List ℕ) (n : ℕ) → keeps_of b ≡ false → written (refusing 1) lines ≡ net_call b n lines
-unfolding net_call if◌then◌else◌
+unfolding net_call if◌then◌otherwise◌
 net_bad b lines n e = rw e
 
 module _ (b : List ℕ) (kept : keeps_of b ≡ true) (lines : List ℕ) (n : ℕ) where
   pub net_scratch : n < least_scratch → written (refusing 11) lines ≡ net_call b n lines
-  unfolding net_call if◌then◌else◌
+  unfolding net_call if◌then◌otherwise◌
   net_scratch h = rw (kept, lt-ltb n least_scratch h)
 
   pub net_short : least_scratch ≤ n → length lines < least_lines → written (refusing 11) lines ≡ net_call b n lines
-  unfolding net_call if◌then◌else◌
+  unfolding net_call if◌then◌otherwise◌
   net_short g h = rw (kept, le-ltb n least_scratch g, lt-ltb (length lines) least_lines h)
 
   pub net_done : least_scratch ≤ n → least_lines ≤ length lines → written (counting (length (net_of (book_of b)))) (splice lines 0 (net_bytes (net_of (book_of b)))) ≡ net_call b n lines
-  unfolding net_call if◌then◌else◌
+  unfolding net_call if◌then◌otherwise◌
   net_done g h = rw (kept, le-ltb n least_scratch g, le-ltb (length lines) least_lines h)

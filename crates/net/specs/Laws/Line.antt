@@ -1,18 +1,18 @@
 -- One line: its width, that a stored symbol's first 16 bytes are its field, and that it is read as the position that it was written of. Rests on Net.
-use Rattle.std.specs.Prelude.{ℕ, zero, suc, ◌+◌, ◌-◌, ◌*◌, ◌^◌, ◌≤◌, ◌<◌, ◌≡◌, refl, Bool, true, false, List, [], ◌∷◌, ◌++◌, eqb, ltb, length, get_or, take, drop, replicate}
-use Rattle.std.proofs.Common.{sym, ap, ◌∙◌, arith, eqb-true, eq-eqb, ne_eqb, lt-ltb, le-ltb, length-append, length-take, take-take, take_at, get_or-append-add}
-use Rattle.std.proofs.Math.Decide.{dec_lt, dec_le}
+use Rattle.std.specs.Prelude.{ℕ, zero, suc, ◌+◌, ◌-◌, ◌^◌, ◌≤◌, ◌<◌, ◌≡◌, refl, true, List, [], ◌∷◌, ◌++◌, eqb, length, get_or, take, replicate}
+use Rattle.std.proofs.Common.{sym, ap, ◌∙◌, arith, eq-eqb, ne_eqb, lt-ltb, le-ltb, length-append, length-take, take-take, take_at, get_or-append-add}
+use Rattle.std.proofs.Math.Decide.{dec_le}
 use Rattle.std.proofs.lemmas.Bool.{eqb-false}
 use Rattle.std.proofs.lemmas.List.{length-replicate, get_or-replicate}
 use Rattle.std.proofs.Math.ListN.{get_or-append}
 use Rattle.std.proofs.Math.Seq.{take-append-add}
-use Rattle.prelude.specs.Cases.{if◌then◌else◌, split_if, if_true, if_false}
-use Rattle.prelude.specs.Number.{number, bytes_of, bound, length_bytes, number_bytes}
-use Rattle.prelude.specs.Pieces.{joined, Sized, writes, offset, length_joined, writes_joined, piece_at}
-use Rattle.prelude.specs.Span.{span, splice, splice_whole, span_span}
+use Rattle.prelude.specs.Cases.{split_if, if_true, if_false}
+use Rattle.prelude.specs.Number.{number, bytes_of, length_bytes, number_bytes}
+use Rattle.prelude.specs.Pieces.{joined, Sized, writes, length_joined, writes_joined, piece_at}
+use Rattle.prelude.specs.Span.{span, splice_whole, span_span}
 use Rattle.prelude.specs.Texts.{contents, text_of, is_text, text_contents}
 use Rattle.prelude.specs.declared.Text.{Text}
-use Rattle.net.specs.Net.{Signed, less, Position, padded, twos, fields, line_bytes, signed_of, read_line}
+use Rattle.net.specs.Net.{less, Position, padded, twos, fields, line_bytes, signed_of, read_line}
 use Rattle.net.specs.Promise.{LineZeros}
 
 -- ---- the symbol

@@ -2,15 +2,15 @@
 use Prim.Native.Nat.{ℕ, zero, suc, ◌+◌, ◌*◌, ◌^◌, ◌≤◌, ◌<◌}
 use Rattle.std.proofs.Math.Path.{◌≡◌, refl, ap, subst}
 use Rattle.std.proofs.Common.{sym, ◌∙◌, add-one, take-suc}
-use Rattle.std.specs.Prelude.{Bool, ◌&&◌, List, [], ◌∷◌, ◌++◌, length, get_or}
+use Rattle.std.specs.Prelude.{Bool, ◌&&◌, List, [], ◌∷◌, length, get_or}
 use Rattle.std.proofs.Math.Bool.{true, false, not}
 use native.Mathlib.Omega.{arith}
-use borrow.Author.Tests.{eqb-true, eq-eqb, ne_eqb, not-true}
+use borrow.Author.Tests.{eq-eqb, ne_eqb, not-true}
 use Rattle.std.proofs.Math.Dec.{eqb}
 use Rattle.std.proofs.Math.ListN.{take}
 use Rattle.std.proofs.Math.Seq.{take_all}
 use Rattle.prelude.specs.Below.{all_below}
-use Rattle.prelude.specs.Cases.{if◌then◌else◌, if_true, if_false, both_true}
+use Rattle.prelude.specs.Cases.{if◌then◌otherwise◌, if_true, if_false, both_true}
 use Rattle.prelude.specs.Number.{word16, word64}
 use Rattle.prelude.specs.Texts.{same_text}
 use Rattle.prelude.specs.Totals.{total_of, total_append}
@@ -112,7 +112,7 @@ module _ (b : Book) (client : ℕ) (symbol : Text) (k : ℕ) (a : Amounts) (s : 
 
   module _ (q : ℕ) (is : q ≡ (order_in b k).state.cumqty) (small : q ≤ 10 ^ 12) (e : of_pair client symbol (order_in b k) ≡ true) where
     pub sum_bought : (order_in b k).terms.side ≡ buy → IsSum b client symbol (k + 1) (record { bought = a.bought + q; sold = a.sold })
-    unfolding if◌then◌else◌
+    unfolding if◌then◌otherwise◌
     sum_bought y =
         let t : eqb o.terms.side buy ≡ true = eq-eqb _ _ y in
         record {
@@ -122,7 +122,7 @@ module _ (b : Book) (client : ℕ) (symbol : Text) (k : ℕ) (a : Amounts) (s : 
         }
 
     pub sum_sold : ((order_in b k).terms.side ≡ buy → ⊥) → IsSum b client symbol (k + 1) (record { bought = a.bought; sold = a.sold + q })
-    unfolding if◌then◌else◌
+    unfolding if◌then◌otherwise◌
     sum_sold y =
         let t : eqb o.terms.side buy ≡ false = ne_eqb _ _ y in
         record {

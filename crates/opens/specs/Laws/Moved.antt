@@ -6,11 +6,10 @@ use native.Mathlib.Omega.{arith}
 use Rattle.std.proofs.Math.Path.{sym, ap, ap₂}
 use Rattle.std.proofs.Common.{subst, ◌∙◌, length-append, length-set, get_or-set_same}
 use Rattle.std.proofs.Math.Option.{Option, none, some}
-use Rattle.std.proofs.Math.ListN.{get_or-append}
 use Rattle.std.proofs.lemmas.List.{get_or_at}
 use borrow.Author.Tests.{eqb-true, eq-eqb, ne_eqb, le-leb, lt-leb}
 use Rattle.prelude.specs.Below.{first_below, First, first_ext, first_elim, first_hit, first_some}
-use Rattle.prelude.specs.Cases.{if◌then◌else◌, maybe, if_true, if_false, maybe_none, maybe_some, clash}
+use Rattle.prelude.specs.Cases.{if◌then◌otherwise◌, maybe, if_true, if_false, maybe_none, maybe_some, clash}
 use Rattle.prelude.specs.Number.{bytes_of}
 use Rattle.prelude.specs.Span.{splice}
 use Rattle.prelude.specs.Totals.{total_of, total_append, total_set}
@@ -54,7 +53,7 @@ step_clients b e r z =
 
 -- a client's part of the sum
 abbrev part : ℕ → Order → ℕ
-part client o = if o.client == client then leaves_qty o else 0
+part client o = if o.client == client then leaves_qty o otherwise 0
 
 part_own : (client : ℕ) (o : Order) → o.client ≡ client → part client o ≡ leaves_qty o
 part_own client o e = if_true _ _ _ (eq-eqb o.client client e)
@@ -63,7 +62,7 @@ part_other : (client : ℕ) (o : Order) → (o.client ≢ client) → part clien
 part_other client o n = if_false _ _ _ (ne_eqb o.client client n)
 
 none_left : leaves_qty no_order ≡ 0
-unfolding leaves_qty leaves_of is_done if◌then◌else◌
+unfolding leaves_qty leaves_of is_done if◌then◌otherwise◌
 none_left = refl
 
 part_none : (client : ℕ) → part client no_order ≡ 0
@@ -250,7 +249,7 @@ bytes_word n =
 
 store_word : (b : List ℕ) (i n : ℕ) → store_open b i (n % 2 ^ 64) ≡ store_open b i n
 unfolding store_open
-store_word b i n = ap (λ (w : List ℕ). if is_book b && nat_lt i most_orders then splice b (open_base i) w else b) (bytes_word n)
+store_word b i n = ap (λ (w : List ℕ). if is_book b && nat_lt i most_orders then splice b (open_base i) w otherwise b) (bytes_word n)
 
 -- what the order of a link has left, as the code comes to it
 pub link_none : (x : Book) (place : ℕ) → place ≡ 0 → 0 ≡ leaves_qty (order_at_link x place)

@@ -7,7 +7,7 @@ use Rattle.std.proofs.Math.Path.{refl, sym, ap, ap₂, subst}
 use Rattle.std.proofs.Math.Option.{Option, none, some}
 use borrow.Author.Tests.{eqb-true, eq-eqb, ne_eqb, leb-true}
 use Rattle.prelude.specs.Below.{first_below, First, all_elim, first_elim, first_hit, first_some}
-use Rattle.prelude.specs.Cases.{if◌then◌else◌, maybe, split_if, split_maybe, if_true, if_false, maybe_none, maybe_some, both_true, clash, test_same}
+use Rattle.prelude.specs.Cases.{if◌then◌otherwise◌, maybe, split_if, split_maybe, if_true, if_false, maybe_none, maybe_some, both_true, clash, test_same}
 use Rattle.prelude.specs.Lists.{list_below, list_more}
 use Rattle.prelude.specs.Number.{bound}
 use Rattle.prelude.specs.Totals.{total_of, total_append}
@@ -74,7 +74,7 @@ total_most f d (o ∷ os) h = omega (arith, h 0 (omega arith), total_most f d os
 pub open_fits : (x : Book) → rules x ≡ true → (client : ℕ) → open_of x client < bound 8
 open_fits x r client =
     let most : open_of x client ≤ 1000000000000 * length x.orders =
-    total_most (λ (o : Order). if o.client == client then leaves_qty o else 0) no_order x.orders
+    total_most (λ (o : Order). if o.client == client then leaves_qty o otherwise 0) no_order x.orders
     (λ k h. split_if (λ n. n ≤ 1000000000000) ((order_in x k).client == client) (λ e. order_most x r k h) (λ e. omega arith)) in
     omega (arith, (book_kept x r).orders)
 
@@ -115,7 +115,7 @@ module _ (b : List ℕ) where
 
 -- an order's leaves, where its client's first order is order q
 abbrev part_to : List ℕ → ℕ → Order → ℕ
-part_to b q o = if first_for b o.client == q then leaves_qty o else 0
+part_to b q o = if first_for b o.client == q then leaves_qty o otherwise 0
 
 -- what comes together at order q from the first i orders
 unfoldable pub sum_to : List ℕ → (q i : ℕ) → ℕ
@@ -185,16 +185,16 @@ module _ (b : List ℕ) where
 
   -- ---- they are the open quantities
 
-  open_bytes : (c : ℕ) → open_of (book_of b) c ≡ total_of (λ (o : Order). if o.client == c then leaves_qty o else 0) (list_below (order_at b) (order_count b))
+  open_bytes : (c : ℕ) → open_of (book_of b) c ≡ total_of (λ (o : Order). if o.client == c then leaves_qty o otherwise 0) (list_below (order_at b) (order_count b))
   unfolding book_of
   open_bytes c = refl
 
   sum_open : (c j : ℕ) → find_client (book_of b) c ≡ some j → sum_to b j (order_count b) ≡ open_of (book_of b) c
   unfolding sum_to
   sum_open c j e =
-      total_ext (part_to b j) (λ (o : Order). if o.client == c then leaves_qty o else 0) (order_at b) (order_count b)
+      total_ext (part_to b j) (λ (o : Order). if o.client == c then leaves_qty o otherwise 0) (order_at b) (order_count b)
       (λ k h.
-      ap (λ (t : Bool). if t then leaves_qty (order_at b k) else 0)
+      ap (λ (t : Bool). if t then leaves_qty (order_at b k) otherwise 0)
       (test_same (first_for b (order_at b k).client == j) ((order_at b k).client == c)
       (λ t. eq-eqb _ c (sym (first_client b k h) ∙ ap (λ (i : ℕ). (order_at b i).client) (eqb-true _ j t) ∙ (client_at b c j e).1))
       (λ t. eq-eqb _ j (ap (first_for b) (eqb-true _ c t) ∙ first_for_lem b c j e))))
@@ -203,7 +203,7 @@ module _ (b : List ℕ) where
   pub open_none : (c : ℕ) → find_client (book_of b) c ≡ none → open_of (book_of b) c ≡ 0
   open_none c e =
       open_bytes c
-      ∙ total_ext (λ (o : Order). if o.client == c then leaves_qty o else 0) (λ (o : Order). 0) (order_at b) (order_count b) (λ k h. if_false _ _ _ (none_at b c e k h))
+      ∙ total_ext (λ (o : Order). if o.client == c then leaves_qty o otherwise 0) (λ (o : Order). 0) (order_at b) (order_count b) (λ k h. if_false _ _ _ (none_at b c e k h))
       ∙ total_zero (list_below (order_at b) (order_count b))
 
   -- one word compared with its sum

@@ -1,8 +1,8 @@
 -- The maps of messages as code builds them, bit by bit from those that their kind must have, and that they are the machine's. Rests on
 -- machine's Messages, format's table and bits.
-use Rattle.std.specs.Prelude.{ℕ, ◌+◌, ◌-◌, ◌^◌, ◌≡◌, refl, Bool, true, false, not, List, [], ◌∷◌, ◌⊎◌, eqb}
+use Rattle.std.specs.Prelude.{ℕ, ◌+◌, ◌-◌, ◌≡◌, refl, Bool, not, [], ◌∷◌, ◌⊎◌, eqb}
 use Rattle.std.proofs.Common.{⊎_elim, eqb-true}
-use Rattle.prelude.specs.Cases.{if◌then◌else◌}
+use Rattle.prelude.specs.Cases.{if◌then◌otherwise◌}
 use Rattle.prelude.specs.declared.Terms.{Terms}
 use Rattle.bits.specs.Map.{map_of, with_bit}
 use Rattle.bits.specs.Laws.Tests.{each}
@@ -10,13 +10,13 @@ use Rattle.format.specs.Format.{required_bits, required}
 use Rattle.format.specs.Codes.{limit}
 use Rattle.machine.specs.Messages.{bit_if, terms_bits, note_bits}
 use Rattle.machine.specs.declared.Note.{Note}
-use Rattle.machine.specs.Constants.{report_kind, cancel_reject_kind, new_order_kind, cancel_request_kind, replace_request_kind}
+use Rattle.machine.specs.Constants.{report_kind, new_order_kind, cancel_request_kind, replace_request_kind}
 
 -- ---- as code builds them
 
 -- one more bit where the test holds
 abbrev pub with_bit_if : ℕ → Bool → ℕ → ℕ
-with_bit_if m t k = if t then with_bit m k else m
+with_bit_if m t k = if t then with_bit m k otherwise m
 
 unfoldable pub with_terms : ℕ → Terms → ℕ
 with_terms m t = with_bit_if (with_bit_if m (eqb t.ordtype limit) 10) (not (eqb t.timeinforce 0)) 11
@@ -45,7 +45,7 @@ extra_bits k v = (required k - required new_order_kind) + bit_if v 18
 
 pub report_map_lem : (a : Bool) (t : Terms) (n : Note) → report_map a t n
     ≡ required report_kind + (bit_if a 4 + (terms_bits t + note_bits n))
-unfolding report_map with_terms with_note with_bit required required_bits terms_bits note_bits bit_if if◌then◌else◌
+unfolding report_map with_terms with_note with_bit required required_bits terms_bits note_bits bit_if if◌then◌otherwise◌
 report_map_lem a t n =
     eqb-true _ _
     (each 6
@@ -55,7 +55,7 @@ report_map_lem a t n =
     refl a (eqb t.ordtype limit) (not (eqb t.timeinforce 0)) (not (eqb n.text.len 0)) (not (eqb n.fixedtext 0)) (not (eqb n.origin 0)))
 
 pub reject_map_lem : (a : Bool) (n : Note) → reject_map a n ≡ map_of (0 ∷ (3 ∷ (4 ∷ (13 ∷ (29 ∷ []))))) + (bit_if a 2 + note_bits n)
-unfolding reject_map with_note with_bit note_bits bit_if if◌then◌else◌
+unfolding reject_map with_note with_bit note_bits bit_if if◌then◌otherwise◌
 reject_map_lem a n =
     eqb-true _ _
     (each 4
@@ -74,7 +74,7 @@ same k v p i =
     (map_of (1 ∷ (5 ∷ (6 ∷ (7 ∷ (8 ∷ (9 ∷ [])))))) + (extra_bits k v + (bit_if p 10 + bit_if i 11)))
 
 pub venue_map_lem : (k : ℕ) → ToVenue k → (v : Bool) (t : Terms) → Venue k t v
-unfolding venue_map with_terms with_bit extra_bits required required_bits terms_bits bit_if if◌then◌else◌
+unfolding venue_map with_terms with_bit extra_bits required required_bits terms_bits bit_if if◌then◌otherwise◌
 venue_map_lem k h v t =
     let p : Bool = eqb t.ordtype limit in
     let i : Bool = not (eqb t.timeinforce 0) in

@@ -1,5 +1,4 @@
 -- A part of a report, by its own name. Rests on machine's Orders.
-use Rattle.std.specs.Prelude.{ℕ, List}
 use Rattle.wide.specs.declared.Priced.{Priced}
 use Rattle.records.specs.declared.Told.{Told}
 use Rattle.store.specs.declared.Order.{Order}

@@ -1,9 +1,9 @@
 -- Laws by which the code of the call goes: an order's line, one turn of the loop over the orders, and the three ways the call ends.
 -- Rests on Pages and Kept.
-use Rattle.std.specs.Prelude.{ℕ, ◌+◌, ◌-◌, ◌*◌, ◌≤◌, ◌<◌, ◌≡◌, refl, Bool, true, false, not, List, ◌++◌, ltb, length, get_or, take, drop}
+use Rattle.std.specs.Prelude.{ℕ, ◌+◌, ◌-◌, ◌*◌, ◌≤◌, ◌<◌, ◌≡◌, true, false, List, ◌++◌, length, get_or, take, drop}
 use Rattle.std.proofs.Common.{sym, ap, subst, ◌∙◌, arith, take_all}
 use borrow.Author.Tests.{lt-ltb, le-ltb}
-use Rattle.prelude.specs.Cases.{if◌then◌else◌}
+use Rattle.prelude.specs.Cases.{if◌then◌otherwise◌}
 use Rattle.prelude.specs.Pieces.{writes}
 use Rattle.prelude.specs.Span.{splice, length_splice, part_splice}
 use Rattle.counted.specs.Counted.{refusing, counting}
@@ -62,14 +62,14 @@ module _ (b : List ℕ) (kept : keeps_of b ≡ true) where
   -- ---- how the call ends
 
   pub page_short : (out : List ℕ) → length out < 81 * order_count b → paged (refusing 8) out ≡ page_call b out
-  unfolding page_call if◌then◌else◌
+  unfolding page_call if◌then◌otherwise◌
   page_short out h = rw (kept, count_lines b, lt-ltb (length out) (81 * order_count b) h)
 
   pub page_done : (out : List ℕ) → 81 * order_count b ≤ length out
       → paged (counting (81 * order_count b)) (splice out 0 (page_bytes (page_of (book_of b)))) ≡ page_call b out
-  unfolding page_call if◌then◌else◌
+  unfolding page_call if◌then◌otherwise◌
   page_done out h = rw (kept, count_lines b, le-ltb (length out) (81 * order_count b) h, page_long)
 
 pub page_bad : (b out : List ℕ) → keeps_of b ≡ false → paged (refusing 1) out ≡ page_call b out
-unfolding page_call if◌then◌else◌
+unfolding page_call if◌then◌otherwise◌
 page_bad b out e = rw e

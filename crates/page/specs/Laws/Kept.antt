@@ -1,6 +1,6 @@
 -- What the book's rules give a page: each order's line is in range, and is the page's line of that number. Rests on machine's and opens' laws.
 use Rattle.std.specs.Prelude.{ℕ, zero, suc, ◌^◌, ◌≤◌, ◌<◌, ◌≡◌, refl, Bool, true, not, ◌&&◌, List, [], ◌∷◌, map, eqb, leb, length, get_or}
-use Rattle.std.proofs.Common.{sym, ap, subst, ◌∙◌, ⊎_elim, arith, eqb-true, leb-true}
+use Rattle.std.proofs.Common.{sym, subst, ◌∙◌, ⊎_elim, arith, eqb-true, leb-true}
 use Rattle.std.proofs.lemmas.List.{length-map}
 use Rattle.prelude.specs.Below.{all_below}
 use Rattle.prelude.specs.Cases.{both_true, either_true, clash}
@@ -11,7 +11,7 @@ use Rattle.store.specs.declared.Order.{Order}
 use Rattle.store.specs.Orders.{no_order}
 use Rattle.store.specs.Book.{Book, book_of, order_in, order_count}
 use Rattle.store.specs.Laws.Stored.{length_orders}
-use Rattle.format.specs.Codes.{is_qty, within, alnum_at, is_none, is_name}
+use Rattle.format.specs.Codes.{within, alnum_at, is_none, is_name}
 use Rattle.machine.specs.Ranges.{text_within, name_range}
 use Rattle.machine.specs.Rules.{force_range, priced_range, terms_range, filled_rule, rules}
 use Rattle.machine.proofs.Kept.Lift.{book_kept}

@@ -1,16 +1,16 @@
 -- One line: how wide its fields are, that nothing in it is below 32 but the line feed, that its texts show and its quantities read back.
 -- Rests on Page and decimal's laws.
-use Prim.Native.Nat.{ℕ, zero, suc, ◌+◌, ◌-◌, ◌*◌, ◌/◌, ◌%◌, ◌^◌, ◌≤◌, ◌<◌}
-use Rattle.std.specs.Prelude.{◌≡◌, refl, true, false, ltb, take, drop}
+use Prim.Native.Nat.{ℕ, zero, suc, ◌+◌, ◌-◌, ◌/◌, ◌%◌, ◌^◌, ◌≤◌, ◌<◌}
+use Rattle.std.specs.Prelude.{◌≡◌, refl, ltb, take, drop}
 use Rattle.std.proofs.Math.Path.{sym, ap}
-use Rattle.std.proofs.Common.{◌∙◌, ltb-true, ltb-false, lt-ltb, le-ltb, length-append, take_at, get_or-take, length-take-le}
-use mathlib.Core.List.{List, [], ◌∷◌, ◌++◌, append-nil, append_assoc, map}
+use Rattle.std.proofs.Common.{◌∙◌, ltb-false, lt-ltb, le-ltb, length-append, take_at, get_or-take}
+use mathlib.Core.List.{List, [], ◌∷◌, ◌++◌, append_assoc, map}
 use Rattle.std.proofs.Math.Decide.{dec_lt}
 use native.Mathlib.Omega.{arith}
 use Rattle.std.proofs.Math.ListN.{length, get_or, replicate, length-take, length-map, get_or-replicate, get_or-append, get_or-eq_default}
 use Rattle.std.proofs.lemmas.List.{length-replicate, get_or_at}
 use Rattle.std.proofs.Math.Seq.{get_or-append-add, drop-append-add}
-use Rattle.prelude.specs.Cases.{if◌then◌else◌, split_if, if_true, if_false}
+use Rattle.prelude.specs.Cases.{if◌then◌otherwise◌, split_if, if_true, if_false}
 use Rattle.prelude.specs.Pieces.{joined, Sized, writes, offset, length_joined, writes_joined, piece_at}
 use Rattle.prelude.specs.Span.{span, splice, splice_whole}
 use Rattle.prelude.specs.Texts.{contents}
@@ -63,10 +63,10 @@ printable_low c h = if_true (ltb c blank) blank c (lt-ltb c blank h)
 
 -- column i of a text of which len bytes count
 pub left_column : (width len : ℕ) (bytes : List ℕ) (i : ℕ) → i < width
-    → (if ltb i len then printable (get_or bytes i 0) else blank) ≡ get_or (left width (take len bytes)) i 0
+    → (if ltb i len then printable (get_or bytes i 0) otherwise blank) ≡ get_or (left width (take len bytes)) i 0
 left_column width len bytes i h = go (dec_lt i len) (dec_lt i (length bytes))
   where
-    go : Dec (i < len) → Dec (i < length bytes) → (if ltb i len then printable (get_or bytes i 0) else blank) ≡ get_or (left width (take len bytes)) i 0
+    go : Dec (i < len) → Dec (i < length bytes) → (if ltb i len then printable (get_or bytes i 0) otherwise blank) ≡ get_or (left width (take len bytes)) i 0
     go (yes q) (yes r) =
         let n : i < length (take len bytes) = simp length-take (omega arith) in
         if_true (ltb i len) _ _ (lt-ltb i len q) ∙ sym (left_inside width (take len bytes) i h n ∙ ap printable (get_or-take len bytes i 0 q))
@@ -84,7 +84,7 @@ left_column width len bytes i h = go (dec_lt i len) (dec_lt i (length bytes))
 pub text_shows : (width : ℕ) (t : Text) → t.len ≤ width → Shows width (left width (contents t)) t
 unfolding contents
 text_shows width t fits =
-    let at : (k : ℕ) → k < width → get_or (left width (take t.len t.bytes)) k 0 ≡ (if ltb k t.len then printable (get_or t.bytes k 0) else blank) =
+    let at : (k : ℕ) → k < width → get_or (left width (take t.len t.bytes)) k 0 ≡ (if ltb k t.len then printable (get_or t.bytes k 0) otherwise blank) =
     λ k h. sym (left_column width t.len t.bytes k h) in
     record {
       long = length_left width (take t.len t.bytes);

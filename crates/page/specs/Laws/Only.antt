@@ -1,5 +1,5 @@
 -- `OnlyPage`: the columns determine the page, since a text is shown and a quantity read in one way each. Rests on Sound and decimal's laws.
-use Rattle.std.specs.Prelude.{ℕ, ◌+◌, ◌-◌, ◌*◌, ◌/◌, ◌%◌, ◌≤◌, ◌<◌, ◌≡◌, refl, true, List, ◌++◌, length, get_or, take, drop, replicate}
+use Rattle.std.specs.Prelude.{ℕ, ◌+◌, ◌-◌, ◌*◌, ◌/◌, ◌%◌, ◌≤◌, ◌<◌, ◌≡◌, true, List, ◌++◌, length, get_or, take, drop, replicate}
 use Rattle.std.proofs.Common.{sym, ap, ◌∙◌, arith, length-append, length-drop, ext_get_or, get_or-take, get_or-drop, get_or-append-add, length-take-le}
 use Rattle.std.proofs.Math.Decide.{dec_lt}
 use Rattle.std.proofs.lemmas.List.{length-replicate, get_or-replicate}
@@ -11,7 +11,6 @@ use Rattle.decimal.specs.Laws.Columns.{Digits, same_digits, zeros_for_blanks}
 use Rattle.store.specs.declared.Order.{Order}
 use Rattle.store.specs.Book.{book_of, order_in, order_count}
 use Rattle.machine.specs.Orders.{leaves_qty}
-use Rattle.opens.specs.Keeps.{keeps_of}
 use Rattle.page.specs.Page.{page_of, page_bytes}
 use Rattle.page.specs.Promise.{Shows, Reads, Columns, OnlyPage}
 use Rattle.page.specs.Laws.Sound.{sound_page}

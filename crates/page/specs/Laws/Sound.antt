@@ -14,8 +14,8 @@ use Rattle.store.specs.Book.{book_of, order_in, order_count}
 use Rattle.store.specs.Laws.Stored.{length_orders}
 use Rattle.machine.specs.Orders.{leaves_qty}
 use Rattle.opens.specs.Keeps.{keeps_of}
-use Rattle.page.specs.Page.{Line, left, quantity, line_of, line_bytes, page_of, page_bytes, Paged, page_call}
-use Rattle.page.specs.Promise.{Shows, Reads, InRange, IsLine, SoundPage, LargestFits, IsPrinted, IsCall, SoundCall}
+use Rattle.page.specs.Page.{left, quantity, line_of, line_bytes, page_of, page_bytes, Paged, page_call}
+use Rattle.page.specs.Promise.{Shows, Reads, InRange, IsLine, SoundPage, LargestFits, IsPrinted, SoundCall}
 use Rattle.page.specs.Laws.Line.{Fine, text_shows, quantity_reads, field, line_feed_lem, line_print}
 use Rattle.page.specs.Laws.Pages.{length_page, line_at}
 use Rattle.page.specs.Laws.Kept.{in_range_lem, fine_order, no_line, page_line, fine_bytes, count_lines}

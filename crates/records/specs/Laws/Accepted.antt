@@ -15,7 +15,7 @@ use Rattle.std.proofs.Math.Dec.{eqb}
 use Rattle.std.proofs.Math.ListN.{length, get_or, length-drop}
 use Rattle.std.proofs.lemmas.List.{length-replicate, get_or-replicate, take-append-le}
 use Rattle.std.proofs.Math.Seq.{take_all}
-use Rattle.prelude.specs.Cases.{if◌then◌else◌, if_true, if_false, clash, both_true, both_hold, either_true}
+use Rattle.prelude.specs.Cases.{if◌then◌otherwise◌, if_true, if_false, clash, both_true, both_hold, either_true}
 use Rattle.prelude.specs.Below.{all_below, all_elim, all_intro}
 use Rattle.prelude.specs.Lists.{list_below, get_list}
 use Rattle.prelude.specs.Span.{span, span_cons, length_span, span_join}
@@ -104,8 +104,8 @@ big_size b h t l =
 
 -- ---- the numbers of a record that was read
 
-numbers_list : (k m : ℕ) (f : ℕ → List ℕ) → numbers_of (record_of k m f) ≡ list_below (λ b. if eqb (size b) 0 then 0 else value b (f b)) 32
-unfolding list_below value text_of long_of size fields if◌then◌else◌
+numbers_list : (k m : ℕ) (f : ℕ → List ℕ) → numbers_of (record_of k m f) ≡ list_below (λ b. if eqb (size b) 0 then 0 otherwise value b (f b)) 32
+unfolding list_below value text_of long_of size fields if◌then◌otherwise◌
 numbers_list k m f = refl
 
 module _ (s : List ℕ) (o : ℕ) (w : Bytes s) (shape : shaped s o ≡ true) (right : ranged s o ≡ true) where
@@ -133,10 +133,10 @@ module _ (s : List ℕ) (o : ℕ) (w : Bytes s) (shape : shaped s o ≡ true) (r
   unfolding record_at
   number_read b h =
       ap (λ (l : List ℕ). get_or l b 0) (numbers_list (kind_at s o) m f)
-      ∙ get_list (λ k. if eqb (size k) 0 then 0 else value k (f k)) 0 32 b h
+      ∙ get_list (λ k. if eqb (size k) 0 then 0 otherwise value k (f k)) 0 32 b h
       ∙ go (ℕ_discrete (size b) 0)
     where
-      go : Dec (size b ≡ 0) → (if eqb (size b) 0 then 0 else value b (f b)) ≡ value b (f b)
+      go : Dec (size b ≡ 0) → (if eqb (size b) 0 then 0 otherwise value b (f b)) ≡ value b (f b)
       go (no n) = if_false (eqb (size b) 0) 0 (value b (f b)) (ne_eqb (size b) 0 n)
       go (yes z) = if_true (eqb (size b) 0) 0 (value b (f b)) (eq-eqb (size b) 0 z) ∙ sym (ap (value b) (none (bit m b) refl) ∙ value_none b)
         where
@@ -147,10 +147,10 @@ module _ (s : List ℕ) (o : ℕ) (w : Bytes s) (shape : shaped s o ≡ true) (r
           none false e = content_off s o m b e
 
   -- a text has room
-  text_room : (b : ℕ) → b < 32 → is_text_bit b ≡ true → length (f b) ≤ (if eqb b 20 then 64 else 32)
-  unfolding content strip size range fields in_range if◌then◌else◌
+  text_room : (b : ℕ) → b < 32 → is_text_bit b ≡ true → length (f b) ≤ (if eqb b 20 then 64 otherwise 32)
+  unfolding content strip size range fields in_range if◌then◌otherwise◌
   text_room =
-      text_bits (λ b. length (f b) ≤ (if eqb b 20 then 64 else 32))
+      text_bits (λ b. length (f b) ≤ (if eqb b 20 then 64 otherwise 32))
       (t 2 32 (lit< tt) refl (λ v e. omega (arith, within_most 1 20 v e)))
       (t 3 32 (lit< tt) refl (λ v e. within_most 1 32 v e))
       (t 4 32 (lit< tt) refl (λ v e. within_most 1 32 v e))
@@ -169,7 +169,7 @@ module _ (s : List ℕ) (o : ℕ) (w : Bytes s) (shape : shaped s o ≡ true) (r
 
   -- what a text of the record says is what stands there
   spelled_read : (b : ℕ) → b < 32 → is_text_bit b ≡ true → spelled (record_at s o).ids (record_at s o).text b ≡ f b
-  unfolding record_at spelled text_by size fields if◌then◌else◌
+  unfolding record_at spelled text_by size fields if◌then◌otherwise◌
   spelled_read =
       text_bits (λ b. spelled (record_at s o).ids (record_at s o).text b ≡ f b)
       (short_text (f 2) (text_room 2 (lit< tt) refl))
@@ -286,7 +286,7 @@ module _ (s : List ℕ) (o : ℕ) (w : Bytes s) (shape : shaped s o ≡ true) (r
           (lt-ltb v (bound (min (size b) 8)) (rw (number_read b h) (number_narrow s o m inside b h t w)))
 
   texts_right_lem : texts_right (record_at s o) ≡ true
-  unfolding texts_right record_at size fields if◌then◌else◌
+  unfolding texts_right record_at size fields if◌then◌otherwise◌
   texts_right_lem =
       both_hold _ _ (right_short (f 2) (text_room 2 (lit< tt) refl))
       (both_hold _ _ (right_short (f 3) (text_room 3 (lit< tt) refl))
@@ -323,8 +323,8 @@ module _ (s : List ℕ) (o : ℕ) (w : Bytes s) (shape : shaped s o ≡ true) (r
 
 -- ---- messages and events
 
-split_refusal : (x y : Bool) → ◌≡◌ {A = ℕ} (if x then (if y then 0 else 4) else 3) 0 → (x ≡ true) × (y ≡ true)
-unfolding if◌then◌else◌
+split_refusal : (x y : Bool) → ◌≡◌ {A = ℕ} (if x then (if y then 0 otherwise 4) otherwise 3) 0 → (x ≡ true) × (y ≡ true)
+unfolding if◌then◌otherwise◌
 split_refusal true true e = (refl, refl)
 split_refusal true false e = absurd (omega arith)
 split_refusal false y e = absurd (omega arith)

@@ -4,7 +4,7 @@ use Rattle.std.proofs.Math.Path.{refl}
 use Rattle.std.proofs.Common.{sym, ap, ◌∙◌, append-nil, append_assoc, arith, length-append}
 use borrow.Author.Tests.{le-leb, eq-eqb}
 use Rattle.std.proofs.Math.ListN.{length, get_or, get_or-append}
-use Rattle.prelude.specs.Cases.{if◌then◌else◌, both_true, both_hold}
+use Rattle.prelude.specs.Cases.{if◌then◌otherwise◌, both_true, both_hold}
 use Rattle.prelude.specs.Span.{splice, length_splice, span_splice_same}
 use Rattle.format.specs.Places.{end_of}
 use Rattle.records.specs.declared.Record.{Record}
@@ -29,11 +29,11 @@ module _ (m : Record) (ok : is_message m ≡ true) (pre post : List ℕ) where
       (ap (leb 16) (kind_here m is_right pre post) ∙ (both_true (is_record m) (leb 16 m.kind) ok).1)
 
   pub message_accepted : message_refusal (pre ++ (record_bytes m ++ post)) (length pre) ≡ 0
-  unfolding message_refusal if◌then◌else◌
+  unfolding message_refusal if◌then◌otherwise◌
   message_accepted = rw (message_shaped_lem, ranged_here m is_right pre post) refl
 
   pub message_back : message_of (pre ++ (record_bytes m ++ post)) (length pre) ≡ m
-  unfolding message_of if◌then◌else◌
+  unfolding message_of if◌then◌otherwise◌
   message_back = rw message_accepted (record_here m is_right pre post)
 
 -- ---- messages one behind the other
@@ -118,17 +118,17 @@ module _ (buf : List ℕ) (a a2 : ℕ) (ms : List Record) (ok : are_messages ms 
 
   -- it is accepted, and its messages and its alarms are read as they were written
   pub answer_accepted : answer_refusal written ≡ 0
-  unfolding answer_refusal if◌then◌else◌
+  unfolding answer_refusal if◌then◌otherwise◌
   answer_accepted = rw (head_there, answer_there, count_there, from_there.shapes, from_there.ranges) refl
 
   pub answer_messages_lem : answer_messages written ≡ ms
-  unfolding answer_messages if◌then◌else◌
+  unfolding answer_messages if◌then◌otherwise◌
   answer_messages_lem = rw (answer_accepted, answer_there, count_there) from_there.messages
 
   pub answer_alarm_lem : answer_alarm written ≡ a
-  unfolding answer_alarm if◌then◌else◌
+  unfolding answer_alarm if◌then◌otherwise◌
   answer_alarm_lem = rw answer_accepted alarm_there
 
   pub answer_alarm2_lem : answer_alarm2 written ≡ a2
-  unfolding answer_alarm2 if◌then◌else◌
+  unfolding answer_alarm2 if◌then◌otherwise◌
   answer_alarm2_lem = rw answer_accepted alarm2_there

@@ -7,7 +7,7 @@ use Rattle.std.proofs.Math.Bool.{true, false}
 use borrow.Author.Tests.{eqb-true, le-leb, not-true}
 use Rattle.std.proofs.Math.ListN.{length, length-append}
 use Rattle.std.proofs.Math.Seq.{get_or-append_seam}
-use Rattle.prelude.specs.Cases.{if◌then◌else◌, if_true, if_false, clash, both_hold, either_true}
+use Rattle.prelude.specs.Cases.{if◌then◌otherwise◌, if_true, if_false, clash, both_hold, either_true}
 use Rattle.prelude.specs.Below.{all_below, all_elim, all_intro}
 use Rattle.prelude.specs.Number.{number, bytes_of, bound, length_bytes}
 use Rattle.prelude.specs.Texts.{text_of}
@@ -47,7 +47,7 @@ text_bits P p2 p3 p4 p5 p6 p18 p20 p30 b h t =
 
 -- a text's length is its number
 spelled_length : (r : Record) → Right r → (b : ℕ) → b < 32 → is_text_bit b ≡ true → length (spelled r.ids r.text b) ≡ get_or (numbers_of r) b 0
-unfolding spelled text_by if◌then◌else◌
+unfolding spelled text_by if◌then◌otherwise◌
 spelled_length r h =
     text_bits (λ b. length (spelled r.ids r.text b) ≡ get_or (numbers_of r) b 0)
     (short_length r.ids.name h.name)
@@ -109,7 +109,7 @@ module _ (r : Record) (h : Right r) (pre post : List ℕ) where
   off b e = content_off whole here r.map b e
 
   held_value : (b : ℕ) → b < 32 → bit r.map b ≡ true → (x : Bool) → is_text_bit b ≡ x → value b (held r b) ≡ get_or (numbers_of r) b 0
-  unfolding value held_by if◌then◌else◌
+  unfolding value held_by if◌then◌otherwise◌
   held_value b l e true t = rw t (spelled_length r h b l t)
   held_value b l e false t = rw t (words_low (size b) (get_or (numbers_of r) b 0) (high_of r) (h.fits b l e))
 
@@ -128,7 +128,7 @@ module _ (r : Record) (h : Right r) (pre post : List ℕ) where
       go false q = ap text_of (off b q) ∙ short_none t w (sym n ∙ h.absent b l q)
 
   long_here : long_of (content whole here r.map 20) ≡ r.text
-  unfolding held_by spelled size fields if◌then◌else◌
+  unfolding held_by spelled size fields if◌then◌otherwise◌
   long_here = go (bit r.map 20) refl
     where
       go : (x : Bool) → bit r.map 20 ≡ x → long_of (content whole here r.map 20) ≡ r.text
@@ -136,7 +136,7 @@ module _ (r : Record) (h : Right r) (pre post : List ℕ) where
       go false q = ap long_of (off 20 q) ∙ long_none r.text h.text (h.absent 20 (lit< tt) q)
 
   high_here : number (drop 8 (content whole here r.map 26)) ≡ high_of r
-  unfolding held_by size fields if◌then◌else◌
+  unfolding held_by size fields if◌then◌otherwise◌
   high_here = go (bit r.map 26) refl
     where
       go : (x : Bool) → bit r.map 26 ≡ x → number (drop 8 (content whole here r.map 26)) ≡ high_of r
@@ -148,7 +148,7 @@ module _ (r : Record) (h : Right r) (pre post : List ℕ) where
 
   -- all fields
   fields_here : record_of r.kind r.map (content whole here r.map) ≡ r
-  unfolding held_by spelled text_by size fields if◌then◌else◌
+  unfolding held_by spelled text_by size fields if◌then◌otherwise◌
   fields_here =
       let v = value_here in
       λ i. record {

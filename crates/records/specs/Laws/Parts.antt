@@ -1,9 +1,9 @@
 -- Laws by which what code finds of a message in place is what Parts says. Rests on Parts and Reading.
-use Rattle.std.specs.Prelude.{ℕ, ◌≤◌, ◌<◌, ◌≡◌, List, true, false, eqb, leb, length}
+use Rattle.std.specs.Prelude.{ℕ, ◌≤◌, ◌<◌, ◌≡◌, List, true, false, length}
 use Rattle.std.proofs.Math.Path.{refl}
-use Rattle.std.proofs.Common.{sym, ap, ◌∙◌, arith}
+use Rattle.std.proofs.Common.{sym, ap, ◌∙◌}
 use borrow.Author.Tests.{le-leb, lt-leb, eq-eqb, ne_eqb}
-use Rattle.prelude.specs.Cases.{if◌then◌else◌}
+use Rattle.prelude.specs.Cases.{if◌then◌otherwise◌}
 use Rattle.format.specs.Places.{kind_at, end_of, shaped}
 use Rattle.format.specs.Refusal.{message_shaped, ranged}
 use Rattle.records.specs.declared.parts.Parts.{Parts}
@@ -11,15 +11,15 @@ use Rattle.records.specs.Parts.{whole_message, parts_refusal, no_parts, PartsOf}
 
 module _ (s : List ℕ) where
   pub refusal_3 : whole_message s ≡ false → parts_refusal s ≡ 3
-  unfolding if◌then◌else◌
+  unfolding if◌then◌otherwise◌
   refusal_3 h = rw h refl
 
   pub refusal_4 : whole_message s ≡ true → ranged s 0 ≡ false → parts_refusal s ≡ 4
-  unfolding if◌then◌else◌
+  unfolding if◌then◌otherwise◌
   refusal_4 h g = rw (h, g) refl
 
   pub refusal_0 : whole_message s ≡ true → ranged s 0 ≡ true → parts_refusal s ≡ 0
-  unfolding if◌then◌else◌
+  unfolding if◌then◌otherwise◌
   refusal_0 h g = rw (h, g) refl
 
   pub parts_none : (n : ℕ) (r : Parts) → r ≡ no_parts n → parts_refusal s ≡ n → (n ≡ 0 → ⊥) → PartsOf s r

@@ -5,7 +5,7 @@ use Rattle.std.proofs.Common.{◌∙◌, arith, lit<}
 use Rattle.std.proofs.Math.Bool.{true, false}
 use borrow.Author.Tests.{leb-true, eq-eqb, le-leb, lt-ltb}
 use Rattle.std.proofs.Math.Dec.{eqb, ltb}
-use Rattle.prelude.specs.Cases.{if◌then◌else◌, if_true, if_false, clash, both_true, both_hold}
+use Rattle.prelude.specs.Cases.{if◌then◌otherwise◌, if_true, if_false, clash, both_true, both_hold}
 use Rattle.prelude.specs.Below.{all_intro}
 use Rattle.prelude.specs.Number.{bound, Bytes, bound_le}
 use Rattle.prelude.specs.declared.Text.{Text}
@@ -62,7 +62,7 @@ module _ (r : Record) (h : Right r) where
       go false e = omega (arith, h.absent b l e, bound_le 0 (min (size b) 8) (omega arith))
 
   pub ranges : Ranges r
-  unfolding size range fields in_range if◌then◌else◌
+  unfolding size range fields in_range if◌then◌otherwise◌
   ranges = record {
     client = below 0 (lit< tt);
     venue = below 1 (lit< tt);
@@ -144,7 +144,7 @@ module _ (r : Record) (h : Right r) where
           go true e = if_true (bit r.map b) _ _ e ∙ both_hold _ _ (h.range b l e) (lt-ltb (get_or (numbers_of r) b 0) (bound (min (size b) 8)) (h.fits b l e))
           go false e = if_false (bit r.map b) _ _ e ∙ eq-eqb (get_or (numbers_of r) b 0) 0 (h.absent b l e)
 
-      high : (x : Bool) → bit r.map 26 ≡ x → (if bit r.map 26 then ltb (high_of r) (bound 8) else eqb (high_of r) 0) ≡ true
+      high : (x : Bool) → bit r.map 26 ≡ x → (if bit r.map 26 then ltb (high_of r) (bound 8) otherwise eqb (high_of r) 0) ≡ true
       high true e = if_true (bit r.map 26) _ _ e ∙ lt-ltb (high_of r) (bound 8) (h.high e)
       high false e = if_false (bit r.map 26) _ _ e ∙ eq-eqb (high_of r) 0 (h.nothigh e)
 

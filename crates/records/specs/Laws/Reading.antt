@@ -7,7 +7,7 @@ use borrow.Author.Tests.{leb-true, le-leb, lt-leb, eq-eqb, ne_eqb}
 use Rattle.records.specs.declared.Numbers.{Numbers}
 use Rattle.records.specs.Laws.Seen.{Scanned, Short, Narrow, built_from, Reads}
 use Rattle.std.proofs.Math.ListN.{length, get_or, length-drop}
-use Rattle.prelude.specs.Cases.{if◌then◌else◌, if_false, both_true}
+use Rattle.prelude.specs.Cases.{if◌then◌otherwise◌, if_false, both_true}
 use Rattle.prelude.specs.Below.{all_below, all_elim, all_ext}
 use Rattle.prelude.specs.Number.{number, bound, Bytes, number_bound, bound_le}
 use Rattle.prelude.specs.Texts.{text_of}
@@ -33,7 +33,7 @@ module _ (s : List ℕ) (o m : ℕ) (inside : start s o m 32 ≤ length s) where
   -- a text in range has room
   pub text_short : (b most : ℕ) → b < 32 → is_text_bit b ≡ true → ((v : ℕ) → in_range (range b) v ≡ true → v ≤ most)
       → right_at s o m b ≡ true → start s o m (suc b) - start s o m b ≤ most + 1
-  unfolding right_at content value strip part if◌then◌else◌
+  unfolding right_at content value strip part if◌then◌otherwise◌
   text_short b most h t r e = go (bit m b) refl
     where
       go : (x : Bool) → bit m b ≡ x → start s o m (suc b) - start s o m b ≤ most + 1
@@ -83,7 +83,7 @@ module _ (s : List ℕ) (o m : ℕ) (at : List ℕ) (places : (k : ℕ) → k �
   gap b h = let e : b + 1 ≡ suc b = omega arith in rw (places (b + 1) (omega arith), places b (omega arith), e) refl
 
   pub short_of : all_below (right_at s o m) 32 ≡ true → Short at
-  unfolding size range fields in_range if◌then◌else◌
+  unfolding size range fields in_range if◌then◌otherwise◌
   short_of a = record {
     name = t 2 32 (lit< tt) refl (λ v e. omega (arith, within_most 1 20 v e));
     clordid = t 3 32 (lit< tt) refl (λ v e. within_most 1 32 v e);
@@ -122,7 +122,7 @@ module _ (s : List ℕ) (o m : ℕ) (at : List ℕ) (places : (k : ℕ) → k �
         g b h t = rw (e b h) (number_narrow s o m inside b h t w)
 
     pub built_record : (k : ℕ) → built_from s k m at n ≡ record_of k m (content s o m)
-    unfolding content strip size fields if◌then◌else◌ long_of
+    unfolding content strip size fields if◌then◌otherwise◌ long_of
     built_record k =
         let p = between_part s o m at places inside in
         λ i. record {
@@ -192,20 +192,20 @@ whole_of s o e =
 
 module _ (s : List ℕ) (o : ℕ) (r : Got) where
   pub reads_3 : shaped s o ≡ false → r.refusal ≡ 3 → r.end ≡ 0 → r.taken ≡ blank → Reads s o r
-  unfolding record_refusal if◌then◌else◌
+  unfolding record_refusal if◌then◌otherwise◌
   reads_3 h a b c = record { refusal = rw h a; end = rw h b; taken = rw h c }
 
   pub reads_4 : shaped s o ≡ true → ranged s o ≡ false → r.refusal ≡ 4 → r.end ≡ end_of s o → r.taken ≡ blank → Reads s o r
-  unfolding record_refusal if◌then◌else◌
+  unfolding record_refusal if◌then◌otherwise◌
   reads_4 h g a b c = record { refusal = rw (h, g) a; end = rw h b; taken = rw (h, g) c }
 
   pub reads_0 : shaped s o ≡ true → ranged s o ≡ true → r.refusal ≡ 0 → r.end ≡ end_of s o → r.taken ≡ record_at s o → Reads s o r
-  unfolding record_refusal if◌then◌else◌
+  unfolding record_refusal if◌then◌otherwise◌
   reads_0 h g a b c = record { refusal = rw (h, g) a; end = rw h b; taken = rw (h, g) c }
 
   -- a record that was read has shape or not, and its end
   pub read_shape : Reads s o r → (r.refusal ≡ 3 → ⊥) → shaped s o ≡ true
-  unfolding record_refusal if◌then◌else◌
+  unfolding record_refusal if◌then◌otherwise◌
   read_shape h n = go (shaped s o) refl
     where
       go : (x : Bool) → shaped s o ≡ x → shaped s o ≡ true
@@ -213,11 +213,11 @@ module _ (s : List ℕ) (o : ℕ) (r : Got) where
       go false e = absurd (n (h.refusal ∙ (rw e refl)))
 
   pub read_end : Reads s o r → shaped s o ≡ true → r.end ≡ end_of s o
-  unfolding if◌then◌else◌
+  unfolding if◌then◌otherwise◌
   read_end h e = h.end ∙ (rw e refl)
 
   pub read_none : Reads s o r → r.refusal ≡ 3 → shaped s o ≡ false
-  unfolding record_refusal if◌then◌else◌
+  unfolding record_refusal if◌then◌otherwise◌
   read_none h n = go (shaped s o) refl (ranged s o) refl
     where
       go : (x : Bool) → shaped s o ≡ x → (y : Bool) → ranged s o ≡ y → shaped s o ≡ false
@@ -229,19 +229,19 @@ module _ (s : List ℕ) (o : ℕ) (r : Got) where
 
 module _ (s : List ℕ) where
   pub event_shape : shaped s 0 ≡ false → (event_refusal s ≡ 3) × (event_in s ≡ blank)
-  unfolding event_refusal event_in if◌then◌else◌
+  unfolding event_refusal event_in if◌then◌otherwise◌
   event_shape e = rw e (refl, refl)
 
   pub event_kind : shaped s 0 ≡ true → 9 < kind_at s 0 → (event_refusal s ≡ 3) × (event_in s ≡ blank)
-  unfolding event_refusal event_in if◌then◌else◌
+  unfolding event_refusal event_in if◌then◌otherwise◌
   event_kind e h = rw (e, lt-leb (kind_at s 0) 9 h) (refl, refl)
 
   pub event_over : shaped s 0 ≡ true → kind_at s 0 ≤ 9 → (end_of s 0 ≡ length s → ⊥) → (event_refusal s ≡ 3) × (event_in s ≡ blank)
-  unfolding event_refusal event_in if◌then◌else◌
+  unfolding event_refusal event_in if◌then◌otherwise◌
   event_over e h n = rw (e, le-leb (kind_at s 0) 9 h, ne_eqb (end_of s 0) (length s) n) (refl, refl)
 
   pub event_taken : (r : Got) → Reads s 0 r → shaped s 0 ≡ true → kind_at s 0 ≤ 9 → end_of s 0 ≡ length s
       → (r.refusal ≡ event_refusal s) × (r.taken ≡ event_in s)
-  unfolding event_refusal event_in record_refusal if◌then◌else◌
+  unfolding event_refusal event_in record_refusal if◌then◌otherwise◌
   event_taken r h e k n =
       rw (e, le-leb (kind_at s 0) 9 k, eq-eqb (end_of s 0) (length s) n) (rw e at h.refusal, rw e at h.taken)

@@ -8,7 +8,7 @@ use borrow.Author.Tests.{eqb-true, leb-true, ltb-true}
 use Rattle.std.proofs.Math.ListN.{length, take, replicate, length-take, get_or-append}
 use Rattle.std.proofs.lemmas.List.{length-replicate, get_or-replicate}
 use Rattle.std.proofs.Math.Seq.{take_all, length-take-le}
-use Rattle.prelude.specs.Cases.{if◌then◌else◌, both_true, either_true}
+use Rattle.prelude.specs.Cases.{if◌then◌otherwise◌, both_true, either_true}
 use Rattle.prelude.specs.Below.{all_below, all_elim}
 use Rattle.prelude.specs.Number.{number, bytes_of, bound, length_bytes, number_bytes}
 use Rattle.prelude.specs.Texts.{contents, text_of, is_text, text_contents}
@@ -72,17 +72,17 @@ right_long t e =
 
 module _ (r : Record) (b : ℕ) (h : field_right r b ≡ true) where
   field_on : bit r.map b ≡ true → (in_range (range b) (get_or (numbers_of r) b 0) ≡ true) × (get_or (numbers_of r) b 0 < bound (min (size b) 8))
-  unfolding if◌then◌else◌
+  unfolding if◌then◌otherwise◌
   field_on e =
       let p = both_true (in_range (range b) (get_or (numbers_of r) b 0)) _ (rw e at h) in
       (p.0, ltb-true _ _ p.1)
 
   field_off : bit r.map b ≡ false → get_or (numbers_of r) b 0 ≡ 0
-  unfolding if◌then◌else◌
+  unfolding if◌then◌otherwise◌
   field_off e = eqb-true _ _ (rw e at h)
 
 pub right : (r : Record) → is_record r ≡ true → Right r
-unfolding is_record texts_right price_right if◌then◌else◌
+unfolding is_record texts_right price_right if◌then◌otherwise◌
 right r e =
     let a = both_true (bits_right r.kind r.map) _ e in
     let b = both_true (ltb r.map (bound 4)) _ a.1 in

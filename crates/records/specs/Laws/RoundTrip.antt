@@ -1,5 +1,5 @@
 -- The round trip, put together. Rests on Back, AnswerBack, Accepted and Writing.
-use Rattle.std.specs.Prelude.{ℕ, ◌+◌, ◌≤◌, ◌≡◌, Bool}
+use Rattle.std.specs.Prelude.{ℕ, ◌+◌, ◌≡◌}
 use Rattle.std.proofs.Math.Path.{refl, ap}
 use Rattle.std.proofs.Common.{subst, ◌∙◌, arith}
 use mathlib.Core.List.{List, [], ◌++◌, append-nil}
@@ -7,12 +7,12 @@ use Rattle.std.proofs.Math.Bool.{true}
 use borrow.Author.Tests.{eq-eqb}
 use Rattle.std.proofs.Math.Dec.{eqb, leb}
 use Rattle.std.proofs.Math.ListN.{length}
-use Rattle.prelude.specs.Cases.{if◌then◌else◌, both_true}
+use Rattle.prelude.specs.Cases.{if◌then◌otherwise◌, both_true}
 use Rattle.format.specs.Places.{kind_at, end_of, shaped}
 use Rattle.format.specs.Refusal.{ranged, event_refusal}
 use Rattle.records.specs.declared.Record.{Record}
 use Rattle.records.specs.Record.{record_bytes, record_at, event_in, is_record, is_event}
-use Rattle.records.specs.RoundTrip.{ReadBack, RoundTrip}
+use Rattle.records.specs.RoundTrip.{RoundTrip}
 use Rattle.records.specs.Laws.Writing.{answer_most}
 use Rattle.records.specs.Laws.Right.{Right, right}
 use Rattle.records.specs.Laws.Back.{kind_here, record_here, end_here, shaped_here, ranged_here}
@@ -32,7 +32,7 @@ module _ (r : Record) (ok : is_event r ≡ true) where
   alone P p = subst P (append-nil (record_bytes r)) p
 
   pub event_accepted : event_refusal (record_bytes r) ≡ 0
-  unfolding event_refusal if◌then◌else◌
+  unfolding event_refusal if◌then◌otherwise◌
   event_accepted =
       let a : shaped (record_bytes r) 0 ≡ true = alone (λ s. shaped s 0 ≡ true) (shaped_here r is_right [] []) in
       let b : ranged (record_bytes r) 0 ≡ true = alone (λ s. ranged s 0 ≡ true) (ranged_here r is_right [] []) in
@@ -43,7 +43,7 @@ module _ (r : Record) (ok : is_event r ≡ true) where
       rw (a, d, e, b) refl
 
   pub event_back : event_in (record_bytes r) ≡ r
-  unfolding event_in if◌then◌else◌
+  unfolding event_in if◌then◌otherwise◌
   event_back = rw event_accepted (alone (λ s. record_at s 0 ≡ r) (record_here r is_right [] []))
 
 pub round_trip : RoundTrip

@@ -2,7 +2,7 @@
 -- Rests on Record and Answer.
 use Rattle.std.specs.Prelude.{ℕ, ◌-◌, ◌<◌, ◌≤◌, Bool, true, List, [], ◌≡◌, eqb, get_or, drop}
 use Rattle.prelude.specs.Below.{all_below}
-use Rattle.prelude.specs.Cases.{if◌then◌else◌}
+use Rattle.prelude.specs.Cases.{if◌then◌otherwise◌}
 use Rattle.prelude.specs.Number.{number}
 use Rattle.prelude.specs.Span.{span}
 use Rattle.bits.specs.Map.{bit}
@@ -23,10 +23,10 @@ use Rattle.format.specs.Refusal.{refusal_by, record_refusal, message_shaped, mes
 
 -- the number of field b between two places, and whether it is in range
 abbrev pub held_in : List ℕ → ℕ → ℕ → ℕ → ℕ → ℕ
-held_in s m b from to = if bit m b then value b (strip b (span s from (to - from))) else 0
+held_in s m b from to = if bit m b then value b (strip b (span s from (to - from))) otherwise 0
 
 abbrev pub right_of : List ℕ → ℕ → ℕ → ℕ → ℕ → Bool
-right_of s m b from to = if bit m b then in_range (range b) (value b (strip b (span s from (to - from)))) else true
+right_of s m b from to = if bit m b then in_range (range b) (value b (strip b (span s from (to - from)))) otherwise true
 
 pub record Scanned (s : List ℕ) (m : ℕ) (at : List ℕ) (r : Numbers) : Type 0 where
   pub right : r.right ≡ all_below (right_in s m at) 32
@@ -80,15 +80,15 @@ pub record Shapes (s : List ℕ) (o : ℕ) (r : Shape) : Type 0 where
 -- a record, or why there is none, and where it ends
 pub record Reads (s : List ℕ) (o : ℕ) (r : Got) : Type 0 where
   pub refusal : r.refusal ≡ record_refusal s o
-  pub end : r.end ≡ (if shaped s o then end_of s o else 0)
-  pub taken : r.taken ≡ (if eqb (record_refusal s o) 0 then record_at s o else blank)
+  pub end : r.end ≡ (if shaped s o then end_of s o otherwise 0)
+  pub taken : r.taken ≡ (if eqb (record_refusal s o) 0 then record_at s o otherwise blank)
 
 -- ---- messages
 
 -- a message, or why there is none, and where it ends
 pub record ReadsMessage (s : List ℕ) (o : ℕ) (r : Got) : Type 0 where
   pub refusal : r.refusal ≡ message_refusal s o
-  pub end : r.end ≡ (if message_shaped s o then end_of s o else 0)
+  pub end : r.end ≡ (if message_shaped s o then end_of s o otherwise 0)
   pub taken : r.taken ≡ message_of s o
 
 -- n messages that fill s behind the head
@@ -97,6 +97,6 @@ refusal_from s n = refusal_by (shaped_from s head_size n) (ranged_from s head_si
 
 pub record ReadsFrom (s : List ℕ) (n a a2 : ℕ) (r : AnswerRead) : Type 0 where
   pub refusal : r.refusal ≡ refusal_from s n
-  pub alarm : r.alarm ≡ (if eqb (refusal_from s n) 0 then a else 0)
-  pub alarm2 : r.alarm2 ≡ (if eqb (refusal_from s n) 0 then a2 else 0)
-  pub messages : Holds (if eqb (refusal_from s n) 0 then messages_from s head_size n else []) r
+  pub alarm : r.alarm ≡ (if eqb (refusal_from s n) 0 then a otherwise 0)
+  pub alarm2 : r.alarm2 ≡ (if eqb (refusal_from s n) 0 then a2 otherwise 0)
+  pub messages : Holds (if eqb (refusal_from s n) 0 then messages_from s head_size n otherwise []) r

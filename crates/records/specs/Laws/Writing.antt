@@ -5,7 +5,7 @@ use Rattle.std.proofs.Common.{sym, ◌∙◌, append-nil, length-append, length-
 use Rattle.std.proofs.Math.Nat.{min-eq_left, min-eq_right}
 use native.Mathlib.Omega.{arith}
 use borrow.Author.Tests.{eq-eqb, ne_eqb}
-use Rattle.prelude.specs.Cases.{if◌then◌else◌, if_false}
+use Rattle.prelude.specs.Cases.{if◌then◌otherwise◌, if_false}
 use Rattle.prelude.specs.Span.{splice, splice_append, splice_before, set_splice}
 use Rattle.prelude.specs.Number.{bytes_of, length_bytes}
 use Rattle.prelude.specs.Texts.{contents}
@@ -48,21 +48,21 @@ module _ (m : ℕ) (n : List ℕ) (high : ℕ) (ids : Ids) (text : LongText) (b 
 
   module _ (on : bit m b ≡ true) where
     pub field_long_lem : is_text_bit b ≡ true → b ≡ 20 → field_b ≡ length (long_bytes text) ∷ long_bytes text
-    unfolding field_bytes encode held_by spelled if◌then◌else◌
+    unfolding field_bytes encode held_by spelled if◌then◌otherwise◌
     field_long_lem t e = rw (on, t, eq-eqb b 20 e) refl
 
     pub field_short : is_text_bit b ≡ true → (b ≡ 20 → ⊥) → field_b ≡ length (short_bytes (text_by ids b)) ∷ short_bytes (text_by ids b)
-    unfolding field_bytes encode held_by spelled if◌then◌else◌
+    unfolding field_bytes encode held_by spelled if◌then◌otherwise◌
     field_short t e = rw (on, t, ne_eqb b 20 e) refl
 
     pub field_number : is_text_bit b ≡ false → size b ≤ 8 → field_b ≡ bytes_of (size b) (get_or n b 0)
-    unfolding field_bytes encode held_by words if◌then◌else◌
+    unfolding field_bytes encode held_by words if◌then◌otherwise◌
     field_number t h =
         let z : size b - 8 ≡ 0 = omega arith in
         rw (on, t, min-eq_left h, z) (append-nil (bytes_of (size b) (get_or n b 0)))
 
     pub field_words : is_text_bit b ≡ false → 8 < size b → field_b ≡ bytes_of 8 (get_or n b 0) ++ bytes_of (size b - 8) high
-    unfolding field_bytes encode held_by words if◌then◌else◌
+    unfolding field_bytes encode held_by words if◌then◌otherwise◌
     field_words t h = let q : 8 ≤ size b = omega arith in rw (on, t, min-eq_right q) refl
 
 -- ---- a record is its head and its fields
@@ -88,14 +88,14 @@ three d o q r h e =
 
 -- the most that field b takes
 abbrev pub most : ℕ → ℕ
-most b = if is_text_bit b then (if eqb b 20 then 65 else 33) else size b
+most b = if is_text_bit b then (if eqb b 20 then 65 otherwise 33) otherwise size b
 
 unfoldable sum_below : (ℕ → ℕ) → ℕ → ℕ
 sum_below f zero = 0
 sum_below f (suc n) = sum_below f n + f n
 
 field_most : (r : Record) (b : ℕ) → length (field_bytes r.map (held r) b) ≤ most b
-unfolding field_bytes encode held_by spelled words short_bytes long_bytes if◌then◌else◌
+unfolding field_bytes encode held_by spelled words short_bytes long_bytes if◌then◌otherwise◌
 field_most r b = go (bit r.map b) refl (is_text_bit b) refl (eqb b 20) refl
   where
     go : (x : Bool) → bit r.map b ≡ x → (y : Bool) → is_text_bit b ≡ y → (z : Bool) → eqb b 20 ≡ z → length (field_bytes r.map (held r) b) ≤ most b
@@ -118,7 +118,7 @@ body_most r (suc n) = simp length-append (omega (arith, body_most r n, field_mos
 
 -- any record takes at most this
 pub record_most : (r : Record) → length (record_bytes r) ≤ most_record
-unfolding sum_below size fields if◌then◌else◌
+unfolding sum_below size fields if◌then◌otherwise◌
 record_most r = let h : length (body r.map (held r) 32) ≤ most_record - 5 = body_most r 32 in omega (arith, length_record r)
 
 -- ---- answers

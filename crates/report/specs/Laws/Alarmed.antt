@@ -1,10 +1,9 @@
 -- An alarm may be raised before a report's requests are answered and its message is told, or after. Rests on machine's Report.
 use Rattle.std.specs.Prelude.{ℕ, ◌≡◌, true, false, ◌&&◌}
 use Rattle.std.proofs.Math.Path.{refl}
-use Rattle.std.proofs.Common.{ap, ◌∙◌}
 use Rattle.std.proofs.Math.Bool.{Bool}
 use Rattle.std.proofs.Math.Dec.{eqb}
-use Rattle.prelude.specs.Cases.{if◌then◌else◌}
+use Rattle.prelude.specs.Cases.{if◌then◌otherwise◌}
 use Rattle.format.specs.Codes.{canceled}
 use Rattle.store.specs.declared.Order.{Order}
 use Rattle.store.specs.declared.Request.{Request}
@@ -12,8 +11,8 @@ use Rattle.machine.specs.Changes.{Message, answering, superseding, telling, alar
 use Rattle.machine.specs.Report.{settles}
 use Rattle.machine.specs.declared.Change.{Change}
 
-either : (a : ℕ) (t : Bool) (x y : Change) → (if t then alarming a x else alarming a y) ≡ alarming a (if t then x else y)
-unfolding if◌then◌else◌
+either : (a : ℕ) (t : Bool) (x y : Change) → (if t then alarming a x otherwise alarming a y) ≡ alarming a (if t then x otherwise y)
+unfolding if◌then◌otherwise◌
 either a true x y = refl
 either a false x y = refl
 

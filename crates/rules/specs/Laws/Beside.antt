@@ -5,7 +5,7 @@ use Rattle.std.proofs.Common.{ap, arith}
 use Rattle.std.specs.Bool.{beq}
 use borrow.Author.Tests.{eqb-true, eqb-false, ltb-true, leb-true, le-leb, lt-ltb, le-ltb}
 use Rattle.prelude.specs.Below.{all_below, all_ext}
-use Rattle.prelude.specs.Cases.{if◌then◌else◌}
+use Rattle.prelude.specs.Cases.{if◌then◌otherwise◌}
 use Rattle.prelude.specs.Texts.{same_text}
 use Rattle.store.specs.declared.Request.{Request}
 use Rattle.store.specs.Book.{book_of, request_at, request_in, request_count, outcome_at, origin_at}
@@ -24,11 +24,11 @@ beside_at b k = outcome_rule (request_at b k) (outcome_at b k) && (is_empty (req
 
 -- an outcome by its mark, as it is decided
 pub outcome_mark : (answered outcome : ℕ)
-    → beq (outcome == 0) (answered == 0) && nat_le outcome 3 ≡ (if not (answered == 0) then nat_lt 0 outcome && nat_le outcome 3 else (outcome == 0))
-unfolding if◌then◌else◌
+    → beq (outcome == 0) (answered == 0) && nat_le outcome 3 ≡ (if not (answered == 0) then nat_lt 0 outcome && nat_le outcome 3 otherwise (outcome == 0))
+unfolding if◌then◌otherwise◌
 outcome_mark a n = go (a == 0) (n == 0) refl
   where
-    go : (u v : Bool) → (n == 0) ≡ v → beq v u && nat_le n 3 ≡ (if not u then nat_lt 0 n && nat_le n 3 else v)
+    go : (u v : Bool) → (n == 0) ≡ v → beq v u && nat_le n 3 ≡ (if not u then nat_lt 0 n && nat_le n 3 otherwise v)
     go true true e = le-leb n 3 (omega (arith, eqb-true n 0 e))
     go true false e = refl
     go false true e = let z : n ≤ 0 = omega (arith, eqb-true n 0 e) in rw (le-ltb 0 n z)

@@ -7,7 +7,7 @@ use Rattle.std.proofs.Math.Bool.{and_assoc}
 use Rattle.std.specs.Bool.{beq}
 use borrow.Author.Tests.{ltb-true, leb-true, lt-ltb, le-ltb, le-leb, lt-leb, eqb-true, eqb-false}
 use Rattle.prelude.specs.Below.{all_below, count_below, all_ext, all_elim, count_ext}
-use Rattle.prelude.specs.Cases.{if◌then◌else◌, clash, both_true}
+use Rattle.prelude.specs.Cases.{if◌then◌otherwise◌, clash, both_true}
 use Rattle.prelude.specs.Texts.{same_text, filled_at, is_text}
 use Rattle.prelude.specs.declared.Text.{Text}
 use Rattle.store.specs.declared.Order.{Order}
@@ -120,14 +120,14 @@ range_name b m i h = go (name_range (order_at b i).names.name) refl
     go false e = clash false (rw e at h) refl
 
 -- a text that is there or absent, by its length
-pub optional_text : (t : Text) (absent : Bool) → is_text t && beq (t.len == 0) absent ≡ (if absent then text_within 0 0 t else text_within 1 32 t)
-unfolding text_within is_text if◌then◌else◌
+pub optional_text : (t : Text) (absent : Bool) → is_text t && beq (t.len == 0) absent ≡ (if absent then text_within 0 0 t otherwise text_within 1 32 t)
+unfolding text_within is_text if◌then◌otherwise◌
 optional_text t absent = go (nat_le t.len 32) (all_below (filled_at t) 32) (t.len == 0) absent refl refl refl
   where
     go : (s v u a : Bool) → nat_le t.len 32 ≡ s → all_below (filled_at t) 32 ≡ v → (t.len == 0) ≡ u
         → nat_le t.len 32 && all_below (filled_at t) 32 && beq (t.len == 0) a
         ≡ (if a then (nat_le t.len 32 && all_below (filled_at t) 32 && nat_le 0 t.len && nat_le t.len 0)
-        else (nat_le t.len 32 && all_below (filled_at t) 32 && nat_le 1 t.len && nat_le t.len 32))
+        otherwise (nat_le t.len 32 && all_below (filled_at t) 32 && nat_le 1 t.len && nat_le t.len 32))
     go false v u true d e f = rw d
     go false v u false d e f = rw d
     go true false u true d e f = rw (d, e)
@@ -146,11 +146,11 @@ optional_text t absent = go (nat_le t.len 32) (all_below (filled_at t) 32) (t.le
         rw (d, e, f, le-leb 1 t.len z)
 
 -- just number 0 is a first request, as it is decided
-pub number_kind : (first : Bool) (n : ℕ) → (if first then (n == 0) else nat_lt 0 n) ≡ beq first (n == 0)
-unfolding if◌then◌else◌
+pub number_kind : (first : Bool) (n : ℕ) → (if first then (n == 0) otherwise nat_lt 0 n) ≡ beq first (n == 0)
+unfolding if◌then◌otherwise◌
 number_kind first n = go first (n == 0) refl
   where
-    go : (f v : Bool) → (n == 0) ≡ v → (if f then v else nat_lt 0 n) ≡ beq f v
+    go : (f v : Bool) → (n == 0) ≡ v → (if f then v otherwise nat_lt 0 n) ≡ beq f v
     go true true e = refl
     go true false e = refl
     go false true e = let z : n ≤ 0 = omega (arith, eqb-true n 0 e) in le-ltb 0 n z

@@ -6,7 +6,7 @@ use Rattle.std.proofs.Math.Path.{ap, subst}
 use Rattle.std.specs.Bool.{beq}
 use borrow.Author.Tests.{eq-eqb, ne_eqb, ltb-true, leb-true}
 use Rattle.prelude.specs.Below.{count_below}
-use Rattle.prelude.specs.Cases.{if◌then◌else◌, both_true, both_false}
+use Rattle.prelude.specs.Cases.{if◌then◌otherwise◌, both_true, both_false}
 use Rattle.prelude.specs.Span.{length_span}
 use Rattle.prelude.specs.Texts.{is_text, same_text, same_text_lem}
 use Rattle.prelude.specs.declared.Text.{Text}
@@ -24,7 +24,7 @@ use Rattle.rules.specs.Laws.Here.{of_order_at, request_here, request_rule_at, pa
 
 -- a text that is there exactly where it is not absent
 abbrev pub or_absent : (absent : Bool) → Text → Bool
-or_absent absent t = if absent then text_within 0 0 t else text_within 1 32 t
+or_absent absent t = if absent then text_within 0 0 t otherwise text_within 1 32 t
 
 -- a request's ranges but for the OrigClOrdID's
 unfoldable pub fields_range : Request → Bool

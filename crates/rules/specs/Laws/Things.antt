@@ -5,7 +5,7 @@ use Rattle.std.proofs.Math.Path.{ap₂}
 use native.Mathlib.Omega.{arith}
 use borrow.Author.Tests.{eqb-true, ltb-true, lt-ltb}
 use Rattle.prelude.specs.Below.{all_below, all_intro, all_elim, all_both}
-use Rattle.prelude.specs.Cases.{if◌then◌else◌, both_true, both_hold}
+use Rattle.prelude.specs.Cases.{if◌then◌otherwise◌, both_true, both_hold}
 use Rattle.prelude.specs.Span.{length_span}
 use Rattle.prelude.specs.Texts.{text_at, same_text, same_text_lem}
 use Rattle.prelude.specs.declared.Text.{Text}
@@ -20,17 +20,17 @@ use Rattle.rules.specs.Laws.Spread.{other, fresh}
 
 -- the record is in its table, and a request's order too
 unfoldable pub placed : List ℕ → Bool → ℕ → Bool
-placed b keyed i = if keyed then nat_lt i most_requests && nat_lt (request_at b i).order most_orders else nat_lt i most_orders
+placed b keyed i = if keyed then nat_lt i most_requests && nat_lt (request_at b i).order most_orders otherwise nat_lt i most_orders
 
 -- the text of a thing, its place, and its client, which is 0 where the thing is an order
 unfoldable pub text_in : List ℕ → Bool → ℕ → Text
-text_in b keyed i = if keyed then (request_at b i).clordid else (order_at b i).names.name
+text_in b keyed i = if keyed then (request_at b i).clordid otherwise (order_at b i).names.name
 
 unfoldable pub place_of : Bool → ℕ → ℕ
-place_of keyed i = if keyed then request_base i + request·clordid else order_base i + names·name
+place_of keyed i = if keyed then request_base i + request·clordid otherwise order_base i + names·name
 
 unfoldable pub client_in : List ℕ → Bool → ℕ → ℕ
-client_in b keyed i = if keyed then client_at b i else 0
+client_in b keyed i = if keyed then client_at b i otherwise 0
 
 -- a request without a ClOrdID
 unfoldable pub lone_at : List ℕ → Bool → ℕ → Bool
@@ -61,11 +61,11 @@ cell_of b keyed i = cell (client_in b keyed i) (text_in b keyed i)
 
 module _ (b : List ℕ) (i : ℕ) where
   pub placed_key : placed b true i ≡ true → (i < most_requests) × ((request_at b i).order < most_orders)
-  unfolding placed if◌then◌else◌
+  unfolding placed if◌then◌otherwise◌
   placed_key e = let s = both_true (nat_lt i most_requests) (nat_lt (request_at b i).order most_orders) e in (ltb-true _ _ s.0, ltb-true _ _ s.1)
 
   placed_name : placed b false i ≡ true → i < most_orders
-  unfolding placed if◌then◌else◌
+  unfolding placed if◌then◌otherwise◌
   placed_name e = ltb-true i most_orders e
 
   pub placed_most : (keyed : Bool) → placed b keyed i ≡ true → i < most_requests
@@ -73,34 +73,34 @@ module _ (b : List ℕ) (i : ℕ) where
   placed_most false e = let h : i < most_orders = placed_name e in omega arith
 
   pub place_fits : (keyed : Bool) → placed b keyed i ≡ true → place_of keyed i + 33 ≤ book_size
-  unfolding place_of if◌then◌else◌
+  unfolding place_of if◌then◌otherwise◌
   place_fits true e = let h : i < most_requests = (placed_key e).0 in omega arith
   place_fits false e = let h : i < most_orders = placed_name e in omega arith
 
   pub text_in_lem : (keyed : Bool) → text_in b keyed i ≡ text_at b (place_of keyed i)
-  unfolding text_in place_of if◌then◌else◌
+  unfolding text_in place_of if◌then◌otherwise◌
   text_in_lem true = request_clordid b i
   text_in_lem false = names_name b i
 
 -- the orders in use are placed, and so are requests that keep their rules
 module _ (b : List ℕ) (n : ℕ) (few : n ≤ most_orders) where
   pub names_placed : all_below (placed b false) n ≡ true
-  unfolding placed if◌then◌else◌
+  unfolding placed if◌then◌otherwise◌
   names_placed = all_intro (placed b false) n (λ i h. lt-ltb i most_orders (omega arith))
 
   pub keys_placed : (m : ℕ) → m ≤ most_requests → all_below (pass_at b n) m ≡ true → all_below (placed b true) m ≡ true
-  unfolding placed if◌then◌else◌
+  unfolding placed if◌then◌otherwise◌
   keys_placed m h e =
       all_intro (placed b true) m
       (λ j k. let u : (request_at b j).order < n = booked b n m (both_true _ _ (sym (all_both (request_rule_at b n) (beside_at b) m) ∙ e)).0 j k in both_hold _ _ (lt-ltb j most_requests (omega arith)) (lt-ltb (request_at b j).order most_orders (omega arith)))
 
 -- a key is one of the rules' keys, and a name a name
 pub same_keyed : (b : List ℕ) (i j : ℕ) → same_key_at b i j ≡ same_at b true i j
-unfolding same_key_at same_at lone_at client_in text_in if◌then◌else◌
+unfolding same_key_at same_at lone_at client_in text_in if◌then◌otherwise◌
 same_keyed b i j = refl
 
 pub same_named : (b : List ℕ) (i j : ℕ) → same_name_at b i j ≡ same_at b false i j
-unfolding same_name_at same_at lone_at client_in text_in if◌then◌else◌
+unfolding same_name_at same_at lone_at client_in text_in if◌then◌otherwise◌
 same_named b i j = refl
 
 -- ---- the same things have the same cell

@@ -6,7 +6,7 @@ use Rattle.std.proofs.Math.Bool.{true, false}
 use Rattle.std.proofs.Math.Decide.{dec_lt}
 use Rattle.std.proofs.Math.Dec.{eqb}
 use borrow.Author.Tests.{le-leb, le-ltb, lt-ltb, not-true, not-false}
-use Rattle.prelude.specs.Cases.{if◌then◌else◌, split_if, clash}
+use Rattle.prelude.specs.Cases.{if◌then◌otherwise◌, split_if, clash}
 use Rattle.format.specs.Refusal.{event_refusal}
 use Rattle.records.specs.Record.{event_in}
 use Rattle.store.specs.Book.{book_of}
@@ -39,32 +39,32 @@ module _ (b r : List ℕ) (room : ℕ) where
   -- ---- question 1
 
   pub call_1 : keeps_of b ≡ false → refusing 1 ≡ call_of b r room
-  unfolding call_of if◌then◌else◌
+  unfolding call_of if◌then◌otherwise◌
   call_1 k = rw k refl
 
   module _ (k : keeps_of b ≡ true) where
     -- ---- question 2
 
     pub call_2 : room < 1024 → refusing 2 ≡ call_of b r room
-    unfolding call_of if◌then◌else◌
+    unfolding call_of if◌then◌otherwise◌
     call_2 l = rw (k, lt-ltb room 1024 l) refl
 
     module _ (l : 1024 ≤ room) (n : ℕ) (e : n ≡ event_refusal r) where
       -- ---- questions 3 and 4
 
       pub call_3 : eqb n 0 ≡ false → refusing n ≡ call_of b r room
-      unfolding call_of if◌then◌else◌
+      unfolding call_of if◌then◌otherwise◌
       call_3 z = rw (k, le-ltb room 1024 l, ← e, z) refl
 
       -- ---- questions 5, 6 and 7
 
       pub call_5 : eqb n 0 ≡ true → (v : Event) → v ≡ event_in r → (c : Change) → c ≡ step_of (book_of b) v → c ≡ call_of b r room
-      unfolding call_of if◌then◌else◌
+      unfolding call_of if◌then◌otherwise◌
       call_5 z v f c s = rw (k, le-ltb room 1024 l, ← e, z, ← f) s
 
   -- a call that is taken has room for its answer
   short : (k : Bool) → keeps_of b ≡ k → room < 1024 → eqb (call_of b r room).refusal 0 ≡ false
-  unfolding call_of refusing if◌then◌else◌
+  unfolding call_of refusing if◌then◌otherwise◌
   short false e l = rw e refl
   short true e l = rw (e, lt-ltb room 1024 l) refl
 

@@ -1,23 +1,19 @@
 -- The parts of a step are together machine's. Rests on Steps and machine's Machine.
-use Rattle.std.specs.Prelude.{ℕ, ◌+◌, ◌-◌, ◌≤◌, ◌<◌, ◌≡◌, Bool, true, false, ◌&&◌, ◌||◌, eqb, leb, length}
+use Rattle.std.specs.Prelude.{ℕ, ◌+◌, ◌<◌, ◌≡◌, Bool, true, false, ◌||◌, eqb}
 use Rattle.std.proofs.Math.Path.{refl, sym}
 use Rattle.std.proofs.Common.{ap, ◌∙◌, arith}
 use Rattle.std.proofs.Math.Decide.{dec_lt}
-use borrow.Author.Tests.{eqb-true, eqb-false, eq-eqb, lt-ltb, le-ltb}
+use borrow.Author.Tests.{eqb-true, eqb-false, lt-ltb, le-ltb}
 use Rattle.std.proofs.Math.Dec.{ltb}
-use Rattle.prelude.specs.Cases.{if◌then◌else◌}
+use Rattle.prelude.specs.Cases.{if◌then◌otherwise◌}
 use Rattle.store.specs.declared.Order.{Order}
 use Rattle.store.specs.declared.Request.{Request}
 use Rattle.store.specs.Book.{Book, order_in, request_in}
-use Rattle.store.specs.Finds.{count_clordids}
-use Rattle.store.specs.Requests.{no_request}
 use Rattle.machine.specs.declared.Findings.{Findings}
 use Rattle.machine.specs.declared.Change.{Change}
 use Rattle.machine.specs.Changes.{Event, refusing}
-use Rattle.machine.specs.Amend.{cancel, replace, venue_cancel_reject, send_failed, unsent}
 use Rattle.machine.specs.GatewayCancel.{cancel_order}
-use Rattle.machine.specs.Report.{unknown_at_venue}
-use Rattle.machine.specs.Machine.{order_link, order_of, order_at_link, latest_cancel, findings_of, Amending, amending, on_request, on_report, on_name, nothing, unknown_report, text_note, book_order, change_of, has_room, step_of}
+use Rattle.machine.specs.Machine.{order_link, order_of, order_at_link, latest_cancel, findings_of, Amending, amending, on_request, on_name, book_order, change_of, has_room, step_of}
 use Rattle.machine.proofs.Kept.Tables.{at_link}
 use Rattle.step.specs.Steps.{request_at_link, findings_at, is_full, amended, handled, unknown_of, has_room_for}
 
@@ -35,9 +31,9 @@ findings_of_lem b i = ap (findings_at b (i + 1)) (sym (at_link b i)) ∙ finding
 unfoldable pub by_kind : Book → Event → Change
 by_kind b e =
     if eqb e.kind 1 then book_order b e
-    else if eqb e.kind 2 || eqb e.kind 3 then amended b e
-    else if ltb e.kind 4 || ltb 8 e.kind then on_name b e
-    else on_request (unknown_of e) (handled e) b e
+    otherwise if eqb e.kind 2 || eqb e.kind 3 then amended b e
+    otherwise if ltb e.kind 4 || ltb 8 e.kind then on_name b e
+    otherwise on_request (unknown_of e) (handled e) b e
 
 -- by the event's kind: what it is, or that it is another
 module _ (b : Book) (e : Event) where
@@ -50,17 +46,17 @@ module _ (b : Book) (e : Event) where
 
   other : eqb e.kind 1 ≡ false → eqb e.kind 2 ≡ false → eqb e.kind 3 ≡ false → eqb e.kind 4 ≡ false → eqb e.kind 5 ≡ false
       → eqb e.kind 6 ≡ false → eqb e.kind 7 ≡ false → eqb e.kind 8 ≡ false → change_of b e ≡ by_kind b e
-  unfolding change_of by_kind if◌then◌else◌
+  unfolding change_of by_kind if◌then◌otherwise◌
   other k1 k2 k3 k4 k5 k6 k7 k8 = rw (k1, k2, k3, k4, k5, k6, k7, k8) (sym (outside (dec_lt e.kind 4)))
     where
-      outside : Dec (e.kind < 4) → (if ltb e.kind 4 || ltb 8 e.kind then on_name b e else on_request (unknown_of e) (handled e) b e) ≡ on_name b e
+      outside : Dec (e.kind < 4) → (if ltb e.kind 4 || ltb 8 e.kind then on_name b e otherwise on_request (unknown_of e) (handled e) b e) ≡ on_name b e
       outside (yes h) = rw (lt-ltb e.kind 4 h) refl
       outside (no h) =
           let m : 8 < e.kind = omega (arith, eqb-false e.kind 4 k4, eqb-false e.kind 5 k5, eqb-false e.kind 6 k6, eqb-false e.kind 7 k7, eqb-false e.kind 8 k8) in
           rw (le-ltb e.kind 4 (omega arith), lt-ltb 8 e.kind m) refl
 
   pub by_kind_lem : change_of b e ≡ by_kind b e
-  unfolding change_of by_kind amended handled unknown_of on_request if◌then◌else◌
+  unfolding change_of by_kind amended handled unknown_of on_request if◌then◌otherwise◌
   by_kind_lem =
       at_kind 1 (λ k. rw k refl) (λ k1. at_kind 2 (λ k. rw k refl) (λ k2. at_kind 3 (λ k. rw k refl) (λ k3. at_kind 4 (λ k. rw k refl)
       (λ k4. at_kind 5 (λ k. rw k refl) (λ k5. at_kind 6 (λ k. rw k refl) (λ k6. at_kind 7 (λ k. rw k refl) (λ k7. at_kind 8 (λ k. rw k refl)
@@ -69,20 +65,20 @@ module _ (b : Book) (e : Event) where
 -- the change of each kind, once the code has asked for it
 module _ (b : Book) (e : Event) where
   pub kind_1 : eqb e.kind 1 ≡ true → book_order b e ≡ change_of b e
-  unfolding by_kind if◌then◌else◌
+  unfolding by_kind if◌then◌otherwise◌
   kind_1 h = sym (by_kind_lem b e ∙ (rw h refl))
 
   pub kind_2 : eqb e.kind 1 ≡ false → eqb e.kind 2 || eqb e.kind 3 ≡ true → amended b e ≡ change_of b e
-  unfolding by_kind if◌then◌else◌
+  unfolding by_kind if◌then◌otherwise◌
   kind_2 h g = sym (by_kind_lem b e ∙ (rw (h, g) refl))
 
   pub kind_9 : eqb e.kind 1 ≡ false → eqb e.kind 2 || eqb e.kind 3 ≡ false → ltb e.kind 4 || ltb 8 e.kind ≡ true → on_name b e ≡ change_of b e
-  unfolding by_kind if◌then◌else◌
+  unfolding by_kind if◌then◌otherwise◌
   kind_9 h g f = sym (by_kind_lem b e ∙ (rw (h, g, f) refl))
 
   pub kind_4 : eqb e.kind 1 ≡ false → eqb e.kind 2 || eqb e.kind 3 ≡ false → ltb e.kind 4 || ltb 8 e.kind ≡ false
       → on_request (unknown_of e) (handled e) b e ≡ change_of b e
-  unfolding by_kind if◌then◌else◌
+  unfolding by_kind if◌then◌otherwise◌
   kind_4 h g f = sym (by_kind_lem b e ∙ (rw (h, g, f) refl))
 
 -- ---- what the code has found is what the definitions take
@@ -111,13 +107,13 @@ has_room_lem b c = refl
 
 module _ (b : Book) (e : Event) (c : Change) (h : c ≡ change_of b e) where
   pub step_refused : eqb c.refusal 0 ≡ false → c ≡ step_of b e
-  unfolding step_of if◌then◌else◌
+  unfolding step_of if◌then◌otherwise◌
   step_refused r = rw (← h, r) refl
 
   pub step_taken : eqb c.refusal 0 ≡ true → has_room_for b c.place c.requests.added ≡ true → c ≡ step_of b e
-  unfolding step_of if◌then◌else◌
+  unfolding step_of if◌then◌otherwise◌
   step_taken r g = rw (← h, r, sym (has_room_lem b c) ∙ g) refl
 
   pub step_full : eqb c.refusal 0 ≡ true → has_room_for b c.place c.requests.added ≡ false → refusing 7 ≡ step_of b e
-  unfolding step_of if◌then◌else◌
+  unfolding step_of if◌then◌otherwise◌
   step_full r g = rw (← h, r, sym (has_room_lem b c) ∙ g) refl

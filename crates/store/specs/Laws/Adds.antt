@@ -11,7 +11,7 @@ use borrow.Author.Tests.{eq-eqb, lt-ltb}
 use Rattle.std.proofs.Math.ListN.{length}
 use Rattle.std.proofs.lemmas.List.{length-replicate}
 use Rattle.std.proofs.Math.Seq.{set_out}
-use Rattle.prelude.specs.Cases.{if◌then◌else◌}
+use Rattle.prelude.specs.Cases.{if◌then◌otherwise◌}
 use Rattle.prelude.specs.Lists.{list_below, list_ext, list_more, list_set_any}
 use Rattle.prelude.specs.Span.{span, splice, span_byte, length_splice, span_splice_same, span_splice_before, span_splice_after}
 use Rattle.prelude.specs.Number.{bound, bytes_of, word16, word32}
@@ -31,7 +31,7 @@ use Rattle.store.specs.Laws.Stored.{count_most, count_out, in_table, length_requ
 
 module _ (b : List ℕ) (o : Order) where
   pub add_order_book : length b ≡ book_size → order_count b < most_orders → WholeOrder o → book_of (add_order b o) ≡ plus_order (book_of b) o
-  unfolding add_order if◌then◌else◌ book_of
+  unfolding add_order if◌then◌otherwise◌ book_of
   add_order_book l h w =
       let n : ℕ = order_count b in
       let d : List ℕ = put_order b n o in
@@ -57,15 +57,15 @@ module _ (b : List ℕ) (o : Order) where
 
   -- a full table takes none
   pub add_order_full : most_orders ≤ order_count b → add_order b o ≡ b
-  unfolding add_order if◌then◌else◌
+  unfolding add_order if◌then◌otherwise◌
   add_order_full h =
-      in_table (λ t. (if t then set_count (put_order b (order_count b) o) header·orders (order_count b + 1) else b) ≡ b) b most_orders (order_count b) (λ l k. absurd (omega arith)) (λ d. refl)
+      in_table (λ t. (if t then set_count (put_order b (order_count b) o) header·orders (order_count b + 1) otherwise b) ≡ b) b most_orders (order_count b) (λ l k. absurd (omega arith)) (λ d. refl)
 
 -- ---- a request added
 
 module _ (b : List ℕ) (origin : ℕ) (r : Request) where
   pub add_request_book : length b ≡ book_size → request_count b < most_requests → WholeRequest r → book_of (add_request b origin r) ≡ plus_request (book_of b) r
-  unfolding add_request if◌then◌else◌ book_of
+  unfolding add_request if◌then◌otherwise◌ book_of
   add_request_book l h w =
       let n : ℕ = request_count b in
       let d : List ℕ = put_request b n origin r in
@@ -90,9 +90,9 @@ module _ (b : List ℕ) (origin : ℕ) (r : Request) where
       })
 
   pub add_request_full : most_requests ≤ request_count b → add_request b origin r ≡ b
-  unfolding add_request if◌then◌else◌
+  unfolding add_request if◌then◌otherwise◌
   add_request_full h =
-      in_table (λ t. (if t then set_count (put_request b (request_count b) origin r) header·requests (request_count b + 1) else b) ≡ b) b most_requests (request_count b) (λ l k. absurd (omega arith)) (λ d. refl)
+      in_table (λ t. (if t then set_count (put_request b (request_count b) origin r) header·requests (request_count b + 1) otherwise b) ≡ b) b most_requests (request_count b) (λ l k. absurd (omega arith)) (λ d. refl)
 
 -- ---- a request marked as answered
 
@@ -241,9 +241,9 @@ module _ (b : List ℕ) (l : length b ≡ book_size) (i : ℕ) (h : i < most_req
 
 -- THE LAW of a marked request: on any buffer, at any index; the book does not see the outcome
 pub mark_book : (b : List ℕ) (i outcome : ℕ) → book_of (mark_answered b i outcome) ≡ with_answered (book_of b) i
-unfolding mark_answered if◌then◌else◌
+unfolding mark_answered if◌then◌otherwise◌
 mark_book b i outcome =
-    in_table (λ t. book_of (if t then settle b i outcome else b) ≡ with_answered (book_of b) i) b most_requests i (λ l h. settled_book b l i h outcome) (λ d. sym (out d))
+    in_table (λ t. book_of (if t then settle b i outcome otherwise b) ≡ with_answered (book_of b) i) b most_requests i (λ l h. settled_book b l i h outcome) (λ d. sym (out d))
   where
     out : ((length b ≡ book_size → ⊥) ⊎ (most_requests ≤ i)) → with_answered (book_of b) i ≡ book_of b
     out d = λ t. record { setting = (book_of b).setting; orders = (book_of b).orders; requests = set_out (book_of b).requests i (answered (request_in (book_of b) i)) (omega (arith, length_requests b, count_out header·requests most_requests b i d)) t }
@@ -283,12 +283,12 @@ module _ (setting : ℕ) where
   blank_length = length_blank book_size (omega arith) setting
 
   blank_count : (at most : ℕ) → at + 2 ≤ header·setting → count_at at most (blank setting) ≡ 0
-  unfolding count_at if◌then◌else◌ blank
+  unfolding count_at if◌then◌otherwise◌ blank
   blank_count at most k =
       rw (eq-eqb _ book_size (length_blank book_size (omega arith) setting), count_blank book_size (omega arith) setting at k) (omega arith)
 
   blank_setting : setting < bound 4 → setting_of (blank setting) ≡ setting
-  unfolding setting_of if◌then◌else◌ blank
+  unfolding setting_of if◌then◌otherwise◌ blank
   blank_setting k =
       rw (eq-eqb _ book_size (length_blank book_size (omega arith) setting), setting_blank book_size (omega arith) setting k)
 

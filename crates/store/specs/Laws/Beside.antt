@@ -8,7 +8,7 @@ use Prim.Native.Nat.{ℕ, ◌+◌, ◌≤◌, ◌<◌}
 use Rattle.std.proofs.Math.Decide.{dec_lt, ℕ_discrete}
 use borrow.Author.Tests.{eq-eqb, ne_eqb, lt-ltb}
 use Rattle.std.proofs.Math.ListN.{length}
-use Rattle.prelude.specs.Cases.{if◌then◌else◌}
+use Rattle.prelude.specs.Cases.{if◌then◌otherwise◌}
 use Rattle.prelude.specs.Span.{span, span_byte, span_span, span_splice_same, span_splice_before, span_splice_after}
 use Rattle.store.specs.declared.Order.{Order}
 use Rattle.store.specs.declared.Request.{Request}
@@ -56,9 +56,9 @@ module _ (b d : List ℕ) (l : length b ≡ book_size) (m : length d ≡ book_si
 
 module _ (b : List ℕ) (j : ℕ) (k : j < most_requests) where
   pub store_order_beside : (i : ℕ) (o : Order) → FitsOrder o → SameBeside b (store_order b i o) j
-  unfolding store_order if◌then◌else◌
+  unfolding store_order if◌then◌otherwise◌
   store_order_beside i o w =
-      in_table (λ t. SameBeside b (if t then put_order b i o else b) j) b most_orders i
+      in_table (λ t. SameBeside b (if t then put_order b i o otherwise b) j) b most_orders i
       (λ l h. same_bytes b (put_order b i o) l (length_put_order b l i h o w) j k (span_put_order b l i h o w (beside_at j) 3 (inr (omega arith))))
       (λ d. same_self b j)
 
@@ -67,11 +67,11 @@ module _ (b : List ℕ) (j : ℕ) (k : j < most_requests) where
 
 module _ (b : List ℕ) (j : ℕ) (k : j < most_requests) where
   pub add_order_beside : (o : Order) → FitsOrder o → SameBeside b (add_order b o) j
-  unfolding add_order if◌then◌else◌
+  unfolding add_order if◌then◌otherwise◌
   add_order_beside o w =
       let n : ℕ = order_count b in
       let d : List ℕ = put_order b n o in
-      in_table (λ t. SameBeside b (if t then set_count d header·orders (n + 1) else b) j) b most_orders n
+      in_table (λ t. SameBeside b (if t then set_count d header·orders (n + 1) otherwise b) j) b most_orders n
       (λ l h.
       let m : length d ≡ book_size = length_put_order b l n h o w in
       same_more b d (set_count d header·orders (n + 1)) j
@@ -83,7 +83,7 @@ module _ (b : List ℕ) (j : ℕ) (k : j < most_requests) where
     where
       go : Dec (length b ≡ book_size) → SameBeside b (store_open b i n) j
       go (yes l) = same_bytes b (store_open b i n) l ((store_open_keeps b i n).same ∙ l) j k (span_store_open b i n (beside_at j) 3 (omega arith))
-      go (no l) = unfold store_open if◌then◌else◌ in rw (ne_eqb (length b) book_size l) (same_self b j)
+      go (no l) = unfold store_open if◌then◌otherwise◌ in rw (ne_eqb (length b) book_size l) (same_self b j)
 
 -- ---- a request added
 
@@ -118,11 +118,11 @@ module _ (b : List ℕ) (l : length b ≡ book_size) (i : ℕ) (h : i < most_req
 module _ (b : List ℕ) (origin : ℕ) (r : Request) (w : WholeRequest r) where
   -- those in use keep what stands beside them
   pub add_request_beside : (j : ℕ) → j < request_count b → SameBeside b (add_request b origin r) j
-  unfolding add_request if◌then◌else◌
+  unfolding add_request if◌then◌otherwise◌
   add_request_beside j k =
       let n : ℕ = request_count b in
       let d : List ℕ = put_request b n origin r in
-      in_table (λ t. SameBeside b (if t then set_count d header·requests (n + 1) else b) j) b most_requests n
+      in_table (λ t. SameBeside b (if t then set_count d header·requests (n + 1) otherwise b) j) b most_requests n
       (λ l h.
       same_more b d (set_count d header·requests (n + 1)) j
       (put_beside b l n h origin r w j (omega arith) (λ z. omega arith)) (counted d j (omega arith) header·requests (n + 1) (omega arith) (length_put_request b l n h origin r w)))
@@ -133,7 +133,7 @@ module _ (b : List ℕ) (origin : ℕ) (r : Request) (w : WholeRequest r) where
     new = put_request b (request_count b) origin r
 
     added_beside : SameBeside new (add_request b origin r) (request_count b)
-    unfolding add_request if◌then◌else◌
+    unfolding add_request if◌then◌otherwise◌
     added_beside =
         rw (eq-eqb (length b) book_size l, lt-ltb (request_count b) most_requests h)
         (counted new (request_count b) h header·requests (request_count b + 1) (omega arith) (length_put_request b l (request_count b) h origin r w))
@@ -149,9 +149,9 @@ module _ (b : List ℕ) (origin : ℕ) (r : Request) (w : WholeRequest r) where
 
 module _ (b : List ℕ) (i outcome : ℕ) where
   pub mark_beside_other : (j : ℕ) → j < most_requests → (i ≡ j → ⊥) → SameBeside b (mark_answered b i outcome) j
-  unfolding mark_answered if◌then◌else◌
+  unfolding mark_answered if◌then◌otherwise◌
   mark_beside_other j k n =
-      in_table (λ t. SameBeside b (if t then settle b i outcome else b) j) b most_requests i
+      in_table (λ t. SameBeside b (if t then settle b i outcome otherwise b) j) b most_requests i
       (λ l h. same_bytes b (settle b i outcome) l (length_settle b l i h outcome) j k (span_settle b l i h outcome (beside_at j) 3 (apart (dec_lt i j))))
       (λ d. same_self b j)
     where
@@ -161,11 +161,11 @@ module _ (b : List ℕ) (i outcome : ℕ) where
 
   module _ (l : length b ≡ book_size) (h : i < most_requests) where
     pub mark_outcome : outcome_at (mark_answered b i outcome) i ≡ settled_as b i outcome
-    unfolding mark_answered if◌then◌else◌
+    unfolding mark_answered if◌then◌otherwise◌
     mark_outcome = rw (eq-eqb (length b) book_size l, lt-ltb i most_requests h) (settle_outcome b l i h outcome)
 
     pub mark_origin : origin_at (mark_answered b i outcome) i ≡ origin_at b i
-    unfolding mark_answered if◌then◌else◌
+    unfolding mark_answered if◌then◌otherwise◌
     mark_origin =
         let m : length (settle b i outcome) ≡ book_size = length_settle b l i h outcome in
         rw (eq-eqb (length b) book_size l, lt-ltb i most_requests h)
@@ -175,9 +175,9 @@ module _ (b : List ℕ) (i outcome : ℕ) where
 
 module _ (b : List ℕ) (i : ℕ) (h : i < request_count b) where
   pub load_outcome_in : load_outcome b i ≡ outcome_at b i
-  unfolding load_outcome if◌then◌else◌
+  unfolding load_outcome if◌then◌otherwise◌
   load_outcome_in = rw (eq-eqb (length b) book_size (count_book header·requests most_requests b i h), lt-ltb i most_requests (omega (arith, count_most header·requests most_requests b))) refl
 
   pub load_origin_in : load_origin b i ≡ origin_at b i
-  unfolding load_origin if◌then◌else◌
+  unfolding load_origin if◌then◌otherwise◌
   load_origin_in = rw (eq-eqb (length b) book_size (count_book header·requests most_requests b i h), lt-ltb i most_requests (omega (arith, count_most header·requests most_requests b))) refl

@@ -3,7 +3,7 @@ use Rattle.std.specs.Prelude.{◌≡◌, refl, Bool, true, false, not, ◌&&◌,
 use Rattle.std.proofs.Common.{sym, ap, ◌∙◌, add-one}
 use borrow.Author.Tests.{ltb-true, eqb-true, eq-eqb, ne_eqb}
 use Rattle.prelude.specs.Below.{all_below, first_below, count_below, first_ext, count_ext}
-use Rattle.prelude.specs.Cases.{if◌then◌else◌, both_true}
+use Rattle.prelude.specs.Cases.{if◌then◌otherwise◌, both_true}
 use Rattle.prelude.specs.Lists.{list_below, first_list, count_list, length_list, get_list}
 use Rattle.prelude.specs.Texts.{agree_at, same_text}
 use Rattle.prelude.specs.declared.Text.{Text}
@@ -70,7 +70,7 @@ count_clordids_bytes b c =
     (λ k h. ap (λ (v : Bool). has_clordid (request_at b k) && v) (of_client_lem (order_at b) (order_count b) c (request_at b k)))
 
 -- one request more
-pub count_step : (p : ℕ → Bool) (i : ℕ) → count_below p (i + 1) ≡ count_below p i + (if p i then 1 else 0)
+pub count_step : (p : ℕ → Bool) (i : ℕ) → count_below p (i + 1) ≡ count_below p i + (if p i then 1 otherwise 0)
 unfolding count_below
 count_step p i = rw add-one
 

@@ -2,7 +2,7 @@
 use Rattle.std.specs.Prelude.{◌≡◌, refl, List, [], ◌∷◌, ◌++◌, ℕ, ◌+◌, ◌≤◌, ◌<◌, eqb, length}
 use Rattle.std.proofs.Math.Path.{sym}
 use Rattle.std.proofs.Common.{◌∙◌, arith}
-use Rattle.prelude.specs.Cases.{if◌then◌else◌, split_if}
+use Rattle.prelude.specs.Cases.{if◌then◌otherwise◌, split_if}
 use Rattle.prelude.specs.Number.{Bytes, bytes_of}
 use Rattle.prelude.specs.Span.{splice, length_splice}
 use Rattle.prelude.specs.Texts.{WholeText}
@@ -73,23 +73,23 @@ module _ (b : List ℕ) (l : length b ≡ book_size) where
   keeps_put_request i origin r h w = record { same = length_put_request b l i h origin r w ∙ sym l; bytes = λ g. bytes_splice b _ (encode_request origin r) g (bytes_request origin r w) }
 
 pub store_order_keeps : (b : List ℕ) (i : ℕ) (o : Order) → FitsOrder o → Keeps b (store_order b i o)
-unfolding store_order if◌then◌else◌
-store_order_keeps b i o w = in_table (λ t. Keeps b (if t then put_order b i o else b)) b most_orders i (λ l h. keeps_put_order b l i o h w) (λ d. keeps_self b)
+unfolding store_order if◌then◌otherwise◌
+store_order_keeps b i o w = in_table (λ t. Keeps b (if t then put_order b i o otherwise b)) b most_orders i (λ l h. keeps_put_order b l i o h w) (λ d. keeps_self b)
 
 pub add_order_keeps : (b : List ℕ) (o : Order) → FitsOrder o → Keeps b (add_order b o)
-unfolding add_order if◌then◌else◌
+unfolding add_order if◌then◌otherwise◌
 add_order_keeps b o w =
-    in_table (λ t. Keeps b (if t then set_count (put_order b (order_count b) o) header·orders (order_count b + 1) else b)) b most_orders (order_count b)
+    in_table (λ t. Keeps b (if t then set_count (put_order b (order_count b) o) header·orders (order_count b + 1) otherwise b)) b most_orders (order_count b)
     (λ l h. keeps_more b (put_order b (order_count b) o) (set_count (put_order b (order_count b) o) header·orders (order_count b + 1)) (keeps_put_order b l (order_count b) o h w)
     (keeps_count (put_order b (order_count b) o) (length_put_order b l (order_count b) h o w) header·orders (order_count b + 1) (omega arith)))
     (λ d. keeps_self b)
 
 pub add_request_keeps : (b : List ℕ) (origin : ℕ) (r : Request) → WholeRequest r → Keeps b (add_request b origin r)
-unfolding add_request if◌then◌else◌
+unfolding add_request if◌then◌otherwise◌
 add_request_keeps b origin r w =
     let n : ℕ = request_count b in
     let d : List ℕ = put_request b n origin r in
-    in_table (λ t. Keeps b (if t then set_count d header·requests (n + 1) else b)) b most_requests n
+    in_table (λ t. Keeps b (if t then set_count d header·requests (n + 1) otherwise b)) b most_requests n
     (λ l h. keeps_more b d (set_count d header·requests (n + 1)) (keeps_put_request b l n origin r h w)
     (keeps_count d (length_put_request b l n h origin r w) header·requests (n + 1) (omega arith)))
     (λ d. keeps_self b)
@@ -100,10 +100,10 @@ unfolding settled_as
 settled_small b i outcome h bytes = split_if (λ n. n < 256) (eqb (request_at b i).answered 0) (λ e. h) (λ e. bytes (request_base i + request·outcome))
 
 pub mark_keeps : (b : List ℕ) (i outcome : ℕ) → outcome < 256 → Keeps b (mark_answered b i outcome)
-unfolding mark_answered if◌then◌else◌
+unfolding mark_answered if◌then◌otherwise◌
 mark_keeps b i outcome small =
     let d : List ℕ = splice b (request_base i + request·answered) (1 ∷ []) in
-    in_table (λ t. Keeps b (if t then settle b i outcome else b)) b most_requests i
+    in_table (λ t. Keeps b (if t then settle b i outcome otherwise b)) b most_requests i
     (λ l h.
     let m : length d ≡ length b = length_splice b (request_base i + request·answered) (1 ∷ []) (omega arith) in
     record {
@@ -115,9 +115,9 @@ mark_keeps b i outcome small =
     (λ d. keeps_self b)
 
 pub store_open_keeps : (b : List ℕ) (i n : ℕ) → Keeps b (store_open b i n)
-unfolding store_open if◌then◌else◌
+unfolding store_open if◌then◌otherwise◌
 store_open_keeps b i n =
-    in_table (λ t. Keeps b (if t then splice b (open_base i) (bytes_of 8 n) else b)) b most_orders i
+    in_table (λ t. Keeps b (if t then splice b (open_base i) (bytes_of 8 n) otherwise b)) b most_orders i
     (λ l h. keeps_splice b (open_base i) (bytes_of 8 n) (omega arith) (bytes_of_lem 8 n))
     (λ d. keeps_self b)
 

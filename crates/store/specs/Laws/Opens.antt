@@ -2,12 +2,12 @@
 use Rattle.std.specs.Prelude.{◌≡◌, refl, ◌⊎◌}
 use Rattle.std.proofs.Math.Path.{ap}
 use Rattle.std.proofs.Common.{◌∙◌, inl, inr, ⊎_elim, arith}
-use mathlib.Core.List.{List, [], ◌∷◌}
+use mathlib.Core.List.{List}
 use Prim.Native.Nat.{ℕ, ◌+◌, ◌≤◌, ◌<◌}
 use Rattle.std.proofs.Math.Decide.{dec_lt}
 use borrow.Author.Tests.{eq-eqb, lt-ltb}
 use Rattle.std.proofs.Math.ListN.{length}
-use Rattle.prelude.specs.Cases.{if◌then◌else◌}
+use Rattle.prelude.specs.Cases.{if◌then◌otherwise◌}
 use Rattle.prelude.specs.Lists.{list_below, list_ext}
 use Rattle.prelude.specs.Number.{bound, bytes_of}
 use Rattle.prelude.specs.Span.{span, splice, length_splice, span_splice_same, span_splice_before, span_splice_after}
@@ -74,25 +74,25 @@ module _ (b : List ℕ) (l : length b ≡ book_size) (i : ℕ) (h : i < most_ord
 module _ (b : List ℕ) (i n : ℕ) where
   -- THE LAW of a word stored: the book does not see it
   pub store_open_book : book_of (store_open b i n) ≡ book_of b
-  unfolding store_open if◌then◌else◌
-  store_open_book = in_table (λ t. book_of (if t then put b i n else b) ≡ book_of b) b most_orders i (λ l h. put_book b l i h n) (λ d. refl)
+  unfolding store_open if◌then◌otherwise◌
+  store_open_book = in_table (λ t. book_of (if t then put b i n otherwise b) ≡ book_of b) b most_orders i (λ l h. put_book b l i h n) (λ d. refl)
 
   -- nor do the bytes before the words
   pub span_store_open : (at k : ℕ) → at + k ≤ opens_at → span (store_open b i n) at k ≡ span b at k
-  unfolding store_open if◌then◌else◌
-  span_store_open at k m = in_table (λ t. span (if t then put b i n else b) at k ≡ span b at k) b most_orders i (λ l h. span_put b l i h n at k (inl (omega arith))) (λ d. refl)
+  unfolding store_open if◌then◌otherwise◌
+  span_store_open at k m = in_table (λ t. span (if t then put b i n otherwise b) at k ≡ span b at k) b most_orders i (λ l h. span_put b l i h n at k (inl (omega arith))) (λ d. refl)
 
   pub open_here : length b ≡ book_size → i < most_orders → n < bound 8 → open_at (store_open b i n) i ≡ n
-  unfolding store_open if◌then◌else◌
+  unfolding store_open if◌then◌otherwise◌
   open_here l h k = rw (eq-eqb (length b) book_size l, lt-ltb i most_orders h) (put_here b l i h n k)
 
   pub open_other : (j : ℕ) → j < most_orders → (i ≡ j → ⊥) → open_at (store_open b i n) j ≡ open_at b j
-  unfolding store_open if◌then◌else◌
-  open_other j k d = in_table (λ t. open_at (if t then put b i n else b) j ≡ open_at b j) b most_orders i (λ l h. put_other b l i h n j k d) (λ d. refl)
+  unfolding store_open if◌then◌otherwise◌
+  open_other j k d = in_table (λ t. open_at (if t then put b i n otherwise b) j ≡ open_at b j) b most_orders i (λ l h. put_other b l i h n j k d) (λ d. refl)
 
 -- a word of an order in use is loaded
 pub load_open_in : (b : List ℕ) (i : ℕ) → i < order_count b → load_open b i ≡ open_at b i
-unfolding load_open if◌then◌else◌
+unfolding load_open if◌then◌otherwise◌
 load_open_in b i h =
     let l : length b ≡ book_size = count_book header·orders most_orders b i h in
     let k : i < most_orders = omega (arith, count_most header·orders most_orders b) in
@@ -102,17 +102,17 @@ load_open_in b i h =
 
 module _ (b : List ℕ) (j : ℕ) (k : j < most_orders) where
   pub store_order_open : (i : ℕ) (o : Order) → FitsOrder o → open_at (store_order b i o) j ≡ open_at b j
-  unfolding store_order if◌then◌else◌
+  unfolding store_order if◌then◌otherwise◌
   store_order_open i o w =
-      in_table (λ t. open_at (if t then put_order b i o else b) j ≡ open_at b j) b most_orders i
+      in_table (λ t. open_at (if t then put_order b i o otherwise b) j ≡ open_at b j) b most_orders i
       (λ l h. same_open b (put_order b i o) l (length_put_order b l i h o w) j k (span_put_order b l i h o w (open_base j) open_size (inr (omega arith))))
       (λ d. refl)
 
   pub add_order_open : (o : Order) → FitsOrder o → open_at (add_order b o) j ≡ open_at b j
-  unfolding add_order if◌then◌else◌
+  unfolding add_order if◌then◌otherwise◌
   add_order_open o w =
       let n : ℕ = order_count b in
-      in_table (λ t. open_at (if t then set_count (put_order b n o) header·orders (n + 1) else b) j ≡ open_at b j) b most_orders n
+      in_table (λ t. open_at (if t then set_count (put_order b n o) header·orders (n + 1) otherwise b) j ≡ open_at b j) b most_orders n
       (λ l h.
       let d : List ℕ = put_order b n o in
       let m : length d ≡ book_size = length_put_order b l n h o w in
@@ -121,10 +121,10 @@ module _ (b : List ℕ) (j : ℕ) (k : j < most_orders) where
       (λ d. refl)
 
   pub add_request_open : (origin : ℕ) (r : Request) → WholeRequest r → open_at (add_request b origin r) j ≡ open_at b j
-  unfolding add_request if◌then◌else◌
+  unfolding add_request if◌then◌otherwise◌
   add_request_open origin r w =
       let n : ℕ = request_count b in
-      in_table (λ t. open_at (if t then set_count (put_request b n origin r) header·requests (n + 1) else b) j ≡ open_at b j) b most_requests n
+      in_table (λ t. open_at (if t then set_count (put_request b n origin r) header·requests (n + 1) otherwise b) j ≡ open_at b j) b most_requests n
       (λ l h.
       let d : List ℕ = put_request b n origin r in
       let m : length d ≡ book_size = length_put_request b l n h origin r w in
@@ -133,8 +133,8 @@ module _ (b : List ℕ) (j : ℕ) (k : j < most_orders) where
       (λ d. refl)
 
   pub mark_open : (i outcome : ℕ) → open_at (mark_answered b i outcome) j ≡ open_at b j
-  unfolding mark_answered if◌then◌else◌
+  unfolding mark_answered if◌then◌otherwise◌
   mark_open i outcome =
-      in_table (λ t. open_at (if t then settle b i outcome else b) j ≡ open_at b j) b most_requests i
+      in_table (λ t. open_at (if t then settle b i outcome otherwise b) j ≡ open_at b j) b most_requests i
       (λ l h. same_open b (settle b i outcome) l (length_settle b l i h outcome) j k (span_settle b l i h outcome (open_base j) open_size (inr (omega arith))))
       (λ d. refl)

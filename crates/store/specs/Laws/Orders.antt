@@ -8,7 +8,7 @@ use Prim.Native.Nat.{ℕ}
 use Rattle.std.proofs.lemmas.Bool.{not-false}
 use Rattle.std.proofs.Math.Dec.{eqb}
 use Rattle.std.proofs.Math.ListN.{length, get_or}
-use Rattle.prelude.specs.Cases.{if◌then◌else◌, clash}
+use Rattle.prelude.specs.Cases.{if◌then◌otherwise◌, clash}
 use Rattle.prelude.specs.Span.{span, span_byte, splice_whole}
 use Rattle.prelude.specs.Number.{Bytes, word16}
 use Rattle.prelude.specs.Pieces.{joined, offset, Sized, writes, writes_joined, length_joined, piece_at}
@@ -36,7 +36,7 @@ is_order s r h = λ i. record {
 
 module _ (g : GatewayCancel) (h : OneStage g) where
   pub unsent_stage : unsent_of (stage_of g) g.origdownstream ≡ g.unsent
-  unfolding unsent_of malformed stage_of if◌then◌else◌
+  unfolding unsent_of malformed stage_of if◌then◌otherwise◌
   unsent_stage = go (eqb g.origdownstream 0) g.unsent g.stuck refl refl refl
     where
       go : (a u k : Bool) → eqb g.origdownstream 0 ≡ a → g.unsent ≡ u → g.stuck ≡ k → unsent_of (stage_of g) g.origdownstream ≡ g.unsent
@@ -46,7 +46,7 @@ module _ (g : GatewayCancel) (h : OneStage g) where
       go false false false e p q = rw (e, p, q)
 
   pub stuck_stage : stuck_of (stage_of g) g.origdownstream ≡ g.stuck
-  unfolding stuck_of malformed stage_of if◌then◌else◌
+  unfolding stuck_of malformed stage_of if◌then◌otherwise◌
   stuck_stage = go (eqb g.origdownstream 0) g.unsent g.stuck refl refl refl
     where
       go : (a u k : Bool) → eqb g.origdownstream 0 ≡ a → g.unsent ≡ u → g.stuck ≡ k → stuck_of (stage_of g) g.origdownstream ≡ g.stuck
@@ -57,7 +57,7 @@ module _ (g : GatewayCancel) (h : OneStage g) where
       go false false false e p q = rw (e, p, q)
 
 no_stage : (stage link : ℕ) → link ≡ 0 → malformed stage link ≡ false → stage ≡ 0
-unfolding malformed if◌then◌else◌
+unfolding malformed if◌then◌otherwise◌
 no_stage stage link z m = eqb-true stage 0 (not-false (eqb stage 0) (rw (eq-eqb link 0 z) at m))
 
 -- marks that were read are those of one stage, unless both stand

@@ -3,7 +3,7 @@ use Rattle.std.specs.Prelude.{◌≡◌, refl, Bool, true, false, ◌&&◌, ◌�
 use Rattle.std.proofs.Common.{sym, ap, ◌∙◌, inl, inr, ⊎_elim, arith, eqb-true, eq-eqb, ne_eqb, ltb-true, ltb-false, lt-ltb}
 use Rattle.std.proofs.lemmas.Bool.{eqb-false}
 use Rattle.std.proofs.Math.Seq.{set_out}
-use Rattle.prelude.specs.Cases.{if◌then◌else◌, split_if}
+use Rattle.prelude.specs.Cases.{if◌then◌otherwise◌, split_if}
 use Rattle.prelude.specs.Lists.{list_below, length_list, get_list, list_ext, list_set_any}
 use Rattle.prelude.specs.Span.{span, length_span}
 use Rattle.prelude.specs.Number.{Bytes}
@@ -16,7 +16,7 @@ use Rattle.store.specs.Laws.Orders.{fits_order, whole_order}
 use Rattle.store.specs.Requests.{WholeRequest, no_request}
 use Rattle.store.specs.Laws.Requests.{whole_request}
 use Rattle.store.specs.Book.{order_in, request_in, order_at, put_order, request_at, put_request, is_book, count_at, order_count, request_count, setting_of, book_of, load_order, load_request, store_order, with_order}
-use Rattle.store.specs.Laws.Tables.{same_count, same_setting, length_put_order, span_put_order, order_put, order_put_other, request_put_order, length_put_request, span_put_request, request_put, request_put_other, order_put_request}
+use Rattle.store.specs.Laws.Tables.{same_count, same_setting, length_put_order, span_put_order, order_put, order_put_other, request_put_order, length_put_request, span_put_request, order_put_request}
 
 -- ---- counts and records
 
@@ -26,7 +26,7 @@ count_most at most b = split_if (λ n. n ≤ most) (is_book b) (λ e. omega arit
 
 -- a count above 0 is a book's
 pub count_book : (at most : ℕ) (b : List ℕ) (i : ℕ) → i < count_at at most b → length b ≡ book_size
-unfolding count_at if◌then◌else◌
+unfolding count_at if◌then◌otherwise◌
 count_book at most b i h = go (is_book b) refl
   where
     go : (t : Bool) → is_book b ≡ t → length b ≡ book_size
@@ -51,14 +51,14 @@ request_in_lem b i h = get_list (request_at b) no_request (request_count b) i h
 
 -- a record in use is loaded as the book has it
 pub load_order_in : (b : List ℕ) (i : ℕ) → i < order_count b → load_order b i ≡ order_in (book_of b) i
-unfolding load_order if◌then◌else◌
+unfolding load_order if◌then◌otherwise◌
 load_order_in b i h =
     let l : length b ≡ book_size = count_book header·orders most_orders b i h in
     let k : i < most_orders = omega (arith, count_most header·orders most_orders b) in
     rw (eq-eqb _ _ l, lt-ltb _ _ k) (sym (order_in_lem b i h))
 
 pub load_request_in : (b : List ℕ) (i : ℕ) → i < request_count b → load_request b i ≡ request_in (book_of b) i
-unfolding load_request if◌then◌else◌
+unfolding load_request if◌then◌otherwise◌
 load_request_in b i h =
     let l : length b ≡ book_size = count_book header·requests most_requests b i h in
     let k : i < most_requests = omega (arith, count_most header·requests most_requests b) in
@@ -94,7 +94,7 @@ in_table P b most i f g = go (is_book b) (ltb i most) refl refl
 
 -- and then no record in use stands there
 pub count_out : (at most : ℕ) (b : List ℕ) (i : ℕ) → ((length b ≡ book_size → ⊥) ⊎ (most ≤ i)) → count_at at most b ≤ i
-unfolding count_at if◌then◌else◌
+unfolding count_at if◌then◌otherwise◌
 count_out at most b i d = ⊎_elim (λ n. rw (ne_eqb (length b) book_size n) (omega arith)) (λ k. omega (arith, count_most at most b)) d
 
 -- ---- an order stored
@@ -126,15 +126,15 @@ module _ (b : List ℕ) (l : length b ≡ book_size) (i : ℕ) (h : i < most_ord
 
 -- THE LAW of a stored order: on any buffer, at any index
 pub store_order_book : (b : List ℕ) (i : ℕ) (o : Order) → WholeOrder o → book_of (store_order b i o) ≡ with_order (book_of b) i o
-unfolding store_order if◌then◌else◌
+unfolding store_order if◌then◌otherwise◌
 store_order_book b i o w =
-    in_table (λ t. book_of (if t then put_order b i o else b) ≡ with_order (book_of b) i o) b most_orders i (λ l h. put_order_book b l i h o w) (λ d. sym (out d))
+    in_table (λ t. book_of (if t then put_order b i o otherwise b) ≡ with_order (book_of b) i o) b most_orders i (λ l h. put_order_book b l i h o w) (λ d. sym (out d))
   where
     out : ((length b ≡ book_size → ⊥) ⊎ (most_orders ≤ i)) → with_order (book_of b) i o ≡ book_of b
     out d = λ t. record { setting = (book_of b).setting; orders = set_out (book_of b).orders i o (omega (arith, length_orders b, count_out header·orders most_orders b i d)) t; requests = (book_of b).requests }
 
 pub load_stored_order : (b : List ℕ) (i : ℕ) (o : Order) → length b ≡ book_size → i < most_orders → WholeOrder o → load_order (store_order b i o) i ≡ o
-unfolding load_order store_order if◌then◌else◌
+unfolding load_order store_order if◌then◌otherwise◌
 load_stored_order b i o l h w =
     rw (eq-eqb _ _ l, lt-ltb _ _ h, eq-eqb _ _ (length_put_order b l i h o w.fits)) (order_put b l i h o w)
 

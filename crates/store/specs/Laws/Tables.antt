@@ -5,7 +5,7 @@ use Rattle.std.proofs.Common.{◌∙◌, inl, inr, arith}
 use Rattle.std.proofs.Math.Logic.{⊎_elim}
 use borrow.Author.Tests.{eq-eqb}
 use Rattle.std.proofs.Math.ListN.{length}
-use Rattle.prelude.specs.Cases.{if◌then◌else◌}
+use Rattle.prelude.specs.Cases.{if◌then◌otherwise◌}
 use Rattle.prelude.specs.Span.{span, splice, length_splice, span_splice_same, span_splice_before, span_splice_after}
 use Rattle.prelude.specs.Number.{bytes_of}
 use Rattle.prelude.specs.Table.{length_put_row, row_put, row_put_other, span_put_row}
@@ -92,7 +92,7 @@ module _ (b : List ℕ) (l : length b ≡ book_size) (at n : ℕ) (h : at + 2 �
       ⊎_elim (λ p. span_splice_before b at (bytes_of 2 n) j k p (omega arith)) (λ p. span_splice_after b at (bytes_of 2 n) j k p (omega arith)) d
 
   pub count_set_count : (most : ℕ) → n < 65536 → count_at at most (set_count b at n) ≡ min most n
-  unfolding count_at if◌then◌else◌ set_count
+  unfolding count_at if◌then◌otherwise◌ set_count
   count_set_count most k =
       let m : length (splice b at (bytes_of 2 n)) ≡ book_size = length_splice b at (bytes_of 2 n) (omega arith) ∙ l in
       rw (eq-eqb _ _ m, read_16 (splice b at (bytes_of 2 n)) at n (omega arith) k (span_splice_same b at (bytes_of 2 n) 2 refl (omega arith)))

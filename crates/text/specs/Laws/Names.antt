@@ -1,12 +1,10 @@
 -- The laws of numbered names: each is a text, and its name and its number are known from it. Rests on Numbered.
-use Rattle.std.specs.Prelude.{◌≡◌, refl, Bool, true, false, ◌&&◌, ◌||◌, ℕ, suc, ◌+◌, ◌≤◌, ◌<◌, leb, get_or}
+use Rattle.std.specs.Prelude.{◌≡◌, refl, true, ℕ, suc, ◌+◌, ◌≤◌, ◌<◌, leb, get_or}
 use Rattle.std.proofs.Common.{sym, subst, ◌∙◌, arith, le-leb, leb-true, length-take}
 use Rattle.std.proofs.Math.Path.{ap}
 use mathlib.Core.List.{List, [], ◌∷◌, ◌++◌}
 use Rattle.std.proofs.Math.ListN.{length}
-use Rattle.prelude.specs.Below.{all_elim}
-use Rattle.prelude.specs.Cases.{if◌then◌else◌, clash, split_if}
-use Rattle.prelude.specs.Lists.{all_in}
+use Rattle.prelude.specs.Cases.{if◌then◌otherwise◌, split_if}
 use Rattle.prelude.specs.Texts.{contents, text_of, is_text, long_text, contents_text, is_text_lem, text_contents}
 use Rattle.prelude.specs.declared.Text.{Text}
 use Rattle.text.specs.Numbered.{decimal, numbered_bytes, numbered_text}
@@ -50,7 +48,7 @@ module _ (t : Text) (k : ℕ) where
       (λ e. refl)
 
   numbered_is : Fits t k → numbered_text t k ≡ text_of (numbered_bytes t k)
-  unfolding Fits numbered_text if◌then◌else◌
+  unfolding Fits numbered_text if◌then◌otherwise◌
   numbered_is f = rw (le-leb (length (numbered_bytes t k)) 32 f)
 
   pub numbered_contents : Fits t k → contents (numbered_text t k) ≡ numbered_bytes t k

@@ -6,29 +6,29 @@ use mathlib.Core.List.{List, [], ◌∷◌, ◌++◌, append_assoc, append-nil}
 use Rattle.std.proofs.Math.ListN.{replicate}
 use Rattle.std.proofs.lemmas.List.{replicate-append-replicate, take-append-le}
 use Rattle.std.proofs.Math.Seq.{take-set-lt, set-append_seam}
-use Rattle.prelude.specs.Cases.{if◌then◌else◌, split_if}
+use Rattle.prelude.specs.Cases.{if◌then◌otherwise◌, split_if}
 use Rattle.prelude.specs.Texts.{contents, text_of}
 use Rattle.prelude.specs.declared.Text.{Text}
 use Rattle.text.specs.Words.{push_text, push_all}
 use Rattle.text.specs.Numbered.{decimal, digits_of, numbered_bytes}
 
 open_digits : (f k : ℕ) → 10 ≤ k → digits_of (suc f) k ≡ digits_of f (k / 10) ++ ((48 + k % 10) ∷ [])
-unfolding digits_of if◌then◌else◌
+unfolding digits_of if◌then◌otherwise◌
 open_digits f k h = rw (le-ltb k 10 h)
 
 -- any f that is large enough gives the same digits
 enough : (f g k : ℕ) → k ≤ f → k ≤ g → digits_of f k ≡ digits_of g k
-unfolding digits_of if◌then◌else◌
+unfolding digits_of if◌then◌otherwise◌
 enough zero zero k h j = refl
 enough zero (suc g) k h j = rw (lt-ltb k 10 (omega arith))
 enough (suc f) zero k h j = rw (lt-ltb k 10 (omega arith))
 enough (suc f) (suc g) k h j =
-    split_if (λ x. x ≡ (if ltb k 10 then (48 + k) ∷ [] else digits_of g (k / 10) ++ ((48 + k % 10) ∷ []))) (ltb k 10)
+    split_if (λ x. x ≡ (if ltb k 10 then (48 + k) ∷ [] otherwise digits_of g (k / 10) ++ ((48 + k % 10) ∷ []))) (ltb k 10)
     (λ e. rw e)
     (λ e. let m : 10 ≤ k = ltb-false k 10 e in rw (e, enough f g (k / 10) (omega arith) (omega arith)))
 
 pub decimal_digit : (k : ℕ) → k < 10 → decimal k ≡ (48 + k) ∷ []
-unfolding decimal digits_of if◌then◌else◌
+unfolding decimal digits_of if◌then◌otherwise◌
 decimal_digit k h = enough k 9 k (omega arith) (omega arith) ∙ rw (lt-ltb k 10 h)
 
 pub decimal_more : (k : ℕ) → 10 ≤ k → decimal k ≡ decimal (k / 10) ++ ((48 + k % 10) ∷ [])
@@ -76,7 +76,7 @@ length_more k h = ap length (decimal_more k h) ∙ length-append (decimal (k / 1
 
 -- 1 to 5 for a number of 16 bits
 abbrev pub width_of : ℕ → ℕ
-width_of k = if ltb k 10 then 1 else if ltb k 100 then 2 else if ltb k 1000 then 3 else if ltb k 10000 then 4 else 5
+width_of k = if ltb k 10 then 1 otherwise if ltb k 100 then 2 otherwise if ltb k 1000 then 3 otherwise if ltb k 10000 then 4 otherwise 5
 
 pub length_decimal : (k : ℕ) → k < 65536 → length (decimal k) ≡ width_of k
 length_decimal k h =
@@ -108,7 +108,7 @@ width_most k =
 
 module _ (l : List ℕ) where
   pub push_text_lem : (x : ℕ) → length l < 32 → push_text (text_of l) x ≡ text_of (l ++ (x ∷ []))
-  unfolding push_text text_of if◌then◌else◌
+  unfolding push_text text_of if◌then◌otherwise◌
   push_text_lem x h = rw (lt-ltb (length l) 32 h) (λ i. record { bytes = bytes i; len = sym (length-append l (x ∷ [])) i })
     where
       -- the zeros behind x, one more than are looked at

@@ -1,0 +1,86 @@
+-- `fix::put::put_tag`: one, two or three digits, the last first. Rests on decimal's Laws.Width.
+use mathlib.Core.Path.{◌≡◌, sym, ap, ◌∙◌}
+use mathlib.Core.List.{List}
+use Prim.Native.Nat.{ℕ, ◌+◌, ◌/◌, ◌≤◌, ◌<◌}
+use native.Mathlib.Omega.{arith}
+use lib.ListN.{length, set, length-set}
+use Rattle.prelude.specs.Span.{splice, set_splice}
+use Rattle.decimal.specs.Decimal.{lowest, digits, low_digits, decimal}
+use Rattle.decimal.specs.Laws.Width.{low_put, low_all, width_one, width_more}
+use Rattle.fix_words.specs.Laws.Counting.{decimal_none}
+use Rattle.fix.proofs.put.put_tag.Goals as goal
+use Rattle.fix.proofs.put.put_tag.Goals.{Then-tag-lt10, Then-tag-lt100, Then-tag-lt1000}
+
+-- how many digits
+long_one : (n : ℕ) → n < 10 → length (decimal 0 n) ≡ 1
+long_one n h = ap length (decimal_none n) ∙ width_one n h
+
+long_two : (n : ℕ) → 10 ≤ n → n < 100 → length (decimal 0 n) ≡ 2
+long_two n l h = ap length (decimal_none n) ∙ omega (arith, width_more n l, width_one (n / 10) (omega arith))
+
+long_three : (n : ℕ) → 100 ≤ n → n < 1000 → length (decimal 0 n) ≡ 3
+long_three n l h =
+    let a : length (digits n) ≡ length (digits (n / 10)) + 1 = width_more n (omega arith) in
+    let b : length (digits (n / 10)) ≡ length (digits (n / 10 / 10)) + 1 = width_more (n / 10) (omega arith) in
+    let c : length (digits (n / 10 / 10)) ≡ 1 = width_one (n / 10 / 10) (omega arith) in
+    ap length (decimal_none n) ∙ omega (arith, a, b, c)
+
+-- that many low digits are all
+all_low : (n w : ℕ) → length (decimal 0 n) ≡ w → low_digits w n ≡ decimal 0 n
+all_low n w e = ap (λ (k : ℕ). low_digits k n) (sym e ∙ ap length (decimal_none n)) ∙ low_all n ∙ sym (decimal_none n)
+
+last : (s : List ℕ) (at n : ℕ) → at + 1 ≤ length s → set s at (lowest n) ≡ splice s at (low_digits 1 n)
+unfolding low_digits
+last s at n h = set_splice s at (lowest n) (omega arith)
+
+last_two : (s : List ℕ) (at n : ℕ) → at + 2 ≤ length s → set (set s (at + 1) (lowest n)) at (lowest (n / 10)) ≡ splice s at (low_digits 2 n)
+last_two s at n h = last (set s (at + 1) (lowest n)) at (n / 10) (omega (arith, length-set s (at + 1) (lowest n))) ∙ low_put s at 1 n h
+
+last_three : (s : List ℕ) (at n : ℕ) → at + 3 ≤ length s
+    → set (set (set s (at + 2) (lowest n)) (at + 1) (lowest (n / 10))) at (lowest (n / 10 / 10)) ≡ splice s at (low_digits 3 n)
+last_three s at n h = last_two (set s (at + 2) (lowest n)) at (n / 10) (omega (arith, length-set s (at + 2) (lowest n))) ∙ low_put s at 2 n h
+
+-- of the function's tag
+one : (c : Then-tag-lt10) → length (decimal 0 c.args.tag) ≡ 1
+one c = long_one c.args.tag c.if-tag-lt10.true
+
+two : (c : Then-tag-lt100) → length (decimal 0 c.args.tag) ≡ 2
+two c = long_two c.args.tag c.if-tag-lt10.false c.if-tag-lt100.true
+
+three : (c : Then-tag-lt1000) → length (decimal 0 c.args.tag) ≡ 3
+three c = long_three c.args.tag c.if-tag-lt100.false c.if-tag-lt1000.true
+
+pub bounds-out-at : goal.bounds-out-at
+bounds-out-at c = omega (arith, one c)
+
+pub returns-then-tag-lt10 : goal.returns-then-tag-lt10
+returns-then-tag-lt10 c =
+    let a = c.args in
+    (omega (arith, one c), last a.out.now a.at a.tag (omega (arith, one c)) ∙ ap (splice a.out.now a.at) (all_low a.tag 1 (one c)))
+
+pub bounds-out-at-then-tag-lt100 : goal.bounds-out-at-then-tag-lt100
+bounds-out-at-then-tag-lt100 c = omega (arith, two c)
+
+pub bounds-out-at-then-tag-lt100-2 : goal.bounds-out-at-then-tag-lt100-2
+bounds-out-at-then-tag-lt100-2 c = let a = c.args in omega (arith, two c, length-set a.out.now (a.at + 1) (lowest a.tag))
+
+pub returns-then-tag-lt100 : goal.returns-then-tag-lt100
+returns-then-tag-lt100 c =
+    let a = c.args in
+    (omega (arith, two c), last_two a.out.now a.at a.tag (omega (arith, two c)) ∙ ap (splice a.out.now a.at) (all_low a.tag 2 (two c)))
+
+pub bounds-out-at-then-tag-lt1000 : goal.bounds-out-at-then-tag-lt1000
+bounds-out-at-then-tag-lt1000 c = omega (arith, three c)
+
+pub bounds-out-at-then-tag-lt1000-2 : goal.bounds-out-at-then-tag-lt1000-2
+bounds-out-at-then-tag-lt1000-2 c = let a = c.args in omega (arith, three c, length-set a.out.now (a.at + 2) (lowest a.tag))
+
+pub bounds-out-at-then-tag-lt1000-3 : goal.bounds-out-at-then-tag-lt1000-3
+bounds-out-at-then-tag-lt1000-3 c =
+    let a = c.args in
+    omega (arith, three c, length-set (set a.out.now (a.at + 2) (lowest a.tag)) (a.at + 1) (lowest (a.tag / 10)), length-set a.out.now (a.at + 2) (lowest a.tag))
+
+pub returns-then-tag-lt1000 : goal.returns-then-tag-lt1000
+returns-then-tag-lt1000 c =
+    let a = c.args in
+    (omega (arith, three c), last_three a.out.now a.at a.tag (omega (arith, three c)) ∙ ap (splice a.out.now a.at) (all_low a.tag 3 (three c)))

@@ -1,0 +1,11 @@
+-- `format::is_ordtype`: the map is that of the list, computed for every byte. Assumes nothing.
+use borrow.Author.Rules.{rules}
+use mathlib.Core.Path.{refl, ◌∙◌}
+use Rattle.prelude.specs.Below.{all_below}
+use Rattle.format.specs.Laws.Codes.{agree}
+use Rattle.format.specs.Codes.{is_ordtype, ordtypes}
+use Rattle.format.proofs.is_ordtype.Goals as goal
+
+pub returns : goal.returns
+unfolding is_ordtype ordtypes all_below
+returns c = c.in_map.ensures ∙ agree 6 ordtypes refl c.before.args.code (search rules)

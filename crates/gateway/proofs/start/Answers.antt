@@ -1,0 +1,9 @@
+-- `start` is `start_refusal` and `start_of`. Assumes nothing.
+use Rattle.gateway.specs.Laws.Entered.{cleared, uncleared}
+use Rattle.gateway.proofs.start.Goals as goal
+
+pub returns-then-book-ne-BOOK : goal.returns-then-book-ne-BOOK
+returns-then-book-ne-BOOK c = uncleared _ _ c.if-book-ne-BOOK.true
+
+pub returns : goal.returns
+returns c = let k = c in cleared _ _ _ c.if-book-ne-BOOK.false k.clear.ensures

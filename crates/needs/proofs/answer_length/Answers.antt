@@ -1,0 +1,6 @@
+-- `needs::answer_length`: what the writer returns, over a buffer that is long enough. Assumes nothing.
+use Rattle.needs.specs.Laws.Needs.{written_length}
+use Rattle.needs.proofs.answer_length.Goals as goal
+
+pub returns : goal.returns
+returns c = written_length _ _ _ _ c.write_answer.ensures.0

@@ -1,0 +1,13 @@
+-- `orders::change::telling` is `telling`. Assumes nothing.
+use borrow.Author.Tests.{eq-eqb, ne_eqb}
+use Rattle.prelude.specs.Cases.{if◌then◌otherwise◌}
+use Rattle.machine.specs.Changes.{telling}
+use Rattle.orders.proofs.change.telling.Goals as goal
+
+pub returns-then-c-eq0 : goal.returns-then-c-eq0
+unfolding telling if◌then◌otherwise◌
+returns-then-c-eq0 c = rw (eq-eqb _ _ c.if-c-eq0.true)
+
+pub returns : goal.returns
+unfolding telling if◌then◌otherwise◌
+returns c = rw (ne_eqb _ _ c.if-c-eq0.false)

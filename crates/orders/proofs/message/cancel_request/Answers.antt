@@ -1,0 +1,15 @@
+-- `orders::message::cancel_request` is `cancel_request`. Assumes nothing.
+use mathlib.Core.Path.{refl}
+use mathlib.Core.Logic.{inl, inr}
+use Rattle.prelude.specs.Cases.{if◌then◌otherwise◌}
+use Rattle.format.specs.Format.{required, required_bits}
+use Rattle.machine.specs.Messages.{cancel_request, bit_if}
+use Rattle.orders.specs.Laws.Maps.{extra_bits}
+use Rattle.orders.proofs.message.cancel_request.Goals as goal
+
+pub returns : goal.returns
+unfolding cancel_request extra_bits required required_bits bit_if if◌then◌otherwise◌
+returns c = c.to_venue.ensures
+
+pub to_venue-requires : goal.to_venue-requires
+to_venue-requires c = inr (inl refl)

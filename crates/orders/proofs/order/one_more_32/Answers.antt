@@ -1,0 +1,13 @@
+-- `orders::order::one_more_32` is `one_more`. Assumes nothing.
+use borrow.Author.Tests.{lt-ltb, le-ltb}
+use Rattle.prelude.specs.Cases.{if◌then◌otherwise◌}
+use Rattle.machine.specs.Orders.{one_more}
+use Rattle.orders.proofs.order.one_more_32.Goals as goal
+
+pub returns-then-n-lt4294967295 : goal.returns-then-n-lt4294967295
+unfolding one_more if◌then◌otherwise◌
+returns-then-n-lt4294967295 c = rw (lt-ltb _ _ c.if-n-lt4294967295.true)
+
+pub returns : goal.returns
+unfolding one_more if◌then◌otherwise◌
+returns c = rw (le-ltb _ _ c.if-n-lt4294967295.false)

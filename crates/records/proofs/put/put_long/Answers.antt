@@ -1,0 +1,37 @@
+-- `records::put::put_long`: at most 64 bytes of a text. Assumes nothing.
+use borrow.Author.Rules.{rules}
+use native.Mathlib.Omega.{arith}
+use Rattle.records.specs.Fields.{long_bytes}
+use Rattle.records.specs.Laws.Writing.{Cut, cut_fits, cut_over}
+use Rattle.records.proofs.put.put_long.Goals as goal
+use Rattle.records.proofs.put.put_long.Goals.{After-bytes-2-1, After-bytes-then-n-le64-1}
+
+pub slice_bounds-put_text-end : goal.slice_bounds-put_text-end
+slice_bounds-put_text-end c = search rules
+
+pub slice_bounds-put_text-end-2 : goal.slice_bounds-put_text-end-2
+slice_bounds-put_text-end-2 c = search rules
+
+fits : (c : After-bytes-then-n-le64-1) → let t = c.args.t in Cut 64 t.len t.bytes (long_bytes t) t.len
+unfolding long_bytes
+fits c = let t = c.args.t in cut_fits 64 t.len t.bytes (omega (arith, slice_bounds-put_text-end c)) (search rules)
+
+over : (c : After-bytes-2-1) → let t = c.args.t in Cut 64 t.len t.bytes (long_bytes t) 64
+unfolding long_bytes
+over c = let t = c.args.t in cut_over 64 t.len t.bytes (omega (arith, slice_bounds-put_text-end-2 c)) (search rules)
+
+pub put_text-requires : goal.put_text-requires
+put_text-requires c = omega (arith, fits c, slice_bounds-put_text-end c)
+
+pub returns-then-n-le64 : goal.returns-then-n-le64
+returns-then-n-le64 c =
+    let f = fits (goal.at.returns-then-n-le64 c).After-bytes-then-n-le64-1 in
+    rw (f.long, f.is) c.put_text.ensures
+
+pub put_text-requires-2 : goal.put_text-requires-2
+put_text-requires-2 c = omega (arith, over c, slice_bounds-put_text-end-2 c)
+
+pub returns : goal.returns
+returns c =
+    let f = over (goal.at.returns c).After-bytes-2-1 in
+    rw (f.long, f.is) c.put_text-2.ensures

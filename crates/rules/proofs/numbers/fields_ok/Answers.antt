@@ -1,0 +1,13 @@
+-- `fields_ok` meets its contract: each field in place. Rests on store's Fields.
+use Rattle.store.specs.Laws.Fields.{request_kind, request_answered, request_clordid}
+use Rattle.machine.specs.Changes.{is_gateway}
+use Rattle.rules.specs.Laws.Origin.{fields_range}
+use Rattle.rules.proofs.numbers.fields_ok.Goals as goal
+
+pub returns : goal.returns
+unfolding fields_range is_gateway
+returns c = let p = c in
+    let a = c.args in
+    let b = a.book.now in
+    let j = a.j in
+    rw (p.optional-clordid.ensures, request_kind b j, request_answered b j, request_clordid b j)

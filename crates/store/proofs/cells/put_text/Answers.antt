@@ -1,0 +1,35 @@
+-- `put_text` meets its contract: the bytes, and the length behind them, are one splice. Rests on prelude's Span.
+use mathlib.Core.Path.{◌≡◌, sym, ap, ◌∙◌}
+use mathlib.Core.List.{[], ◌∷◌}
+use Prim.Native.Nat.{ℕ, ◌+◌}
+use native.Mathlib.Omega.{arith}
+use lib.ListN.{length, get_or}
+use Rattle.prelude.specs.Span.{splice, splice_append}
+use Rattle.prelude.specs.Texts.{WholeText}
+use Rattle.store.specs.Cells.{text_bytes}
+use mir.Val.{Fits}
+use mir.Syntax.{w8}
+use borrow.Author.Rules.{rules}
+use Rattle.store.proofs.cells.put_text.Goals as goal
+use Rattle.store.proofs.cells.put_text.Goals.{Start}
+
+whole : (s : Start) → WholeText s.args.t
+whole s = record {
+  long = search rules;
+  len = search rules;
+  bytes = λ k. let f : Fits w8 (get_or s.args.t.bytes k 0) = search rules in omega arith;
+}
+
+pub put-requires : goal.put-requires
+put-requires c = let h : length c.args.t.bytes ≡ 32 = search rules in
+    omega arith
+
+pub returns : goal.returns
+unfolding text_bytes
+returns c = let a = c.args in
+    let h : length a.t.bytes ≡ 32 = search rules in (
+      rw (c.put8.ensures, c.put.ensures)
+          (ap (λ (n : ℕ). splice (splice a.s.now a.at a.t.bytes) (a.at + n) (a.t.len ∷ [])) (sym h)
+          ∙ splice_append a.s.now a.at a.t.bytes (a.t.len ∷ []) (omega arith)),
+      whole (goal.at.returns c).Start,
+    )

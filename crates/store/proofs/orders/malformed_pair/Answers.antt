@@ -1,0 +1,17 @@
+-- `malformed_pair` meets its contract: one case of the definition at each return. Assumes nothing.
+use borrow.Author.Tests.{eq-eqb, ne_eqb}
+use Rattle.prelude.specs.Cases.{if◌then◌otherwise◌}
+use Rattle.store.specs.Orders.{malformed}
+use Rattle.store.proofs.orders.malformed_pair.Goals as goal
+
+pub returns-then-link-eq0 : goal.returns-then-link-eq0
+unfolding malformed if◌then◌otherwise◌
+returns-then-link-eq0 c = rw (eq-eqb _ _ c.if-link-eq0.true)
+
+pub returns-then-stage-eq0 : goal.returns-then-stage-eq0
+unfolding malformed if◌then◌otherwise◌
+returns-then-stage-eq0 c = rw (ne_eqb _ _ c.if-link-eq0.false, eq-eqb _ _ c.if-stage-eq0.true)
+
+pub returns : goal.returns
+unfolding malformed if◌then◌otherwise◌
+returns c = rw (ne_eqb _ _ c.if-link-eq0.false, ne_eqb _ _ c.if-stage-eq0.false)
