@@ -1,2 +1,3 @@
 pub mod Booking
-pub mod Prices
+pub mod Why
+pub mod Taken

@@ -1,3 +1,3 @@
 pub mod Booking
 pub mod Laws
-pub mod Prices
+pub mod Why

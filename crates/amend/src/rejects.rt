@@ -6,51 +6,55 @@ ghost use Rattle.store.specs.Orders.{no_pending};
 ghost use Rattle.machine.specs.Messages.{cancel_reject};
 ghost use Rattle.machine.specs.Changes.{unchanged, answering, alarming};
 ghost use Rattle.machine.specs.Amend.{not_pending, refused_order, refused_alarm, refused_note, refuse_request, venue_note, venue_cancel_reject, first_failed, send_failed, resendable, unsent};
+ghost use Rattle.orders.specs.Alarms.{alarm_in};
 
-use crate::{OTHER, OURS, has};
+use crate::has;
 use format::{bit, codes};
 use gateway_cancel::tries;
-use machine::{Change, Findings, Note, Refused};
-use orders::{change, message, order};
+use machine::{Change, Note, Refused};
+use orders::alarm::Alarm;
+use orders::{Known, change, message, order, reasons};
 use records::Record;
 use store::{Order, Pending, Request};
 
-// The fixed texts.
+// The fixed texts: bytes of messages, in which any may stand, so numbers and no enum.
 const TEXT_REJECTED: u8 = 10;
 
 const TEXT_NOT_SENT: u8 = 11;
 
 // Without the venue's word, a refused request no longer holds the order pending.
+#[tactic(auto, unfolding(machine::specs::Amend::not_pending), using(orders::specs::Laws::Choices::choices))]
 fn not_pending(o: Order) -> Order
     ensures { result ≡ not_pending o }
 {
-    let s = o.state.status;
-    if (s == codes::PENDING_CANCEL) | (s == codes::PENDING_REPLACE) {
-        let status = order::pick_8(0 < o.state.cumqty, codes::PARTIALLY_FILLED, codes::NEW);
-        return order::set_status(status, o);
+    match o.state.status {
+        codes::PENDING_CANCEL | codes::PENDING_REPLACE if 0 < o.state.cumqty => {
+            order::set_status(codes::PARTIALLY_FILLED, o)
+        }
+        codes::PENDING_CANCEL | codes::PENDING_REPLACE => order::set_status(codes::NEW, o),
+        _ => o,
     }
-    o
 }
 
 // What is pending, but for the request k.
+#[tactic(auto, using(orders::specs::Laws::Choices::choices))]
 fn pending_but(k: u16, p: Pending) -> Pending
     ensures { result ≡ (if eqb p.request k then no_pending otherwise p) }
 {
     if p.request == k {
-        return order::NO_PENDING;
+        store::no_pending()
+    } else {
+        p
     }
-    p
 }
 
 // The order once its request k is refused: done stays done.
+#[tactic(auto, unfolding(machine::specs::Amend::refused_order), using(orders::specs::Laws::Choices::choices))]
 fn refused_order(k: u16, r: Refused, o: Order) -> Order
     ensures { result ≡ refused_order k r o }
 {
-    let given = r.venueorderid;
-    let mut out = order::record_venue_order_id(given, false, o);
-    let was = o.pending;
-    let pending = pending_but(k, was);
-    out.pending = pending;
+    let mut out = order::record_venue_order_id(r.venueorderid, false, o);
+    out.pending = pending_but(k, o.pending);
     if order::is_done(o.state.status) {
         return out;
     }
@@ -60,199 +64,197 @@ fn refused_order(k: u16, r: Refused, o: Order) -> Order
     not_pending(out)
 }
 
-// The alarm of a short Filled that would be set; 0 is none.
-fn refused_alarm(r: Refused, o: Order) -> u8
-    ensures { result ≡ refused_alarm r o }
+// The alarm of a short Filled that would be set.
+#[tactic(auto, unfolding(machine::specs::Amend::refused_alarm), using(orders::specs::Laws::Choices::choices))]
+fn refused_alarm(r: Refused, o: Order) -> Option<Alarm>
+    ensures { alarm_in result ≡ refused_alarm r o }
 {
     if order::is_done(o.state.status) {
-        return 0;
+        return None;
     }
     order::short_alarm(o.terms.qty, o.state.cumqty, r.status)
 }
 
 // Its request k answered, the order left as it is given, and that alarm.
-fn refused_change(k: u16, place: u16, r: Refused, o: Order, left: Order) -> Change
-    ensures { result ≡ alarming (refused_alarm r o) (answering k (unchanged place left)) }
+#[tactic(auto, unfolding(machine::specs::Changes::alarming, machine::specs::Changes::answering, machine::specs::Changes::unchanged), using(orders::specs::Laws::Choices::choices))]
+fn refused_change(known: &Known, r: Refused, left: Order) -> Change
+    ensures { result ≡ alarming (refused_alarm r known.now.order) (answering known.now.link (unchanged known.now.findings.place left)) }
 {
-    let a = refused_alarm(r, o);
-    let mut out = change::settled(k, place, left);
-    out.output.alarm = a;
-    out
+    let alarm = refused_alarm(r, known.order);
+    change::answering(
+        known.link,
+        change::raising_if(alarm, known.findings.place, left),
+    )
 }
 
 // What the client is told: the text that came, or that the venue rejected it; the venue's reason,
 // or Other.
+#[tactic(auto, unfolding(machine::specs::Amend::refused_note), using(orders::specs::Laws::Choices::choices))]
 fn refused_note(n: Note) -> Note
     ensures { result ≡ refused_note n }
 {
-    let text = n.text;
-    let fixedtext = order::pick_8(
-        (n.text.len == 0) & (n.fixedtext == 0),
-        TEXT_REJECTED,
-        n.fixedtext,
-    );
-    let reason = order::pick_32(n.origin == 0, OTHER, n.reason);
-    let origin = order::pick_8(n.origin == 0, OURS, n.origin);
-    Note {
-        text,
-        fixedtext,
-        reason,
-        origin,
+    let mut out = n;
+    if n.text.len == 0 && n.fixedtext == 0 {
+        out.fixedtext = TEXT_REJECTED;
     }
+    if n.origin == 0 {
+        out.reason = reasons::OTHER;
+        out.origin = reasons::OURS;
+    }
+    out
 }
 
 // And the message that tells it, with the status that the order is left at.
 fn refused_message(q: Request, status: u8, n: Note, o: Order) -> Record
     ensures { result ≡ cancel_reject o.client o.names.name status q.clordid q.origclordid q.kind (refused_note n) }
 {
-    let names = o.names;
-    let name = names.name;
-    let clordid = q.clordid;
-    let orig = q.origclordid;
-    let told = refused_note(n);
-    message::cancel_reject(o.client, name, status, clordid, orig, q.kind, told)
+    message::cancel_reject(
+        o.client,
+        o.names.name,
+        status,
+        q.clordid,
+        q.origclordid,
+        q.kind,
+        refused_note(n),
+    )
 }
 
-pub fn refuse_request(f: Findings, k: u16, q: Request, venue: u16, r: Refused, o: Order) -> Change
-    ensures { result ≡ refuse_request f k q venue r o }
+#[tactic(auto, unfolding(machine::specs::Amend::refuse_request), using(orders::specs::Laws::Choices::choices))]
+pub fn refuse_request(known: &Known, venue: u16, r: Refused) -> Change
+    ensures { result ≡ refuse_request known.now.findings known.now.link known.now.request venue r known.now.order }
 {
-    if change::is_first(q) {
-        return change::unchanged(f.place, o);
+    let o = known.order;
+    if change::is_first(known.request) || o.venue != venue || change::is_answered(known.request) {
+        return change::unchanged(known.findings.place, o);
     }
-    if o.venue != venue {
-        return change::unchanged(f.place, o);
+    let order = refused_order(known.link, r, o);
+    let c = refused_change(known, r, order);
+    if change::is_gateway(known.request) {
+        if o.links.cancel != known.link {
+            return c;
+        }
+        return gateway_cancel::gateway_cancel_refused(known.findings, r.note, c);
     }
-    if change::is_answered(q) {
-        return change::unchanged(f.place, o);
-    }
-    let order = refused_order(k, r, o);
-    let c = refused_change(k, f.place, r, o, order);
-    let gateway = change::is_gateway(q);
-    if gateway & (o.links.cancel != k) {
-        return c;
-    }
-    let note = r.note;
-    if gateway {
-        return gateway_cancel::gateway_cancel_refused(f, note, c);
-    }
-    let m = refused_message(q, order.state.status, note, o);
+    let m = refused_message(known.request, order.state.status, r.note, o);
     change::telling(m, c)
 }
 
+#[tactic(auto, unfolding(machine::specs::Amend::venue_note), using(orders::specs::Laws::Choices::choices))]
 fn venue_note(e: Record) -> Note
     ensures { result ≡ venue_note e }
 {
-    let text = e.text;
-    let origin = order::pick_8(has(e, bit::REASON), gateway_cancel::VENUES, 0);
+    let origin = if has(e, bit::REASON) {
+        reasons::VENUES
+    } else {
+        0
+    };
     Note {
-        text,
-        fixedtext: 0,
+        text: e.text,
         reason: e.reason,
         origin,
+        ..message::NO_NOTE
     }
 }
 
 // Of a request that the book knows.
-pub fn venue_cancel_reject(f: Findings, k: u16, q: Request, o: Order, e: Record) -> Change
-    ensures { result ≡ venue_cancel_reject f k q o e }
+#[tactic(auto, unfolding(machine::specs::Amend::venue_cancel_reject))]
+pub fn venue_cancel_reject(known: &Known, e: Record) -> Change
+    ensures { result ≡ venue_cancel_reject known.now.findings known.now.link known.now.request known.now.order e }
 {
-    let ids = e.ids;
-    let venueorderid = ids.venueorderid;
-    let note = venue_note(e);
     let r = Refused {
         status: e.exec.status,
-        venueorderid,
-        note,
+        venueorderid: e.ids.venueorderid,
+        note: venue_note(e),
     };
-    let c = refuse_request(f, k, q, e.venue, r, o);
-    gateway_cancel::resume_gateway_cancel(f, c)
+    let c = refuse_request(known, e.venue, r);
+    gateway_cancel::resume_gateway_cancel(known.findings, c)
 }
 
 // The first send failed: the order is rejected, for a reason of ours.
-fn first_failed(f: Findings, k: u16, n: Note, o: Order) -> Change
-    ensures { result ≡ first_failed f k n o }
+#[tactic(auto, unfolding(machine::specs::Amend::first_failed))]
+fn first_failed(known: &Known, n: Note) -> Change
+    ensures { result ≡ first_failed known.now.findings known.now.link n known.now.order }
 {
-    let order = order::next_exec(order::set_status(codes::REJECTED, o));
-    let names = order.names;
-    let clordid = names.clordid;
-    let mut note = n;
-    note.reason = OTHER;
-    note.origin = OURS;
+    let order = order::next_exec(order::set_status(codes::REJECTED, known.order));
+    let note = Note {
+        reason: reasons::OTHER,
+        origin: reasons::OURS,
+        ..n
+    };
     let m = message::report(
         order,
-        clordid,
-        order::NO_TEXT,
+        order.names.clordid,
+        text::no_text(),
         codes::EXEC_REJECTED,
         0,
         message::NO_PRICE,
         note,
     );
-    change::telling(m, change::settled(k, f.place, order))
+    change::telling(m, change::settled(known.link, known.findings.place, order))
 }
 
-pub fn send_failed(f: Findings, k: u16, q: Request, venue: u16, n: Note, o: Order) -> Change
-    ensures { result ≡ send_failed f k q venue n o }
+#[tactic(auto, unfolding(machine::specs::Amend::send_failed), using(orders::specs::Laws::Choices::choices))]
+pub fn send_failed(known: &Known, venue: u16, n: Note) -> Change
+    ensures { result ≡ send_failed known.now.findings known.now.link known.now.request venue n known.now.order }
 {
-    let gateway = change::is_gateway(q);
-    let answered = change::is_answered(q);
-    if o.venue != venue {
-        return change::unchanged(f.place, o);
+    let o = known.order;
+    let place = known.findings.place;
+    let gateway = change::is_gateway(known.request);
+    let answered = change::is_answered(known.request);
+    if o.venue != venue || gateway && answered {
+        return change::unchanged(place, o);
     }
-    if gateway & answered {
-        return change::unchanged(f.place, o);
-    }
-    if gateway & !order::has_gateway(o) {
-        return change::settled(k, f.place, o);
+    if gateway && !order::has_gateway(o) {
+        return change::settled(known.link, place, o);
     }
     if gateway {
-        let was = o.gateway;
-        let now = tries::failed(was);
         let mut order = o;
-        order.gateway = now;
-        return change::settled(k, f.place, order);
+        order.gateway = tries::failed(o.gateway);
+        return change::settled(known.link, place, order);
     }
-    if !change::is_first(q) {
+    if !change::is_first(known.request) {
         let r = Refused {
             status: o.state.status,
-            venueorderid: order::NO_TEXT,
+            venueorderid: text::no_text(),
             note: n,
         };
-        return refuse_request(f, k, q, venue, r, o);
+        return refuse_request(known, venue, r);
     }
-    if answered | (o.state.status != codes::PENDING_NEW) {
-        return change::unchanged(f.place, o);
+    if answered || o.state.status != codes::PENDING_NEW {
+        return change::unchanged(place, o);
     }
-    first_failed(f, k, n, o)
+    first_failed(known, n)
 }
 
+#[tactic(auto, unfolding(machine::specs::Amend::resendable))]
 fn resendable(q: Request, venue: u16, o: Order) -> bool
     ensures { result ≡ resendable q venue o }
 {
-    !change::is_answered(q) & !order::is_done(o.state.status) & (o.venue == venue)
+    !change::is_answered(q) && !order::is_done(o.state.status) && o.venue == venue
 }
 
 // A request is sent again, or its send has failed.
-pub fn unsent(f: Findings, k: u16, q: Request, venue: u16, o: Order) -> Change
-    ensures { result ≡ unsent f k q venue o }
+#[tactic(auto, unfolding(machine::specs::Amend::unsent), using(orders::specs::Laws::Choices::choices))]
+pub fn unsent(known: &Known, venue: u16) -> Change
+    ensures { result ≡ unsent known.now.findings known.now.link known.now.request venue known.now.order }
 {
-    let again = resendable(q, venue, o);
-    let downstream = q.downstream;
-    if again & change::is_first(q) & (o.state.status == codes::PENDING_NEW) {
-        return change::saying(message::new_order(o, downstream), f.place, o);
+    let o = known.order;
+    let place = known.findings.place;
+    let again = resendable(known.request, venue, o);
+    let downstream = known.request.downstream;
+    if again && change::is_first(known.request) && o.state.status == codes::PENDING_NEW {
+        return change::saying(message::new_order(o, downstream), place, o);
     }
-    if again & change::is_cancel(q) {
-        return change::saying(message::cancel_request(o, downstream), f.place, o);
+    if again && change::is_cancel(known.request) {
+        return change::saying(message::cancel_request(o, downstream), place, o);
     }
-    if again & change::is_replace(q) & (o.pending.request == k) {
+    if again && change::is_replace(known.request) && o.pending.request == known.link {
         let m = message::replace_request(o, downstream, order::pending_terms(o));
-        return change::saying(m, f.place, o);
+        return change::saying(m, place, o);
     }
-    let text = message::NO_LONG_TEXT;
     let n = Note {
-        text,
         fixedtext: TEXT_NOT_SENT,
-        reason: 0,
-        origin: 0,
+        ..message::NO_NOTE
     };
-    send_failed(f, k, q, venue, n, o)
+    send_failed(known, venue, n)
 }

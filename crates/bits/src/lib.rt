@@ -5,6 +5,7 @@ ghost use Rattle.std.specs.Prelude.{◌≡◌, ◌<◌};
 ghost use Rattle.bits.specs.Map.{bit, digit, with_bit, standing};
 
 // A bit of a map, 0 or 1.
+#[tactic(auto, using(crate::specs::Laws::Map::digit_out))]
 pub fn digit_of(map: u32, k: u32) -> u32
     ensures { (result ≡ digit map k) × (result < 2) }
 {
@@ -22,6 +23,7 @@ pub fn has(map: u32, k: u32) -> bool
 }
 
 // The map with one more bit.
+#[tactic(auto, using(prelude::specs::Cases::if_true, prelude::specs::Cases::if_false), unfolding(crate::specs::Map::with_bit))]
 pub fn with_bit(map: u32, k: u32) -> u32
     ensures { result ≡ with_bit map k }
 {
@@ -32,6 +34,7 @@ pub fn with_bit(map: u32, k: u32) -> u32
 }
 
 // How many bits of a map stand: the ones of its number.
+#[tactic(auto, using(crate::specs::Laws::Ones::ones_standing))]
 pub fn standing(map: u32) -> u32
     ensures { result ≡ standing map }
 {

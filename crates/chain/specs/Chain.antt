@@ -1,7 +1,6 @@
 -- WHICH CLORDID STANDS FOR WHICH ORDER (change request 9): the chain of a client's ClOrdID back to the first, as requests and as the bytes of its entries;
 -- and the call that writes them. What stands in quotes is the desk's wording. Rests on counted, store's book and its outcomes, and opens' `keeps_of`.
-use Rattle.std.specs.Prelude.{ℕ, zero, suc, ◌*◌, not, ◌&&◌, List, [], ◌∷◌, ◌++◌, map, leb, ltb, length, take, replicate}
-use Rattle.std.proofs.Math.Option.{Option, none, some}
+use Rattle.std.specs.Prelude.{ℕ, zero, suc, ◌*◌, not, ◌&&◌, List, [], ◌∷◌, ◌++◌, map, leb, ltb, length, take, replicate, Option, None, Some}
 use Rattle.prelude.specs.Cases.{if◌then◌otherwise◌}
 use Rattle.prelude.specs.Pieces.{joined}
 use Rattle.prelude.specs.Span.{splice}
@@ -18,12 +17,12 @@ use Rattle.opens.specs.Keeps.{keeps_of}
 -- behind it: `find_clordid` finds nothing for an empty name.
 unfoldable pub chain_from : Book → (client most : ℕ) → Option ℕ → List ℕ
 chain_from x client zero at = []
-chain_from x client (suc n) none = []
-chain_from x client (suc n) (some k) = k ∷ chain_from x client n (find_clordid x client (request_in x k).origclordid)
+chain_from x client (suc n) None = []
+chain_from x client (suc n) (Some k) = k ∷ chain_from x client n (find_clordid x client (request_in x k).origclordid)
 
 -- the request in which that client used that name. A name of no byte, or of more than 32, was never used.
 unfoldable pub called_by : Book → (client : ℕ) → (name : List ℕ) → Option ℕ
-called_by x client name = if leb 1 (length name) && leb (length name) 32 then find_clordid x client (text_of name) otherwise none
+called_by x client name = if leb 1 (length name) && leb (length name) 32 then find_clordid x client (text_of name) otherwise None
 
 -- THE CHAIN: as many entries as there are requests are enough
 unfoldable pub chain_of : Book → (client : ℕ) → (name : List ℕ) → List ℕ

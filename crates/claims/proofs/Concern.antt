@@ -6,7 +6,7 @@ use native.Mathlib.Omega.{arith}
 use mathlib.Core.Path.{◌≡◌, refl, sym, ap, ◌∙◌}
 use mathlib.Core.Logic.{◌⊎◌, inl, inr}
 use mathlib.Core.Bool.{Bool, true, not, ◌&&◌}
-use mathlib.Core.Option.{Option, none, some}
+use Rattle.std.specs.Prelude.{Option, None, Some}
 use mathlib.Core.List.{List}
 use lib.Dec.{eqb, leb, ltb}
 use lib.ListN.{length}
@@ -36,12 +36,12 @@ use Rattle.claims.specs.Concern.{Concerns, by_clordid, by_request, by_name, OneC
 use Rattle.claims.proofs.Taken.{kept_check}
 
 -- the only one that passes is the first
-first_only : (p : ℕ → Bool) (n k : ℕ) → k < n → p k ≡ true → ((m : ℕ) → m < n → p m ≡ true → m ≡ k) → first_below p n ≡ some k
+first_only : (p : ℕ → Bool) (n k : ℕ) → k < n → p k ≡ true → ((m : ℕ) → m < n → p m ≡ true → m ≡ k) → first_below p n ≡ Some k
 first_only p n k h t only = go (first_below p n) refl
   where
-    go : (v : Option ℕ) → first_below p n ≡ v → first_below p n ≡ some k
-    go none e = clash (p k) t (first_elim p n e k h)
-    go (some m) e = let f : First p n m = first_some p n m e in e ∙ ap some (only m f.below f.passes)
+    go : (v : Option ℕ) → first_below p n ≡ v → first_below p n ≡ Some k
+    go None e = clash (p k) t (first_elim p n e k h)
+    go (Some m) e = let f : First p n m = first_some p n m e in e ∙ ap Some (only m f.below f.passes)
 
 -- ---- what is looked up is found
 
@@ -50,7 +50,7 @@ module _ (x : Book) (good : BookKept x) where
   both_same : (s u t : Text) → same_text s t ≡ true → same_text u t ≡ true → same_text s u ≡ true
   both_same s u t e f = same_trans s t u e (same_back u t f)
 
-  name_found : (i : ℕ) (t : Text) → i < length x.orders → same_text (order_in x i).names.name t ≡ true → find_name x t ≡ some i
+  name_found : (i : ℕ) (t : Text) → i < length x.orders → same_text (order_in x i).names.name t ≡ true → find_name x t ≡ Some i
   unfolding find_name
   name_found i t h e = first_only (λ m. bears_name t (order_in x m)) (length x.orders) i h e (λ m l f. go m l f (ℕ_discrete m i))
     where
@@ -58,7 +58,7 @@ module _ (x : Book) (good : BookKept x) where
       go m l f (yes z) = z
       go m l f (no z) = clash _ (both_same _ _ t f e) (names_apart_lem x good m i l h z)
 
-  downstream_found : (k : ℕ) (t : Text) → k < length x.requests → same_text (request_in x k).downstream t ≡ true → find_downstream x t ≡ some k
+  downstream_found : (k : ℕ) (t : Text) → k < length x.requests → same_text (request_in x k).downstream t ≡ true → find_downstream x t ≡ Some k
   unfolding find_downstream
   downstream_found k t h e = first_only (λ m. bears_downstream t (request_in x m)) (length x.requests) k h e (λ m l f. go m l f (ℕ_discrete m k))
     where
@@ -92,7 +92,7 @@ module _ (x : Book) (good : BookKept x) where
   one_key client t k m b c =
       both_hold _ _ (both_hold (not (is_empty (request_in x k).clordid)) _ b.has (eq-eqb (client_of x k) (client_of x m) (b.its ∙ sym c.its))) (both_same _ _ t b.text c.text)
 
-  clordid_found : (client : ℕ) (t : Text) (k : ℕ) → k < length x.requests → Bears client t k → find_clordid x client t ≡ some k
+  clordid_found : (client : ℕ) (t : Text) (k : ℕ) → k < length x.requests → Bears client t k → find_clordid x client t ≡ Some k
   unfolding find_clordid
   clordid_found client t k h b =
       first_only (λ m. bears_clordid x.orders client t (request_in x m)) (length x.requests) k h (of_bears client t k h b)
@@ -123,13 +123,13 @@ module _ (x : Book) (e : Event) where
 -- a link that is not 0 was found
 record Found (o : Option ℕ) (f : ℕ → ℕ) (i : ℕ) : Type 0 where
   at : ℕ
-  found : o ≡ some at
+  found : o ≡ Some at
   is : f at ≡ i
 
 found_link : (o : Option ℕ) (f : ℕ → ℕ) (i : ℕ) → maybe 0 (λ k. f k + 1) o ≡ i + 1 → Found o f i
 unfolding maybe
-found_link none f i e = absurd (omega arith)
-found_link (some k) f i e = record { at = k; found = refl; is = omega arith }
+found_link None f i e = absurd (omega arith)
+found_link (Some k) f i e = record { at = k; found = refl; is = omega arith }
 
 -- ---- on bytes
 
@@ -188,7 +188,7 @@ module _ (b r : List ℕ) (keeps : check_of b ≡ 0) (bytes : Bytes r) (reads : 
   unfolding find_name
   by_9_found z i c =
       let f : Found (find_name x e.ids.name) (λ k. k) i = found_link _ (λ k. k) i (sym (by_9 x e z) ∙ c) in
-      let g = first_some (λ m. bears_name e.ids.name (order_in x m)) (length x.orders) i (f.found ∙ ap some f.is) in
+      let g = first_some (λ m. bears_name e.ids.name (order_in x m)) (length x.orders) i (f.found ∙ ap Some f.is) in
       by_name z g.below g.passes
 
   concern_of : 2 ≤ e.kind → e.kind ≤ 9 → (i : ℕ) → concerns x e ≡ i + 1 → Concerns b r i

@@ -3,7 +3,7 @@ use Prim.Native.Nat.{ℕ, ◌<◌, ◌^◌}
 use native.Mathlib.Omega.{arith}
 use mathlib.Core.Path.{◌≡◌, refl, sym, ap, ◌∙◌, subst}
 use mathlib.Core.Bool.{Bool, true, false}
-use mathlib.Core.Option.{some}
+use Rattle.std.specs.Prelude.{Some}
 use mathlib.Core.List.{List, [], ◌∷◌}
 use lib.ListN.{length}
 use borrow.Author.Tests.{eq-eqb}
@@ -85,7 +85,7 @@ exact : (b : List ℕ) → ruled_of b ≡ true → ((client : ℕ) → stored_op
 exact b r s o = check_kept b (keeps_then b (both_hold (ruled_of b) (outcomes_right b) r o) ∙ stored_all b s)
 
 -- what is stored once the word of a client's first order is written
-stored_here : (b : List ℕ) (i q client : ℕ) → i < order_count b → find_client (book_of b) client ≡ some i → q < 2 ^ 64 → stored_open (store_open b i q) client ≡ q
+stored_here : (b : List ℕ) (i q client : ℕ) → i < order_count b → find_client (book_of b) client ≡ Some i → q < 2 ^ 64 → stored_open (store_open b i q) client ≡ q
 unfolding stored_open
 stored_here b i q client h f w =
     let d : List ℕ = store_open b i q in
@@ -94,7 +94,7 @@ stored_here b i q client h f w =
     maybe_some (find_client (book_of d) client) i 0 (open_at d) (ap (λ (x : Book). find_client x client) (store_open_book b i q) ∙ f)
     ∙ open_here b i q l k w
 
-written : (b : List ℕ) (i q : ℕ) → i < order_count b → find_client (book_of b) (order_in (book_of b) i).client ≡ some i → q < 2 ^ 64 → (q ≡ open_of (book_of b) (order_in (book_of b) i).client → ⊥) → check_of (store_open b i q) ≡ 1
+written : (b : List ℕ) (i q : ℕ) → i < order_count b → find_client (book_of b) (order_in (book_of b) i).client ≡ Some i → q < 2 ^ 64 → (q ≡ open_of (book_of b) (order_in (book_of b) i).client → ⊥) → check_of (store_open b i q) ≡ 1
 written b i q h f w n =
     let client : ℕ = (order_in (book_of b) i).client in
     (other (store_open b i q) client

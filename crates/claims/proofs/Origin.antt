@@ -4,7 +4,7 @@ use Prim.Native.Nat.{ℕ, ◌+◌, ◌-◌, ◌<◌}
 use native.Mathlib.Omega.{arith}
 use mathlib.Core.Path.{◌≡◌, refl, sym, ap, subst, ◌∙◌}
 use mathlib.Core.Bool.{Bool, true, false, not, ◌&&◌, ◌||◌}
-use mathlib.Core.Option.{some}
+use Rattle.std.specs.Prelude.{Some}
 use mathlib.Core.List.{List}
 use lib.Dec.{eqb, ltb}
 use lib.ListN.{length}
@@ -18,7 +18,7 @@ use Rattle.store.specs.declared.Request.{Request}
 use Rattle.store.specs.Book.{Book, order_in, request_in}
 use Rattle.store.specs.Finds.{find_clordid, has_clordid, of_client}
 use Rattle.machine.specs.declared.Findings.{Findings}
-use Rattle.machine.specs.declared.Refusal.{Refusal}
+use Rattle.machine.specs.declared.Reject.{Reject}
 use Rattle.machine.specs.declared.Change.{Change}
 use Rattle.machine.specs.Orders.{is_empty}
 use Rattle.machine.specs.Changes.{Event, unchanged, refusing, adding, telling, alarming, is_answered, next_request, numbered_order}
@@ -71,10 +71,10 @@ data Amends (f : Findings) (o : Order) (e : Event) (c : Change) : Type 0 where
       → c.requests.request.answered ≡ 0 → c.order.client ≡ o.client → Amends f o e c
 
 -- an order was found where nothing refuses
-passed : (f : Findings) (order : ℕ) (full : Bool) (o : Order) (e : Event) (own : Refusal) → not (eqb (amend_refusal f order full o e own).fixedtext 0) ≡ false → f.place ≡ 0 → ⊥
+passed : (f : Findings) (order : ℕ) (full : Bool) (o : Order) (e : Event) (own : Reject) → not (eqb (amend_refusal f order full o e own).fixedtext 0) ≡ false → f.place ≡ 0 → ⊥
 unfolding amend_refusal
 passed f order full o e own =
-    let P : Refusal → Type 0 = λ r. not (eqb r.fixedtext 0) ≡ false → f.place ≡ 0 → ⊥ in
+    let P : Reject → Type 0 = λ r. not (eqb r.fixedtext 0) ≡ false → f.place ≡ 0 → ⊥ in
     split_if P (not (eqb order 0)) (λ h y z. clash false (sym y) refl)
     (λ h. split_if P (eqb f.place 0) (λ h y z. clash false (sym y) refl) (λ h y z. clash _ (eq-eqb f.place 0 z) h))
 
@@ -90,12 +90,12 @@ amended_amends {f} {order} {full} {o} {e} (replace_sent t u) = adds (passed f or
 
 -- the request of index j is the one that an OrigClOrdID of this client names
 pub record Names (b : Book) (client : ℕ) (t : Text) (j : ℕ) : Type 0 where
-  pub found : find_clordid b client t ≡ some j
+  pub found : find_clordid b client t ≡ Some j
   pub below : j < length b.requests
   pub client_of : (order_in b (request_in b j).order).client ≡ client
   pub text : same_text (request_in b j).clordid t ≡ true
 
-found_names : (b : Book) (client : ℕ) (t : Text) (j : ℕ) → find_clordid b client t ≡ some j → Names b client t j
+found_names : (b : Book) (client : ℕ) (t : Text) (j : ℕ) → find_clordid b client t ≡ Some j → Names b client t j
 unfolding find_clordid of_client
 found_names b client t j h =
     let f = first_some _ _ j h in
@@ -117,7 +117,7 @@ bare_added b c (none z) = nothing_added z
 bare_added b c (plain t z) = first_one z t
 
 module _ (b : Book) (e : Event) where
-  amends_added : (k : ℕ) (f : Findings) (o : Order) (c : Change) → find_clordid b e.client e.ids.origclordid ≡ some k → f.place ≡ (request_in b k).order + 1 → o ≡ order_in b (request_in b k).order
+  amends_added : (k : ℕ) (f : Findings) (o : Order) (c : Change) → find_clordid b e.client e.ids.origclordid ≡ Some k → f.place ≡ (request_in b k).order + 1 → o ≡ order_in b (request_in b k).order
       → Amends f o e c → Added b c
   amends_added k f o c w p s (none z) = nothing_added z
   amends_added k f o c w p s (adds n i t z own) =

@@ -6,7 +6,7 @@ use native.Mathlib.Omega.{arith}
 use mathlib.Core.Path.{◌≡◌, refl, sym, ap, ap₂, subst, ◌∙◌}
 use mathlib.Core.Logic.{◌⊎◌, inl, inr, ⊎_elim}
 use mathlib.Core.Bool.{◌&&◌}
-use mathlib.Core.Option.{some}
+use Rattle.std.specs.Prelude.{Some}
 use mathlib.Core.List.{List, [], ◌∷◌, ◌++◌}
 use lib.Dec.{eqb, ltb}
 use lib.ListN.{length}
@@ -202,7 +202,7 @@ module _ (b : List ℕ) (long : length b ≡ book_size) where
       ∙ ap (λ (k : ℕ). store_order b k o) z
       ∙ in_table i most_orders m _
 
-  open_is : (left : Book) (place client p : ℕ) → (place ≡ 0 → ⊥) → find_client left client ≡ some p → p < most_orders
+  open_is : (left : Book) (place client p : ℕ) → (place ≡ 0 → ⊥) → find_client left client ≡ Some p → p < most_orders
       → place_open b left place client ≡ put b (open_write p (open_of left client))
   unfolding place_open store_open
   open_is left place client p z e h =
@@ -259,7 +259,7 @@ pub record Placing (b : List ℕ) (i p : ℕ) (c : Change) : Type 0 where
   pub room : (c.requests.added ≡ 0) ⊎ (length (book_of b).requests < most_requests)
   pub order : WholeOrder c.order
   pub request : (c.requests.added ≡ 0 → ⊥) → WholeRequest c.requests.request
-  pub found : find_client (after (book_of b) c) c.order.client ≡ some p
+  pub found : find_client (after (book_of b) c) c.order.client ≡ Some p
   pub first : p < most_orders
 
 -- what the request of a link comes to where it is settled by the event, and the origin of a request that the change adds

@@ -6,7 +6,7 @@ use native.Mathlib.Omega.{arith}
 use mathlib.Core.Path.{◌≡◌, refl, sym, ap, ap₂, subst, ◌∙◌}
 use mathlib.Core.Logic.{◌⊎◌, inl, inr, ⊎_elim}
 use mathlib.Core.Bool.{Bool}
-use mathlib.Core.Option.{Option, none, some}
+use Rattle.std.specs.Prelude.{Option, None, Some}
 use mathlib.Core.List.{List, [], ◌∷◌, ◌++◌}
 use lib.Dec.{eqb}
 use lib.ListN.{length}
@@ -48,7 +48,7 @@ use Rattle.claims.proofs.Placed.{order_write, rest_writes, rest_values, value_of
 
 pub record FirstOf (x : Book) (client : ℕ) : Type 0 where
   pub at : ℕ
-  pub found : find_client x client ≡ some at
+  pub found : find_client x client ≡ Some at
   pub below : at < length x.orders
   pub its : (order_in x at).client ≡ client
 
@@ -60,8 +60,8 @@ unfolding find_client
 first_of x i h = go (order_in x i).client (find_client x (order_in x i).client) refl refl
   where
     go : (c : ℕ) (v : Option ℕ) → (order_in x i).client ≡ c → find_client x c ≡ v → FirstOf x c
-    go c none z e = clash (test x c i) (eq-eqb (order_in x i).client c z) (first_elim (test x c) (length x.orders) e i h)
-    go c (some k) z e =
+    go c None z e = clash (test x c i) (eq-eqb (order_in x i).client c z) (first_elim (test x c) (length x.orders) e i h)
+    go c (Some k) z e =
         let f : First (test x c) (length x.orders) k = first_some (test x c) (length x.orders) k e in
         record { at = k; found = e; below = f.below; its = eqb-true (order_in x k).client c f.passes }
 
@@ -182,12 +182,12 @@ module _ (b : List ℕ) (i j : ℕ) (v w : Event) (c c' d d' : Change) (h : Pair
   abbrev p : ℕ
   p = its.at
 
-  found_here : find_client (after x c) client ≡ some p
+  found_here : find_client (after x c) client ≡ Some p
   found_here =
       ap (find_client (after x c)) own.client
       ∙ find_same x (after x c) (apart x i c own).count (apart x i c own).clients (order_in x i).client ∙ its.found
 
-  found_there : find_client both c'.order.client ≡ some p
+  found_there : find_client both c'.order.client ≡ Some p
   found_there =
       ap (find_client both) (client_same ∙ own.client)
       ∙ find_same x both both_long (each (λ y u o. y.client ≡ o.client) (client_same ∙ own.client) other.client (λ k. refl)) (order_in x i).client ∙ its.found

@@ -5,7 +5,7 @@ use native.Mathlib.Decide.{ℕ_discrete}
 use native.Mathlib.Omega.{arith}
 use mathlib.Core.Path.{◌≡◌, refl, sym, ap, ◌∙◌}
 use mathlib.Core.Bool.{Bool, true, false}
-use mathlib.Core.Option.{Option, none, some}
+use Rattle.std.specs.Prelude.{Option, None, Some}
 use mathlib.Core.List.{List}
 use lib.Dec.{eqb}
 use lib.ListN.{length}
@@ -64,10 +64,10 @@ module _ (j : ℕ) (k : j < most_orders) where
       split_if (SameWord b j) (eqb r.added 0) (λ e. marked) (λ e. add_request_open (mark_link once r.superseded v) j k origin r.request (w e) ∙ marked)
 
 -- what is stored by the same words
-stored_same : (b f : List ℕ) (x : Option ℕ) → ((j : ℕ) → x ≡ some j → open_at f j ≡ open_at b j) → maybe 0 (open_at f) x ≡ maybe 0 (open_at b) x
+stored_same : (b f : List ℕ) (x : Option ℕ) → ((j : ℕ) → x ≡ Some j → open_at f j ≡ open_at b j) → maybe 0 (open_at f) x ≡ maybe 0 (open_at b) x
 unfolding maybe
-stored_same b f none h = refl
-stored_same b f (some j) h = h j refl
+stored_same b f None h = refl
+stored_same b f (Some j) h = h j refl
 
 module _ (b : List ℕ) (ev : Event) (c : Change) (keeps : keeps_of b ≡ true) (w : Writes b ev c) (kept : rules (after (book_of b) c) ≡ true) (whole : WholeBook (after (book_of b) c))
     (clients : SameClients (book_of b) (after (book_of b) c)) where
@@ -84,13 +84,13 @@ module _ (b : List ℕ) (ev : Event) (c : Change) (keeps : keeps_of b ≡ true) 
   client = c.order.client
 
   -- a first order is in its table, and its client's
-  found_few : (k j : ℕ) → find_client left k ≡ some j → j < most_orders
+  found_few : (k j : ℕ) → find_client left k ≡ Some j → j < most_orders
   unfolding find_client
   found_few k j e =
       let g : First (λ i. is_clients k (order_in left i)) (length left.orders) j = first_some (λ i. is_clients k (order_in left i)) (length left.orders) j e in
       omega (arith, g.below, (book_kept left kept).orders)
 
-  found_client : (k j : ℕ) → find_client left k ≡ some j → (order_in left j).client ≡ k
+  found_client : (k j : ℕ) → find_client left k ≡ Some j → (order_in left j).client ≡ k
   unfolding find_client
   found_client k j e =
       let g : First (λ i. is_clients k (order_in left i)) (length left.orders) j = first_some (λ i. is_clients k (order_in left i)) (length left.orders) j e in
@@ -103,7 +103,7 @@ module _ (b : List ℕ) (ev : Event) (c : Change) (keeps : keeps_of b ≡ true) 
       ∙ place_word j k b c.place c.order (order_written (book_of b) c whole)
 
   -- a client whose first order, sum and word are as they were
-  calm : (k : ℕ) → find_client left k ≡ find_client (book_of b) k → open_of left k ≡ open_of (book_of b) k → ((j : ℕ) → find_client left k ≡ some j → open_at f j ≡ open_at b j)
+  calm : (k : ℕ) → find_client left k ≡ find_client (book_of b) k → open_of left k ≡ open_of (book_of b) k → ((j : ℕ) → find_client left k ≡ Some j → open_at f j ≡ open_at b j)
       → maybe 0 (open_at f) (find_client left k) ≡ open_of left k
   unfolding stored_open
   calm k same sum words =
@@ -125,14 +125,14 @@ module _ (b : List ℕ) (ev : Event) (c : Change) (keeps : keeps_of b ≡ true) 
     -- its client's first order
     record Own : Type 0 where
       at : ℕ
-      found : find_client left client ≡ some at
+      found : find_client left client ≡ Some at
 
     own : Own
     own = go (find_client (book_of b) client) refl
       where
         go : (x : Option ℕ) → find_client (book_of b) client ≡ x → Own
-        go none e = record { at = length (book_of b).orders; found = first_new (book_of b) c there clients e }
-        go (some i) e = record { at = i; found = first_stays (book_of b) c there clients client i e }
+        go None e = record { at = length (book_of b).orders; found = first_new (book_of b) c there clients e }
+        go (Some i) e = record { at = i; found = first_stays (book_of b) c there clients client i e }
 
     written : f ≡ store_open d own.at (open_of left client)
     unfolding book_with place_open

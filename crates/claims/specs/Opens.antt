@@ -1,6 +1,5 @@
 -- Wish 4 on bytes: what `open_quantity` gives of each client is the sum of `leaves_qty` over its orders. Rests on Claims and opens.
-use Rattle.std.specs.Prelude.{ℕ, ◌<◌, ◌^◌, ◌≡◌, true, List, [], ◌∷◌}
-use Rattle.std.proofs.Math.Option.{some}
+use Rattle.std.specs.Prelude.{ℕ, ◌<◌, ◌^◌, ◌≡◌, true, List, [], ◌∷◌, Some}
 use Rattle.prelude.specs.Number.{Bytes}
 use Rattle.store.specs.Book.{book_of, order_in, order_count, store_open}
 use Rattle.store.specs.Finds.{find_client}
@@ -35,4 +34,4 @@ pub record OpenOnBytes : Type 0 where
   -- bytes behind them say
   pub exact : (b : List ℕ) → ruled_of b ≡ true → ((client : ℕ) → stored_open b client ≡ open_of (book_of b) client) → outcomes_right b ≡ true → check_of b ≡ 0
   -- the sum stands in the bytes: on any book, another number written in the word of a client's first order is refused with 1
-  pub bytes : (b : List ℕ) (i q : ℕ) → i < order_count b → find_client (book_of b) (order_in (book_of b) i).client ≡ some i → q < 2 ^ 64 → (q ≡ open_of (book_of b) (order_in (book_of b) i).client → ⊥) → check_of (store_open b i q) ≡ 1
+  pub bytes : (b : List ℕ) (i q : ℕ) → i < order_count b → find_client (book_of b) (order_in (book_of b) i).client ≡ Some i → q < 2 ^ 64 → (q ≡ open_of (book_of b) (order_in (book_of b) i).client → ⊥) → check_of (store_open b i q) ≡ 1

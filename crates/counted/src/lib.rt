@@ -1,11 +1,14 @@
-// A number beside a refusal: what a call that looks at the book returns, to a host too. Rests on
-// nothing.
+// What calls return to a host: a number beside a refusal, or the refusal alone. Inside, both are a
+// `Result`. Rests on prelude.
 #![tactic(auto)]
 
 ghost use Rattle.std.specs.Prelude.{◌≡◌};
-ghost use Rattle.counted.specs.Counted.{refusing, counting};
+ghost use Rattle.counted.specs.Counted.{counted_of, refusal_of};
 
-// The refusal, or 0 and the number that was asked for. With a refusal the number is 0.
+use prelude::Refusal;
+
+// The refusal, or 0 and the number that was asked for. With a refusal the number is 0. The C structure
+// has both fields.
 #[repr(C)]
 #[derive(Clone, Copy)]
 pub struct Counted {
@@ -13,14 +16,26 @@ pub struct Counted {
     pub number: u32,
 }
 
-pub fn refusing(refusal: u32) -> Counted
-    ensures { result ≡ refusing refusal }
-{
-    Counted { refusal, number: 0 }
+impl From<Result<u32, Refusal>> for Counted {
+    fn from(answer: Result<u32, Refusal>) -> Counted
+        ensures { result ≡ counted_of answer }
+    {
+        match answer {
+            Ok(number) => Counted { refusal: 0, number },
+            Err(refusal) => Counted {
+                refusal: refusal.number(),
+                number: 0,
+            },
+        }
+    }
 }
 
-pub fn counting(number: u32) -> Counted
-    ensures { result ≡ counting number }
+// The number of the refusal, or 0.
+pub fn refusal_of(answer: Result<(), Refusal>) -> u32
+    ensures { result ≡ refusal_of answer }
 {
-    Counted { refusal: 0, number }
+    match answer {
+        Ok(()) => 0,
+        Err(refusal) => refusal.number(),
+    }
 }

@@ -5,9 +5,12 @@
 ghost use Rattle.std.specs.Prelude.{◌≡◌, ◌+◌, ◌<◌, ◌≤◌, length};
 ghost use Rattle.format.specs.Places.{end_of};
 ghost use Rattle.cut.specs.Place.{place_of, nowhere, stands};
+ghost use Rattle.records.specs.Answer.{count_in, answer_refusal};
+
+use records::HEAD;
 
 // The refusal, or 0 and where the message starts in the answer, with its length. Zeros with a
-// refusal; length 0 where the answer has no such message.
+// refusal; length 0 where the answer has no such message. The C structure has all three fields.
 #[repr(C)]
 #[derive(Clone, Copy)]
 pub struct Place {
@@ -26,7 +29,8 @@ fn nowhere(refusal: u32) -> Place
     }
 }
 
-// Where the record at o ends.
+// Where the record at o ends. That o is below 65,536 stands in the contract, as at each position in
+// records and places: a type for it would be made and taken apart at each call.
 fn end_at(s: &[u8], o: usize) -> usize
     requires { (o < 65536) × (o + 5 ≤ length s.now) }
     ensures { result ≡ end_of s.now o }
@@ -37,6 +41,7 @@ fn end_at(s: &[u8], o: usize) -> usize
     at[32]
 }
 
+// Both are below 65,536: `try_from` would have branches that nothing takes.
 fn between(from: usize, to: usize) -> Place
     requires { (from ≤ to) × (to < 65536) }
     ensures { result ≡ stands from to }
@@ -48,22 +53,27 @@ fn between(from: usize, to: usize) -> Place
     }
 }
 
+// Where message n of an answer stands, which has one.
+fn place_in(answer: &[u8], n: u32) -> Place
+    requires { (answer_refusal answer.now ≡ 0) × (n < count_in answer.now) }
+    ensures { result ≡ place_of answer.now n }
+{
+    let long = usize::from(words::get16(&answer[..2]));
+    let a = &answer[..long];
+    let first = end_at(a, HEAD);
+    if n == 0 {
+        return between(HEAD, first);
+    }
+    between(first, end_at(a, first))
+}
+
 // Where message n of an answer stands, counted from 0.
 pub fn message_at(answer: &[u8], n: u32) -> Place
     ensures { result ≡ place_of answer.now n }
 {
-    let read = records::read_answer(answer);
-    if read.refusal != 0 {
-        return nowhere(read.refusal);
+    match records::read_answer(answer) {
+        Ok(read) if n < read.messages.count() => place_in(answer, n),
+        Ok(_) => nowhere(0),
+        Err(refusal) => nowhere(refusal.number()),
     }
-    if read.count as u32 <= n {
-        return nowhere(0);
-    }
-    let long = words::get16(&answer[0..2]) as usize;
-    let a = &answer[0..long];
-    let first = end_at(a, records::HEAD);
-    if n == 0 {
-        return between(records::HEAD, first);
-    }
-    between(first, end_at(a, first))
 }

@@ -1,131 +1,87 @@
 // Numbers in decimal, written into a slice: a count of 10^-places at an index, or right-aligned in
 // columns. What is written, and that it is read back as the count, stands in specs/. The public
-// functions are total: where the text has no room, nothing is written. Rests on prelude's words; the
-// module `two_words` has the same for numbers of two words.
+// functions are total: where the text has no room, nothing is written. Each takes a number of one word
+// or of two. Place and number come one by one, as callers have them: a struct would be made for each call
+// and taken apart in it. Rests on prelude's words and on wide.
 #![tactic(auto)]
 
-ghost use Rattle.std.specs.Prelude.{◌≡◌, ◌+◌, ◌-◌, ◌≤◌, length, replicate};
+ghost use Rattle.std.specs.Prelude.{◌≡◌, ◌+◌, ◌≤◌, length};
 ghost use Rattle.prelude.specs.Span.{splice};
-ghost use Rattle.decimal.specs.Decimal.{blank, digits, low_digits, down, decimal, right, written};
+ghost use Rattle.decimal.specs.Decimal.{low_digits, down, decimal, right, written};
 
-pub mod two_words;
+use digits::Digits;
+
+pub mod digits;
 
 // The `count` lowest digits of `n`, written at `at` from the last to the first.
-fn put_low(out: &mut [u8], at: usize, count: usize, n: u64)
+fn put_low<N: Digits>(out: &mut [u8], at: usize, count: usize, n: N)
     requires { at + count ≤ length out.old }
-    ensures { out.new ≡ splice out.old at (low_digits count n) }
+    ensures { out.new ≡ splice out.old at (low_digits count (N.number n)) }
 {
-    let mut i = count;
-    let mut v = n;
-    while 0 < i {
-        i -= 1;
-        out[at + i] = 48 + (v % 10) as u8;
-        v = v / 10;
+    let mut rest = n;
+    for i in (0..count).rev() {
+        let (higher, lowest) = rest.split_lowest();
+        out[at + i] = b'0' + lowest;
+        rest = higher;
     }
-}
-
-// How many digits `n` has.
-fn width(n: u64) -> usize
-    ensures { result ≡ length (digits n) }
-{
-    let mut v = n;
-    let mut w: usize = 1;
-    while 10 <= v {
-        v = v / 10;
-        w += 1;
-    }
-    w
 }
 
 // `n` without its `places` lowest digits.
-fn down(n: u64, places: usize) -> u64
-    ensures { result ≡ down places n }
+fn down<N: Digits>(n: N, places: u8) -> N
+    ensures { N.number result ≡ down places (N.number n) }
 {
-    let mut v = n;
-    let mut i = places;
-    while 0 < i {
-        v = v / 10;
-        i -= 1;
+    let mut rest = n;
+    for _left in (0..places).rev() {
+        rest = rest.split_lowest().0;
     }
-    v
-}
-
-fn put_blanks(out: &mut [u8], at: usize, count: usize)
-    requires { at + count ≤ length out.old }
-    ensures { out.new ≡ splice out.old at (replicate count blank) }
-{
-    let mut i = 0;
-    while i < count {
-        out[at + i] = b' ';
-        i += 1;
-    }
+    rest
 }
 
 // `n` counts of 10^-places, written at `at`, where they have room.
-fn put_here(out: &mut [u8], at: usize, n: u64, places: usize)
-    requires { at + length (decimal places n) ≤ length out.old }
-    ensures { out.new ≡ splice out.old at (decimal places n) }
+fn put_here<N: Digits>(out: &mut [u8], at: usize, n: N, places: u8)
+    requires { at + length (decimal places (N.number n)) ≤ length out.old }
+    ensures { out.new ≡ splice out.old at (decimal places (N.number n)) }
 {
     let whole = down(n, places);
-    let w = width(whole);
-    put_low(out, at, w, whole);
-    if places == 0 {
-        return;
+    let width = whole.width();
+    put_low(out, at, width, whole);
+    if 0 < places {
+        out[at + width] = b'.';
+        put_low(out, at + width + 1, usize::from(places), n);
     }
-    out[at + w] = b'.';
-    put_low(out, at + w + 1, places, n);
 }
 
 // How many bytes `n` counts of 10^-places take.
-pub fn decimal_length(n: u64, places: u8) -> usize
-    ensures { (result ≡ length (decimal places n)) × (result ≤ 276) }
+pub fn decimal_length<N: Digits>(n: N, places: u8) -> usize
+    ensures { (result ≡ length (decimal places (N.number n))) × (result ≤ N.widest + 256) }
 {
-    let p = places as usize;
-    let whole = down(n, p);
-    let w = width(whole);
-    if p == 0 {
-        return w;
+    let width = down(n, places).width();
+    if places == 0 {
+        width
+    } else {
+        width + 1 + usize::from(places)
     }
-    w + 1 + p
 }
 
 // `n` counts of 10^-places, written at `at`; how many bytes they take.
-pub fn put_decimal(out: &mut [u8], at: usize, n: u64, places: u8) -> usize
-    ensures { (result ≡ length (decimal places n)) × (out.new ≡ written out.old at (decimal places n)) }
+pub fn put_decimal<N: Digits>(out: &mut [u8], at: usize, n: N, places: u8) -> usize
+    ensures { (result ≡ length (decimal places (N.number n))) × (out.new ≡ written out.old at (decimal places (N.number n))) }
 {
     let long = decimal_length(n, places);
-    if out.len() < long {
-        return long;
+    if at.saturating_add(long) <= out.len() {
+        put_here(out, at, n, places);
     }
-    if at > out.len() - long {
-        return long;
-    }
-    put_here(out, at, n, places as usize);
     long
 }
 
-fn less(a: usize, b: usize) -> usize
-    ensures { result ≡ a - b }
-{
-    if a < b {
-        return 0;
-    }
-    a - b
-}
-
 // `n` counts of 10^-places, written at the right end of the columns that begin at `at`.
-pub fn put_right(out: &mut [u8], at: usize, columns: usize, n: u64, places: u8)
-    ensures { out.new ≡ written out.old at (right columns (decimal places n)) }
+pub fn put_right<N: Digits>(out: &mut [u8], at: usize, columns: usize, n: N, places: u8)
+    ensures { out.new ≡ written out.old at (right columns (decimal places (N.number n))) }
 {
     let long = decimal_length(n, places);
-    let blanks = less(columns, long);
-    let all = blanks + long;
-    if out.len() < all {
-        return;
+    let blanks = columns.saturating_sub(long);
+    if at.saturating_add(blanks + long) <= out.len() {
+        out[at..at + blanks].fill(b' ');
+        put_here(out, at + blanks, n, places);
     }
-    if at > out.len() - all {
-        return;
-    }
-    put_blanks(out, at, blanks);
-    put_here(out, at + blanks, n, places as usize);
 }

@@ -5,7 +5,7 @@
 ghost use Rattle.std.specs.Prelude.{◌≡◌, ◌+◌, ◌*◌, ◌^◌};
 ghost use Rattle.wide.specs.Wide.{words, nearest, fill_price};
 
-// Two words, the low one first.
+// Two words, the low one first, as the C structure has them.
 #[repr(C)]
 #[derive(Clone, Copy)]
 pub struct Words {
@@ -40,7 +40,7 @@ pub extern "C" fn divide_either(low: u64, high: u64, d: u64) -> Words
     }
 }
 
-// A price in two words, the low one first, and its source.
+// A price in two words, the low one first, and its source, as the C structure has them.
 #[repr(C)]
 #[derive(Clone, Copy)]
 pub struct Price {
@@ -65,6 +65,6 @@ pub extern "C" fn price_of(
     let words = p.price;
     Price {
         words,
-        source: p.source as u64,
+        source: u64::from(p.source),
     }
 }

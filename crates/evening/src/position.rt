@@ -1,7 +1,5 @@
 // The net position, for people: a heading, then for each line the client in five columns, the symbol in
 // sixteen, and the net in seventeen, in decimal with its sign. Rests on gateway, words and decimal.
-ghost use Rattle.std.specs.Prelude.{◌≡◌, ◌≤◌, length};
-
 use std::io;
 use std::io::Write;
 
@@ -15,49 +13,16 @@ const LINE: usize = 27;
 // A printed line: 5 + 1 + 16 + 17 columns, and the line feed.
 const PRINTED: usize = 40;
 
-// From here on a net is below zero.
-const BELOW: u64 = 9223372036854775808;
-
-fn sign(net: u64) -> u8 {
-    if net == 0 {
-        return b' ';
-    }
-    if net < BELOW {
-        return b'+';
-    }
-    b'-'
-}
-
-fn magnitude(net: u64) -> u64 {
-    if net < BELOW {
-        return net;
-    }
-    18446744073709551615 - net + 1
-}
-
-// A byte as it prints: one below 32 as a blank.
-fn shown(x: u8) -> u8 {
-    if x < b' ' {
-        return b' ';
-    }
-    x
-}
-
-fn put_symbol(out: &mut [u8], line: &[u8])
-    requires { (length out.old ≡ 40) × (length line.now ≡ 27) }
-{
-    let mut k: usize = 0;
-    while k < 16 {
-        let x = shown(line[3 + k]);
-        out[6 + k] = x;
-        k += 1;
+fn sign(net: i64) -> u8 {
+    match net {
+        0 => b' ',
+        1.. => b'+',
+        _ => b'-',
     }
 }
 
-fn put_net(out: &mut [u8], net: u64)
-    requires { length out.old ≡ 40 }
-{
-    let size = magnitude(net);
+fn put_net(out: &mut [u8; PRINTED], net: i64) {
+    let size = net.unsigned_abs();
     decimal::put_right(out, 22, 17, size, 4);
     let long = decimal::decimal_length(size, 4);
     if long < 17 {
@@ -65,43 +30,34 @@ fn put_net(out: &mut [u8], net: u64)
     }
 }
 
-fn print_line<W: Write>(output: &mut W, line: &[u8]) -> io::Result<()>
-    requires { length line.now ≡ 27 }
-{
+// A line of the call's; a byte of the symbol below 32 prints as a blank. Put together as bytes, since any
+// byte may stand in a symbol, which makes it no text that a format takes.
+fn print_line<W: Write>(output: &mut W, line: &[u8; LINE]) -> io::Result<()> {
     let mut out = [b' '; PRINTED];
     let client = words::get16(&line[0..2]);
-    decimal::put_right(&mut out, 0, 5, client as u64, 0);
-    put_symbol(&mut out, line);
+    decimal::put_right(&mut out, 0, 5, u64::from(client), 0);
+    for (shown, byte) in out[6..22].iter_mut().zip(&line[3..19]) {
+        *shown = (*byte).max(b' ');
+    }
     let net = words::get64(&line[19..27]);
-    put_net(&mut out, net);
+    put_net(&mut out, net.cast_signed());
     out[39] = b'\n';
     output.write_all(&out)
-}
-
-fn print_lines<W: Write>(output: &mut W, lines: &[u8], count: usize) -> io::Result<()>
-    requires { (length lines.now ≡ 1728) × (count ≤ 64) }
-{
-    let mut i: usize = 0;
-    while i < count {
-        let at = LINE * i;
-        print_line(output, &lines[at..at + LINE])?;
-        i += 1;
-    }
-    Ok(())
 }
 
 // The net position of a book that was just run, under its heading; nothing if the book has no order.
 pub(crate) fn print<W: Write>(output: &mut W, book: &[u8]) -> io::Result<()> {
     let mut scratch = [0u64; SCRATCH];
-    let mut lines = [0u8; LINES];
-    let counted = gateway::net_position(book, &mut scratch, &mut lines);
-    let count = counted.number as usize;
+    let mut space = [0u8; LINES];
+    // By `as`: std has no `From<u32>` for usize.
+    let count = gateway::net_position(book, &mut scratch, &mut space).number as usize;
     if count == 0 {
         return Ok(());
     }
     output.write_all(b"\nNet position: client, symbol, bought less sold\n")?;
-    if count <= 64 {
-        print_lines(output, &lines, count)?;
+    let (lines, _) = space.as_chunks::<LINE>();
+    for line in lines.iter().take(count) {
+        print_line(output, line)?;
     }
     Ok(())
 }

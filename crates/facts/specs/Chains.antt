@@ -1,7 +1,6 @@
 -- Small days beside the chains that they leave: of a replace of a replace, past a refused request, to the first from a later one. Rests on chain and Play. What
 -- they shut out: a chain without the first request, one that goes from entry to entry by number, another client's name, and an empty name that finds a gateway cancel.
-use Rattle.std.specs.Prelude.{ℕ, ◌≡◌, refl, List, [], ◌∷◌, ◌++◌, replicate}
-use Rattle.std.proofs.Math.Option.{none}
+use Rattle.std.specs.Prelude.{ℕ, ◌≡◌, refl, List, [], ◌∷◌, ◌++◌, replicate, None}
 use Rattle.prelude.specs.Pieces.{joined}
 use Rattle.text.specs.Words.{no_text}
 use Rattle.store.specs.Finds.{find_clordid}
@@ -34,7 +33,7 @@ record Table : Type 0 where
   -- a name that was never used, one of another client, none at all though the gateway's cancel has an empty ClOrdID, and 33 bytes
   unused : chains [] D ≡ []
   another : chain_of (playing (empty 10000) (books ∷ [])) 8 C ≡ []
-  nameless : (chains (gateway_cancels ∷ []) [] ≡ []) × (find_clordid (playing (empty 10000) (books ∷ gateway_cancels ∷ [])) 7 no_text ≡ none)
+  nameless : (chains (gateway_cancels ∷ []) [] ≡ []) × (find_clordid (playing (empty 10000) (books ∷ gateway_cancels ∷ [])) 7 no_text ≡ None)
   long : chains [] (C ++ replicate 32 0) ≡ []
 
 days : Table

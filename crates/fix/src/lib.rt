@@ -15,11 +15,12 @@ ghost use Rattle.fix_claims.specs.Call.{wrote, write_call};
 
 use cut::Place;
 use fix_claims::{FixFields, Written};
+use session::Session;
 
 mod put; // the writer's bytes
 mod room; // the writer's length
+mod session;
 mod value;
-mod words_of;
 mod write;
 
 // Writes the FIX message of a message record to the front of `out`, with the session's comp IDs,
@@ -34,7 +35,13 @@ pub fn fix_write(
 ) -> Written
     ensures { wrote result out.new ≡ write_call «record».now (session sender.now target.now sequence time.now) out.old }
 {
-    write::write(record, sender, target, sequence, time, out)
+    let header = Session {
+        sender,
+        target,
+        sequence,
+        time,
+    };
+    write::write(record, &header, out)
 }
 
 // The fields of a FIX message that a writing yields; 3 for all other bytes.

@@ -1,27 +1,26 @@
 // The writer: the questions first, then the length, then the bytes. Rests on records' `parts`, `room`
 // and `put`.
-ghost use Rattle.std.specs.Prelude.{◌≡◌, true, ℕ, ◌+◌, ◌-◌, ◌≤◌, ◌<◌, length, get_or};
+ghost use Rattle.std.specs.Prelude.{◌≡◌, ℕ, Some, IfOk, IfErr, ◌+◌, ◌-◌, ◌≤◌, ◌<◌, length, get_or};
+ghost use Rattle.prelude.specs.Refusal.{number_of};
 ghost use Rattle.prelude.specs.Span.{splice};
-ghost use Rattle.fix_words.specs.Message.{is_text, bytes_for};
-ghost use Rattle.fix_words.specs.Record.{session, writing_of, write_of};
+ghost use Rattle.fix_words.specs.Message.{is_text, texted};
+ghost use Rattle.fix_words.specs.Record.{session, writing_of, write_refusal, write_of};
 ghost use Rattle.fix.specs.Laws.Plan.{Parted, text_right, texts_right, less_by, inner_long, Decided};
 ghost use Rattle.fix_table.specs.Table.{form_of};
+ghost use Rattle.fix_table.specs.declared.Form.TheVariants.{Text};
 ghost use Rattle.fix_claims.specs.Call.{wrote, write_call};
 
-use crate::room::Room;
-use crate::value::minus;
+use crate::session::Session;
 use crate::{put, room};
 use fix_claims::Written;
-use fix_table::form_of;
+use fix_table::{Form, form_of};
+use prelude::Refusal;
+use records::parts::{Parts, message_parts};
 
-// What was decided before a byte is written: a refusal, or the record's parts and the body's length.
+// What is decided before a byte is written: the record's parts and the body's length.
 #[derive(Clone, Copy)]
 pub(crate) struct Plan {
-    pub refusal: u32,
-    pub map: u32,
-    pub at: [usize; 33],
-    pub numbers: [u64; 32],
-    pub high: u64,
+    pub parts: Parts,
     pub body: usize,
 }
 
@@ -29,184 +28,109 @@ pub(crate) struct Plan {
 fn is_text(s: &[u8]) -> bool
     ensures { result ≡ is_text s.now }
 {
-    if s.len() == 0 {
-        return false;
-    }
-    let mut i = 0;
-    while i < s.len() {
-        if s[i] < 32 {
-            return false;
-        }
-        i += 1;
-    }
-    true
+    !s.is_empty() && s.iter().all(|c| b' ' <= *c)
 }
 
 // The same of bit b, where it is a text, stands, and ends at `to`.
 fn text_right(s: &[u8], map: u32, to: usize, n: u64, b: usize) -> bool
-    requires { (b < 32) × (form_of b ≡ 2 → (to - n) + n ≤ length s.now) }
+    requires { (b < 32) × (form_of b ≡ Text → (to - n) + n ≤ length s.now) }
     ensures { result ≡ text_right s.now map to n b }
 {
-    if form_of(b) != 2 {
-        return true;
+    match form_of(b) {
+        Form::Text => {
+            if !bits::has(map, b as u32) {
+                return true;
+            }
+            let count = n as usize;
+            let from = to.saturating_sub(count);
+            is_text(&s[from..from + count])
+        }
+        _ => true,
     }
-    if !bits::has(map, b as u32) {
-        return true;
-    }
-    let count = n as usize;
-    let from = minus(to, count);
-    is_text(&s[from..from + count])
 }
 
 // Of all bits.
-fn texts_right(s: &[u8], map: u32, at: &[usize; 33], numbers: &[u64; 32]) -> bool
-    requires { (b : ℕ) → b < 32 → form_of b ≡ 2 → (get_or at.now (b + 1) 0 - get_or numbers.now b 0) + get_or numbers.now b 0 ≤ length s.now }
-    ensures { result ≡ texts_right s.now map at.now numbers.now }
+fn texts_right(s: &[u8], parts: &Parts) -> bool
+    requires { (b : ℕ) → b < 32 → form_of b ≡ Text → (get_or parts.now.at (b + 1) 0 - get_or parts.now.numbers b 0) + get_or parts.now.numbers b 0 ≤ length s.now }
+    ensures { result ≡ texts_right s.now parts.now.map parts.now.at parts.now.numbers }
 {
-    let mut b = 0;
-    while b < 32 {
-        if !text_right(s, map, at[b + 1], numbers[b], b) {
+    for b in 0..32 {
+        if !text_right(s, parts.map, parts.at[b + 1], parts.numbers[b], b) {
             return false;
         }
-        b += 1;
     }
     true
 }
 
-// The room behind what 9 counts.
-fn inside(
-    room: usize,
-    sender: usize,
-    target: usize,
-    sequence: u64,
-    time: usize,
-    kind: u8,
-    map: u32,
-    at: &[usize; 33],
-    numbers: &[u64; 32],
-    high: u64,
-) -> Room
-    requires { (16 ≤ kind) × (kind ≤ 20) }
-    ensures { result ≡ less_by (record { fits = true; left = room }) (inner_long sender target sequence time kind map at.now numbers.now high) }
+// Whether FIX can carry every text, of the session and of the record.
+fn texted(record: &[u8], header: &Session, parts: &Parts) -> bool
+    requires { Parted «record».now parts.now.map parts.now.at parts.now.numbers parts.now.high }
+    ensures { result ≡ texted (writing_of «record».now (session header.now.sender.now header.now.target.now header.now.sequence header.now.time.now)) }
 {
-    let whole = Room {
-        fits: true,
-        left: room,
-    };
-    let head = room::less_head(whole, sender, target, sequence, time);
-    let body = room::less_body(head, kind, map, at, numbers, high);
-    room::less_stamp(body, kind, time)
+    is_text(header.sender)
+        && is_text(header.target)
+        && is_text(header.time)
+        && texts_right(record, parts)
 }
 
-fn refused(refusal: u32) -> Plan
-    ensures { result.refusal ≡ refusal }
+// The room behind what 9 counts.
+fn inside(room: usize, header: &Session, kind: u8, parts: &Parts) -> Option<usize>
+    requires { (16 ≤ kind) × (kind ≤ 20) }
+    ensures { result ≡ less_by (Some room) (inner_long (length header.now.sender.now) (length header.now.target.now) header.now.sequence (length header.now.time.now) kind parts.now.map parts.now.at parts.now.numbers parts.now.high) }
 {
-    let at = [0usize; 33];
-    let numbers = [0u64; 32];
-    Plan {
-        refusal,
-        map: 0,
-        at,
-        numbers,
-        high: 0,
-        body: 0,
-    }
+    let head = room::less_head(Some(room), header);
+    let body = room::less_body(head, kind, parts);
+    room::less_stamp(body, kind, header.time.len())
 }
 
 // The questions, in their order, and the length.
-fn decide(
-    record: &[u8],
-    sender: &[u8],
-    target: &[u8],
-    sequence: u64,
-    time: &[u8],
-    room: usize,
-) -> Plan
-    ensures { Decided «record».now (session sender.now target.now sequence time.now) room result }
+fn decide(record: &[u8], header: &Session, room: usize) -> Result<Plan, Refusal>
+    ensures ok { IfOk result (Decided «record».now (session header.now.sender.now header.now.target.now header.now.sequence header.now.time.now) room) }
+    ensures err { IfErr result (λ r. number_of r ≡ write_refusal «record».now (session header.now.sender.now header.now.target.now header.now.sequence header.now.time.now) room) }
 {
-    let p = records::parts::message_parts(record);
-    if p.refusal != 0 {
-        return refused(p.refusal);
+    let parts = message_parts(record)?;
+    if !texted(record, header, &parts) {
+        return Err(Refusal::BadText);
     }
-    let m = p.map;
-    let at = p.at;
-    let ns = p.numbers;
-    let high = p.high;
-    if !(is_text(sender) & is_text(target) & is_text(time) & texts_right(record, m, &at, &ns)) {
-        return refused(9);
+    let left = inside(room, header, record[0], &parts);
+    let Some(rest) = left else {
+        return Err(Refusal::NoRoom);
+    };
+    let body = room - rest;
+    if room::less_frame(left, body).is_none() {
+        return Err(Refusal::NoRoom);
     }
-    let k = record[0];
-    let left = inside(
-        room,
-        sender.len(),
-        target.len(),
-        sequence,
-        time.len(),
-        k,
-        m,
-        &at,
-        &ns,
-        high,
-    );
-    let body = minus(room, left.left);
-    let all = room::less_frame(left, body);
-    if !all.fits {
-        return refused(10);
-    }
-    Plan {
-        refusal: 0,
-        map: m,
-        at,
-        numbers: ns,
-        high,
-        body,
-    }
+    Ok(Plan { parts, body })
 }
 
 // The whole message, which has room.
-fn put_message(
-    out: &mut [u8],
-    record: &[u8],
-    sender: &[u8],
-    target: &[u8],
-    sequence: u64,
-    time: &[u8],
-    p: Plan,
-) -> usize
-    requires { Decided «record».now (session sender.now target.now sequence time.now) (length out.old) p × (p.refusal ≡ 0) }
-    ensures { (result ≡ length (write_of «record».now (session sender.now target.now sequence time.now))) × (out.new ≡ splice out.old 0 (write_of «record».now (session sender.now target.now sequence time.now))) }
+fn put_message(out: &mut [u8], record: &[u8], header: &Session, p: &Plan) -> usize
+    requires { Decided «record».now (session header.now.sender.now header.now.target.now header.now.sequence header.now.time.now) (length out.old) p.now }
+    ensures { (result ≡ length (write_of «record».now (session header.now.sender.now header.now.target.now header.now.sequence header.now.time.now))) × (out.new ≡ splice out.old 0 (write_of «record».now (session header.now.sender.now header.now.target.now header.now.sequence header.now.time.now))) }
 {
     let kind = record[0];
-    let at = p.at;
-    let numbers = p.numbers;
     let a = put::put_first(out, p.body as u64);
-    let b = put::put_head(out, a, kind, sender, target, sequence, time);
-    let c = put::put_body(out, b, record, kind, p.map, &at, &numbers, p.high);
-    let d = put::put_stamp(out, c, kind, time);
+    let b = put::put_head(out, a, kind, header);
+    let c = put::put_body(out, b, record, kind, &p.parts);
+    let d = put::put_stamp(out, c, kind, header.time);
     put::put_trailer(out, d)
 }
 
 // Writes the message of a record.
-pub(crate) fn write(
-    record: &[u8],
-    sender: &[u8],
-    target: &[u8],
-    sequence: u64,
-    time: &[u8],
-    out: &mut [u8],
-) -> Written
-    ensures { wrote result out.new ≡ write_call «record».now (session sender.now target.now sequence time.now) out.old }
+pub(crate) fn write(record: &[u8], header: &Session, out: &mut [u8]) -> Written
+    ensures { wrote result out.new ≡ write_call «record».now (session header.now.sender.now header.now.target.now header.now.sequence header.now.time.now) out.old }
 {
-    let p = decide(record, sender, target, sequence, time, out.len());
-    if p.refusal != 0 {
-        return Written {
-            refusal: p.refusal,
+    match decide(record, header, out.len()) {
+        Ok(plan) => {
+            let end = put_message(out, record, header, &plan);
+            Written {
+                refusal: 0,
+                length: end as u64,
+            }
+        }
+        Err(refusal) => Written {
+            refusal: refusal.number(),
             length: 0,
-        };
-    }
-    let end = put_message(out, record, sender, target, sequence, time, p);
-    Written {
-        refusal: 0,
-        length: end as u64,
+        },
     }
 }

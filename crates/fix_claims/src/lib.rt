@@ -2,7 +2,8 @@
 // cite, the promises and the proofs of them. No code. Rests on fix_words and cut.
 #![tactic(auto)]
 
-// The refusal, or 0 and the length of what was written. With a refusal the length is 0.
+// The refusal, or 0 and the length of what was written. With a refusal the length is 0. The C structure
+// has both fields.
 #[repr(C)]
 #[derive(Clone, Copy)]
 pub struct Written {
@@ -11,7 +12,7 @@ pub struct Written {
 }
 
 // The fields of a message: each one's tag, where its value stands and how long it is; zeros behind
-// them and with a refusal.
+// them and with a refusal. Refusal, count and three arrays, since the C structure has them so.
 #[repr(C)]
 #[derive(Clone, Copy)]
 pub struct FixFields {

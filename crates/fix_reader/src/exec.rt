@@ -1,40 +1,30 @@
 // The ExecID: the order's name, a point, and a number of one word. Rests on `values`.
-ghost use Rattle.std.specs.Prelude.{◌≡◌, ◌%◌, ◌≤◌, ◌∷◌, ◌++◌, length, drop};
+ghost use Rattle.std.specs.Prelude.{◌≡◌, ◌%◌, ◌∷◌, ◌++◌};
 ghost use Rattle.decimal.specs.Decimal.{digits, number_in};
 ghost use Rattle.fix_words.specs.Lists.{same, after};
 ghost use Rattle.fix_reader.specs.Laws.Numbers.{word, step_of};
 
 use crate::values;
 
-// Where the bytes behind the first point start; at the end where there is none.
-fn behind_point(v: &[u8]) -> usize
-    ensures { (result ≤ length v.now) × (drop result v.now ≡ after 46 v.now) }
+// The bytes behind the first point; none where there is none.
+fn behind_point(v: &[u8]) -> &[u8]
+    ensures { result.now ≡ after 46 v.now }
 {
-    let mut i = 0;
-    while i < v.len() {
-        if v[i] == 46 {
-            return i + 1;
-        }
-        i += 1;
+    match v.iter().position(|c| *c == b'.') {
+        Some(i) => &v[i + 1..],
+        None => &[],
     }
-    i
 }
 
 // One byte more of a number that wraps.
 fn step(n: u64, c: u8) -> u64
     ensures { result ≡ step_of n c % word }
 {
-    if c < 48 {
-        return n;
+    if c.is_ascii_digit() {
+        n.wrapping_mul(10).wrapping_add(u64::from(c - b'0'))
+    } else {
+        n
     }
-    if 57 < c {
-        return n;
-    }
-    let two = std::num::wrapping_add_u64(n, n);
-    let four = std::num::wrapping_add_u64(two, two);
-    let five = std::num::wrapping_add_u64(four, n);
-    let ten = std::num::wrapping_add_u64(five, five);
-    std::num::wrapping_add_u64(ten, words::wide(c) - 48)
 }
 
 // The number that a value's digits are, modulo 2^64.
@@ -42,10 +32,8 @@ fn wrapped(v: &[u8]) -> u64
     ensures { result ≡ number_in v.now % word }
 {
     let mut n: u64 = 0;
-    let mut i = 0;
-    while i < v.len() {
-        n = step(n, v[i]);
-        i += 1;
+    for c in v {
+        n = step(n, *c);
     }
     n
 }
@@ -58,14 +46,11 @@ pub(crate) fn exec_fits(name: &[u8], v: &[u8]) -> bool
     if v.len() <= k {
         return false;
     }
-    if v[k] != 46 {
+    if v[k] != b'.' {
         return false;
     }
-    if !values::same(name, &v[0..k]) {
+    if &v[..k] != name {
         return false;
     }
-    let p = behind_point(v);
-    let n = wrapped(&v[p..]);
-    let b = k + 1;
-    values::spelled(&v[b..], n, 0)
+    values::spelled(&v[k + 1..], wrapped(behind_point(v)), 0)
 }

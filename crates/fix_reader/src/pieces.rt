@@ -1,75 +1,72 @@
-// The fields of a message found one behind the other: tag, '=', value, SOH. Rests on words.
-ghost use Rattle.std.specs.Prelude.{◌≡◌, ◌<◌, ◌≤◌, [], length, slice_index};
-ghost use Rattle.fix_reader.specs.Laws.Pieces.{Tagged, Ends, Pieced};
+// The fields of a message found one behind the other: tag, '=', value, SOH.
+ghost use Rattle.std.specs.Prelude.{◌≡◌, ◌≤◌, [], length, slice_index};
+ghost use Rattle.fix_reader.specs.Laws.Pieces.{Digit, Tagged, Ends, Pieced};
 ghost use Rattle.fix_reader.specs.Laws.Split.{Splits};
 ghost use Rattle.fix_claims.specs.Reading.{tabled};
 
-use crate::{Piece, Tag};
 use fix_claims::FixFields;
+use prelude::Refusal;
 
-// Byte i as a number, 0 behind the end.
-fn byte(t: &[u8], i: usize) -> u32
-    ensures { (result ≡ slice_index t.now i) × (result < 256) }
+// A tag, and where its value starts.
+#[derive(Clone, Copy)]
+pub(crate) struct Tag {
+    pub tag: u32,
+    pub at: usize,
+}
+
+// A field: its tag, where its value starts, and where it ends.
+#[derive(Clone, Copy)]
+pub(crate) struct Piece {
+    pub tag: u32,
+    pub at: usize,
+    pub end: usize,
+}
+
+// Byte i, 0 behind the end.
+fn byte(t: &[u8], i: usize) -> u8
+    ensures { result ≡ slice_index t.now i }
 {
-    if i >= t.len() {
-        return 0;
+    if i < t.len() { t[i] } else { 0 }
+}
+
+// Byte i as a digit, where it is one.
+fn digit(t: &[u8], i: usize) -> Option<u32>
+    ensures { Digit (slice_index t.now i) result }
+{
+    let c = byte(t, i);
+    if c.is_ascii_digit() {
+        Some(u32::from(c - b'0'))
+    } else {
+        None
     }
-    words::wide(t[i]) as u32
 }
 
-fn no_tag() -> Tag
-    ensures { result.tag ≡ 0 }
-{
-    Tag { tag: 0, at: 0 }
-}
-
-// The tag at the front, of at most three digits, and where its value starts.
-fn tag_here(t: &[u8]) -> Tag
+// The tag at the front, of at most three digits.
+fn tag_here(t: &[u8]) -> Option<Tag>
     ensures { Tagged t.now result }
 {
-    let a = byte(t, 0);
-    if a < 49 {
-        return no_tag();
+    let a = digit(t, 0)?;
+    if a == 0 {
+        return None;
     }
-    if 57 < a {
-        return no_tag();
+    if byte(t, 1) == b'=' {
+        return Some(Tag { tag: a, at: 2 });
     }
-    let b = byte(t, 1);
-    if b == 61 {
-        return Tag { tag: a - 48, at: 2 };
+    let b = digit(t, 1)?;
+    if byte(t, 2) == b'=' {
+        return Some(Tag {
+            tag: a * 10 + b,
+            at: 3,
+        });
     }
-    if b < 48 {
-        return no_tag();
+    let c = digit(t, 2)?;
+    if byte(t, 3) != b'=' {
+        return None;
     }
-    if 57 < b {
-        return no_tag();
-    }
-    tag_of_more(t, a, b)
-}
-
-// The same, where two digits are known.
-fn tag_of_more(t: &[u8], a: u32, b: u32) -> Tag
-    requires { (a ≡ slice_index t.now 0) × (b ≡ slice_index t.now 1) × (49 ≤ a) × (a ≤ 57) × (48 ≤ b) × (b ≤ 57) }
-    ensures { Tagged t.now result }
-{
-    let tens = (a - 48) * 10 + (b - 48);
-    let c = byte(t, 2);
-    if c == 61 {
-        return Tag { tag: tens, at: 3 };
-    }
-    if c < 48 {
-        return no_tag();
-    }
-    if 57 < c {
-        return no_tag();
-    }
-    if byte(t, 3) != 61 {
-        return no_tag();
-    }
-    Tag {
-        tag: tens * 10 + (c - 48),
+    Some(Tag {
+        tag: (a * 10 + b) * 10 + c,
         at: 4,
-    }
+    })
 }
 
 // Where the printing bytes from an index on end.
@@ -77,67 +74,46 @@ fn end_of(t: &[u8], from: usize) -> usize
     requires { from ≤ length t.now }
     ensures { Ends t.now from result }
 {
-    let mut i = from;
-    while i < t.len() {
-        if t[i] < 32 {
+    for i in from..t.len() {
+        if t[i] < b' ' {
             return i;
         }
-        i += 1;
     }
-    i
-}
-
-fn no_piece() -> Piece
-    ensures { result.tag ≡ 0 }
-{
-    Piece {
-        tag: 0,
-        at: 0,
-        end: 0,
-    }
+    t.len()
 }
 
 // The field at the front.
-pub(crate) fn piece_here(t: &[u8]) -> Piece
+fn piece_here(t: &[u8]) -> Option<Piece>
     ensures { Pieced t.now result }
 {
-    let g = tag_here(t);
-    if g.tag == 0 {
-        return no_piece();
+    let g = tag_here(t)?;
+    let end = end_of(t, g.at);
+    if byte(t, end) != 1 {
+        return None;
     }
-    let at = g.at;
-    let end = end_of(t, at);
-    if end >= t.len() {
-        return no_piece();
-    }
-    if t[end] != 1 {
-        return no_piece();
-    }
-    Piece {
+    Some(Piece {
         tag: g.tag,
-        at,
+        at: g.at,
         end,
-    }
+    })
 }
 
-// No fields, with a refusal.
-pub(crate) fn nothing(refusal: u32) -> FixFields
-    ensures { result ≡ tabled refusal [] }
+// No fields, with the refusal.
+pub(crate) fn nothing() -> FixFields
+    ensures { result ≡ tabled 3 [] }
 {
-    let tag = [0u32; 32];
-    let at = [0u64; 32];
-    let length = [0u64; 32];
     FixFields {
-        refusal,
+        refusal: Refusal::BadRecord.number(),
         count: 0,
-        tag,
-        at,
-        length,
+        tag: [0; 32],
+        at: [0; 32],
+        length: [0; 32],
     }
 }
 
-// All fields of a message, where they are at most 32.
-pub(crate) fn split(m: &[u8]) -> FixFields
+// All fields of a message, where they are at most 32. Sizes become the C structure's numbers by `as`: std
+// has no `From` for them, and `try_from` would have branches that nothing takes.
+pub(crate) fn split(m: &[u8]) -> Option<FixFields>
     ensures { Splits m.now result }
 {
     let mut tag = [0u32; 32];
@@ -145,25 +121,23 @@ pub(crate) fn split(m: &[u8]) -> FixFields
     let mut length = [0u64; 32];
     let mut n: usize = 0;
     let mut p: usize = 0;
+    // A `while`: each field says where the next one begins, so a `for` is no plainer.
     while p < m.len() {
         if n == 32 {
-            return nothing(3);
+            return None;
         }
-        let g = piece_here(&m[p..]);
-        if g.tag == 0 {
-            return nothing(3);
-        }
+        let g = piece_here(&m[p..])?;
         tag[n] = g.tag;
         at[n] = (p + g.at) as u64;
         length[n] = (g.end - g.at) as u64;
         n += 1;
-        p = p + g.end + 1;
+        p += g.end + 1;
     }
-    FixFields {
+    Some(FixFields {
         refusal: 0,
         count: n as u32,
         tag,
         at,
         length,
-    }
+    })
 }

@@ -1,5 +1,5 @@
 // LastPx: a number of two words with eight decimals. It wraps at 2^128, so that one that does not fit is
-// not spelled again as it stood. Rests on decimal's `two_words` and `values`.
+// not spelled again as it stood. Rests on decimal and `values`.
 ghost use Rattle.std.specs.Prelude.{◌≡◌, ◌+◌, ◌*◌, ◌/◌, ◌%◌, ◌<◌, slice_index};
 ghost use Rattle.wide.specs.Wide.{value};
 ghost use Rattle.decimal.specs.Decimal.{decimal, number_in};
@@ -28,30 +28,15 @@ fn times_ten(n: u64, d: u64) -> Tenfold
     }
 }
 
-// Ten times a word and a little, modulo 2^64.
-fn times_ten_wrapped(n: u64, d: u64) -> u64
-    ensures { result ≡ (n * 10 + d) % word }
-{
-    let two = std::num::wrapping_add_u64(n, n);
-    let four = std::num::wrapping_add_u64(two, two);
-    let five = std::num::wrapping_add_u64(four, n);
-    let ten = std::num::wrapping_add_u64(five, five);
-    std::num::wrapping_add_u64(ten, d)
-}
-
 // One byte more.
 fn step(n: [u64; 2], c: u8) -> [u64; 2]
     ensures { (slice_index result 0 ≡ step_of (slice_index n 0) c % word) × (slice_index result 1 ≡ step_high (slice_index n 0) (slice_index n 1) c) }
 {
-    if c < 48 {
+    if !c.is_ascii_digit() {
         return n;
     }
-    if 57 < c {
-        return n;
-    }
-    let low = times_ten(n[0], words::wide(c) - 48);
-    let high = times_ten_wrapped(n[1], low.over);
-    [low.low, high]
+    let low = times_ten(n[0], u64::from(c - b'0'));
+    [low.low, n[1].wrapping_mul(10).wrapping_add(low.over)]
 }
 
 // The number that a value's digits are, modulo 2^128.
@@ -59,11 +44,9 @@ fn wrapped(v: &[u8]) -> [u64; 2]
     ensures { value result ≡ two_low (number_in v.now) }
 {
     let mut n = [0u64, 0];
-    let mut i = 0;
-    while i < v.len() {
-        let more = step(n, v[i]);
+    for c in v {
+        let more = step(n, *c);
         n = more;
-        i += 1;
     }
     n
 }
@@ -76,17 +59,16 @@ fn spelled(v: &[u8], n: [u64; 2]) -> bool
         return values::spelled(v, n[0], 8);
     }
     let mut out = [0u8; 320];
-    let end = decimal::two_words::put_decimal(&mut out, 0, n, 8);
-    if 320 < end {
+    let end = decimal::put_decimal(&mut out, 0, n, 8);
+    if out.len() < end {
         return false;
     }
-    values::same(&out[0..end], v)
+    &out[..end] == v
 }
 
 // Whether a value is a price of two words.
 pub(crate) fn price_fits(v: &[u8]) -> bool
     ensures { result ≡ same (decimal 8 (two_low (number_in v.now))) v.now }
 {
-    let n = wrapped(v);
-    spelled(v, n)
+    spelled(v, wrapped(v))
 }

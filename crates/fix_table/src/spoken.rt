@@ -1,34 +1,35 @@
-// The words of our own that a text may be, one behind the other: the fixed texts 1 to 18, and NONE as 19.
-ghost use Rattle.std.specs.Prelude.{◌≡◌, [], length, slice_index_or};
+// The words of our own that a text may be: the fixed texts 1 to 18, and NONE as 19.
+ghost use Rattle.std.specs.Prelude.{◌≡◌, [], slice_index_or};
 ghost use Rattle.fix_table.specs.Table.{spoken};
 
-pub const WORDS: [u8; 231] = [
-    103, 97, 116, 101, 119, 97, 121, 32, 105, 115, 32, 99, 97, 110, 99, 101, 108, 108, 105, 110,
-    103, 114, 101, 112, 108, 97, 99, 101, 32, 112, 101, 110, 100, 105, 110, 103, 98, 101, 108, 111,
-    119, 32, 102, 105, 108, 108, 101, 100, 98, 108, 111, 99, 107, 101, 100, 100, 117, 112, 108,
-    105, 99, 97, 116, 101, 117, 110, 107, 110, 111, 119, 110, 32, 111, 114, 100, 101, 114, 111,
-    114, 100, 101, 114, 32, 105, 115, 32, 100, 111, 110, 101, 116, 111, 111, 32, 109, 97, 110, 121,
-    32, 114, 101, 113, 117, 101, 115, 116, 115, 115, 105, 100, 101, 32, 111, 114, 32, 115, 121,
-    109, 98, 111, 108, 114, 101, 106, 101, 99, 116, 101, 100, 32, 98, 121, 32, 116, 104, 101, 32,
-    118, 101, 110, 117, 101, 110, 111, 116, 32, 115, 101, 110, 116, 32, 98, 101, 102, 111, 114,
-    101, 32, 114, 101, 115, 116, 97, 114, 116, 83, 121, 109, 98, 111, 108, 79, 114, 100, 101, 114,
-    81, 116, 121, 78, 111, 82, 101, 102, 101, 114, 101, 110, 99, 101, 80, 114, 105, 99, 101, 78,
-    111, 116, 105, 111, 110, 97, 108, 80, 114, 105, 99, 101, 66, 97, 110, 100, 83, 101, 108, 102,
-    84, 114, 97, 100, 101, 67, 114, 101, 100, 105, 116, 78, 79, 78, 69,
-];
+// NONE among the words.
+pub const NONE: u64 = 19;
 
-// Where each starts and the one before it ends.
-pub const STARTS: [usize; 21] = [
-    0, 0, 21, 36, 48, 55, 64, 77, 90, 107, 121, 142, 165, 171, 179, 195, 203, 212, 221, 227, 231,
-];
-
-// How many bytes the words n have; past the last there are none.
-pub fn words_length(n: u64) -> usize
-    ensures { result ≡ length (slice_index_or spoken n []) }
+// The words n; past the last there are none.
+#[tactic(auto, unfolding(crate::specs::Table::spoken, fix_words::specs::Values::texts))]
+pub fn words(n: u64) -> &'static [u8]
+    ensures { result.now ≡ slice_index_or spoken n [] }
 {
-    if 19 < n {
-        return 0;
+    match n {
+        1 => b"gateway is cancelling",
+        2 => b"replace pending",
+        3 => b"below filled",
+        4 => b"blocked",
+        5 => b"duplicate",
+        6 => b"unknown order",
+        7 => b"order is done",
+        8 => b"too many requests",
+        9 => b"side or symbol",
+        10 => b"rejected by the venue",
+        11 => b"not sent before restart",
+        12 => b"Symbol",
+        13 => b"OrderQty",
+        14 => b"NoReferencePrice",
+        15 => b"Notional",
+        16 => b"PriceBand",
+        17 => b"SelfTrade",
+        18 => b"Credit",
+        NONE => b"NONE",
+        _ => b"",
     }
-    let i = n as usize;
-    STARTS[i + 1] - STARTS[i]
 }

@@ -1,8 +1,7 @@
 -- What the writer answers to smallest records, and the reader to a message with one fault each; and the words of the fixed texts. Each is
 -- computed. In a faulty message 9 and 10 are right, unless they are the fault. Rests on Small and Message.
-use Rattle.std.specs.Prelude.{ℕ, ◌≡◌, refl, List, [], ◌∷◌, ◌++◌, Bool, true, false, eqb, take}
+use Rattle.std.specs.Prelude.{ℕ, ◌≡◌, refl, List, [], ◌∷◌, ◌++◌, Bool, true, false, eqb, take, Option, None, Some}
 use Prim.Native.String.{String}
-use Rattle.std.proofs.Math.Option.{Option, none, some}
 use Rattle.prelude.specs.Cases.{if◌then◌otherwise◌, maybe}
 use Rattle.prelude.specs.Below.{all_below, first_below}
 use Rattle.prelude.specs.Number.{bytes_of}
@@ -323,18 +322,18 @@ rejects = record {
 -- A report is too long to compute whole: what is read of a value, and the question that it fails. 37; 58 behind 31; both 58; 17, of which the number is
 -- read, and written again behind the name has to be as it stood.
 abbrev read_as : ℕ → String → Option (List ℕ)
-read_as b v = held_in b (some (ascii v))
+read_as b v = held_in b (Some (ascii v))
 
 abbrev exec_again : (name exec : String) → Bool
-exec_again name exec = same (exec_id (some (ascii name)) (or_else [] (read_as 25 exec))) (ascii exec)
+exec_again name exec = same (exec_id (Some (ascii name)) (or_else [] (read_as 25 exec))) (ascii exec)
 
 record Reports : Type 0 where
   named : shape_at 16 2 (read_as 2 "A") ≡ true
   named_none : shape_at 16 2 (read_as 2 "NONE") ≡ false
   fixed_late : range_at 27 (read_as 27 "blocked") ≡ true
   text_late : range_at 27 (read_as 27 "ok") ≡ false
-  one_text : paired 16 (λ b. if eqb b 27 then none otherwise some []) ≡ true
-  two_texts : paired 16 (λ b. some []) ≡ false
+  one_text : paired 16 (λ b. if eqb b 27 then None otherwise Some []) ≡ true
+  two_texts : paired 16 (λ b. Some []) ≡ false
   exec : exec_again "A" "A.300" ≡ true
   exec_of_another : exec_again "A" "B.300" ≡ false
   exec_without_point : exec_again "A" "A300" ≡ false

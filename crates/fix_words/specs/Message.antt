@@ -1,6 +1,5 @@
 -- A FIX 4.4 message: what is written, the writer's questions, and the reader. Rests on Values.
-use Rattle.std.specs.Prelude.{ℕ, ◌%◌, List, [], ◌∷◌, ◌++◌, Bool, true, false, not, ◌&&◌, ◌||◌, eqb, leb, ltb, length, get_or, drop}
-use Rattle.std.proofs.Math.Option.{Option, none, some}
+use Rattle.std.specs.Prelude.{ℕ, ◌%◌, List, [], ◌∷◌, ◌++◌, Bool, true, false, not, ◌&&◌, ◌||◌, eqb, leb, ltb, length, get_or, drop, Option, None, Some}
 use Rattle.prelude.specs.Cases.{if◌then◌otherwise◌, is_some}
 use Rattle.prelude.specs.Below.{all_below}
 use Rattle.prelude.specs.Number.{bound}
@@ -68,8 +67,8 @@ bytes_for w = spellings (fields_of w)
 
 -- 3: a bit that stands may, and has its bytes; one that must stand does
 abbrev pub shape_at : ℕ → ℕ → Option (List ℕ) → Bool
-shape_at k b none = not (bit (required k) b)
-shape_at k b (some c) = (bit (required k) b || bit (allowed k) b) && (every (λ x. ltb x 256) c && (is_text_bit b || eqb (length c) (size b)))
+shape_at k b None = not (bit (required k) b)
+shape_at k b (Some c) = (bit (required k) b || bit (allowed k) b) && (every (λ x. ltb x 256) c && (is_text_bit b || eqb (length c) (size b)))
 
 -- a reason and its origin stand together; at most one text, in a reject exactly one
 unfoldable pub paired : ℕ → Values → Bool
@@ -86,8 +85,8 @@ abbrev pub is_name_of : List ℕ → Bool
 is_name_of c = every is_alnum c && not (same c none_word)
 
 abbrev pub range_at : ℕ → Option (List ℕ) → Bool
-range_at b none = true
-range_at b (some c) = in_range (range b) (value b c) && (not (eqb b 2) || is_name_of c)
+range_at b None = true
+range_at b (Some c) = in_range (range b) (value b c) && (not (eqb b 2) || is_name_of c)
 
 unfoldable pub ranged : Values → Bool
 ranged at = all_below (λ b. range_at b (at b)) 32
@@ -98,8 +97,8 @@ is_text [] = false
 is_text (c ∷ s) = every is_print (c ∷ s)
 
 abbrev pub text_at : ℕ → Option (List ℕ) → Bool
-text_at b none = true
-text_at b (some c) = not (is_text_bit b) || is_text c
+text_at b None = true
+text_at b (Some c) = not (is_text_bit b) || is_text c
 
 unfoldable pub texted : Writing → Bool
 texted w = is_text w.sender && (is_text w.target && (is_text w.time && all_below (λ b. text_at b (w.at b)) 32))

@@ -1,6 +1,5 @@
 -- The writer on a record's bytes and a session's texts: what each bit holds, the answer, and the bytes. Rests on Message and format's Refusal.
-use Rattle.std.specs.Prelude.{ℕ, ◌≡◌, List, [], Bool, true, not, ltb, length}
-use Rattle.std.proofs.Math.Option.{none, some}
+use Rattle.std.specs.Prelude.{ℕ, ◌≡◌, List, [], Bool, true, not, ltb, length, None, Some}
 use Rattle.prelude.specs.Cases.{if◌then◌otherwise◌}
 use Rattle.prelude.specs.Number.{Bytes}
 use Rattle.bits.specs.Map.{bit}
@@ -12,7 +11,7 @@ use Rattle.fix_words.specs.Message.{Writing, bytes_for, texted, typed}
 
 -- what each bit of the record holds
 unfoldable pub field_at : List ℕ → Values
-field_at s b = if bit (map_at s 0) b then some (content s 0 (map_at s 0) b) otherwise none
+field_at s b = if bit (map_at s 0) b then Some (content s 0 (map_at s 0) b) otherwise None
 
 -- the session's part of a writing
 pub record Session : Type 0 where

@@ -1,6 +1,5 @@
 -- What a record's fields are in FIX: the table of each kind, the value of each bit, and what a value holds. Rests on Rows and format.
-use Rattle.std.specs.Prelude.{ℕ, ◌-◌, List, [], ◌∷◌, ◌++◌, Bool, true, false, ◌||◌, eqb, get_or}
-use Rattle.std.proofs.Math.Option.{Option, none, some}
+use Rattle.std.specs.Prelude.{ℕ, ◌-◌, List, [], ◌∷◌, ◌++◌, Bool, true, false, ◌||◌, eqb, get_or, Option, None, Some}
 use Rattle.prelude.specs.Cases.{if◌then◌otherwise◌, maybe}
 use Rattle.prelude.specs.Below.{first_below}
 use Rattle.prelude.specs.Number.{number, bytes_of}
@@ -100,16 +99,16 @@ unfoldable pub spelling : ℕ → List ℕ → List ℕ
 spelling b c = if is_plain b then c otherwise decimal (places b) (number c)
 
 abbrev pub over : (List ℕ → List ℕ) → Option (List ℕ) → Option (List ℕ)
-over f none = none
-over f (some c) = some (f c)
+over f None = None
+over f (Some c) = Some (f c)
 
 abbrev pub or_else : List ℕ → Option (List ℕ) → List ℕ
-or_else d none = d
-or_else d (some c) = c
+or_else d None = d
+or_else d (Some c) = c
 
 abbrev pub either : Option (List ℕ) → Option (List ℕ) → Option (List ℕ)
-either none o = o
-either (some c) o = some c
+either None o = o
+either (Some c) o = Some c
 
 -- the order's name, a point and the report sequence
 abbrev pub exec_id : Option (List ℕ) → List ℕ → List ℕ
@@ -121,7 +120,7 @@ fixed_words c = words_of (get_or c 0 0)
 -- the FIX value of bit b, from what each bit of the record holds; a reject (17) names an order or NONE, and has one text of either kind
 unfoldable pub value_of : ℕ → Values → ℕ → Option (List ℕ)
 value_of k at b =
-    if eqb b 2 then (if eqb k 17 then some (or_else none_word (at 2)) otherwise at 2) otherwise
+    if eqb b 2 then (if eqb k 17 then Some (or_else none_word (at 2)) otherwise at 2) otherwise
     if eqb b 20 then (if eqb k 17 then either (at 20) (over fixed_words (at 27)) otherwise at 20) otherwise
     if eqb b 25 then over (exec_id (at 2)) (at 25) otherwise
     if eqb b 27 then over fixed_words (at 27) otherwise
@@ -133,8 +132,8 @@ unfoldable pub unspelled : ℕ → List ℕ → List ℕ
 unspelled b v = if is_plain b then v otherwise bytes_of (size b) (number_in v)
 
 abbrev pub unless_none : Option (List ℕ) → Option (List ℕ)
-unless_none none = none
-unless_none (some v) = if same v none_word then none otherwise some v
+unless_none None = None
+unless_none (Some v) = if same v none_word then None otherwise Some v
 
 -- what bit b holds, from its FIX value
 unfoldable pub held_in : ℕ → Option (List ℕ) → Option (List ℕ)
@@ -148,8 +147,8 @@ held_in b v =
 unfoldable pub unsaid : ℕ → Option (List ℕ) → ℕ → Option (List ℕ)
 unsaid k reason b =
     if eqb b 28 then over (λ v. 1 ∷ []) reason otherwise
-    if bit (required k) b then some (bytes_of (size b) (if eqb b 8 then 49 otherwise 0)) otherwise
-    none
+    if bit (required k) b then Some (bytes_of (size b) (if eqb b 8 then 49 otherwise 0)) otherwise
+    None
 
 unfoldable pub contents : ℕ → Values → ℕ → Option (List ℕ)
 contents k vs b = if in_rows (rows k) b then held_in b (vs b) otherwise unsaid k (vs 19) b

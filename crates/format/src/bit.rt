@@ -1,5 +1,5 @@
-// The bits of a record's map that code names; the table of all fields is format's definition. Rests
-// on nothing.
+// The bits of a record's map that code names, as numbers by which it shifts; the table of all fields is
+// format's definition. Rests on nothing.
 
 pub const CLIENT: u32 = 0;
 

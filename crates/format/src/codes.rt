@@ -1,5 +1,6 @@
 // The numbers of the record format, by name, once for all crates: FIX 4.4's codes that the handling
-// names, and the kinds of records (docs/SCOPE.md). Rests on nothing.
+// names, and the kinds of records (docs/SCOPE.md). Any byte may stand in a record, so they are numbers
+// and no enum. Rests on nothing.
 
 // OrdStatus(39).
 pub const PENDING_NEW: u8 = b'A';

@@ -19,6 +19,7 @@ ghost use Rattle.chain.specs.Chain.{chained, chain_call};
 use counted::Counted;
 use opens::Opened;
 use orders::order;
+use prelude::Refusal;
 use store::layout;
 
 mod beside; // what goes beside the requests' fields, by value
@@ -29,7 +30,7 @@ pub fn start(book: &mut [u8], setting: u32) -> u32
     ensures { (result ≡ start_refusal book.old) × (book.new ≡ start_of book.old setting) }
 {
     if book.len() != layout::BOOK {
-        return 1;
+        return Refusal::BadBook.number();
     }
     store::clear(book, setting);
     0
@@ -39,10 +40,10 @@ pub fn start(book: &mut [u8], setting: u32) -> u32
 pub fn event(book: &mut [u8], record: &[u8], answer: &mut [u8]) -> u32
     ensures { outcome result book.new answer.new ≡ event_of book.old «record».now answer.old }
 {
-    let c = step::call_of(book, record, answer.len());
-    if c.refusal != 0 {
-        return c.refusal as u32;
-    }
+    let c = match step::call_of(book, record, answer.len()) {
+        Ok(c) => c,
+        Err(refusal) => return refusal.number(),
+    };
     let leaves = order::leaves_qty(c.order);
     let opening = opens::opening(book, c.place, c.order.client, leaves);
     let outcome = beside::outcome(record, c.requests);
@@ -62,30 +63,31 @@ pub fn check(book: &[u8]) -> u32
     ensures { result ≡ check_of book.now }
 {
     if opens::keeps(book) {
-        return 0;
+        0
+    } else {
+        Refusal::BadBook.number()
     }
-    1
 }
 
 // Prints the evening page of the book to the front of `out`; the number is the page's length.
 pub fn page(book: &[u8], out: &mut [u8]) -> Counted
     ensures { paged result out.new ≡ page_call book.now out.old }
 {
-    page::page(book, out)
+    Counted::from(page::page(book, out))
 }
 
 // The open quantity of a client: the sum of LeavesQty over its orders, 0 for one without orders.
 pub fn open_quantity(book: &[u8], client: u16) -> Opened
     ensures { result ≡ open_call book.now client }
 {
-    opens::open_quantity(book, client)
+    Opened::from(opens::open_quantity(book, client))
 }
 
 // Writes a line for each client and symbol to the front of `lines`; the number is their count.
 pub fn net_position(book: &[u8], scratch: &mut [u64], lines: &mut [u8]) -> Counted
     ensures { IsNet book.now scratch.old lines.old result scratch.new lines.new }
 {
-    net::net_position(book, scratch, lines)
+    Counted::from(net::net_position(book, scratch, lines))
 }
 
 // Sets a mark in `places`: the name and an image of the book, in the first place of that name, else in
@@ -93,7 +95,7 @@ pub fn net_position(book: &[u8], scratch: &mut [u64], lines: &mut [u8]) -> Count
 pub fn set_mark(book: &[u8], name: &[u8], places: &mut [u8]) -> u32
     ensures { marked result book.now places.new ≡ set_mark_of book.now name.now places.old }
 {
-    marks::set_mark(book, name, places)
+    counted::refusal_of(marks::set_mark(book, name, places))
 }
 
 // Returns to a mark: the book becomes the image of the first place of that name whose image keeps the
@@ -101,7 +103,7 @@ pub fn set_mark(book: &[u8], name: &[u8], places: &mut [u8]) -> u32
 pub fn return_to_mark(book: &mut [u8], name: &[u8], places: &[u8]) -> u32
     ensures { marked result book.new places.now ≡ return_of book.old name.now places.now }
 {
-    marks::return_to_mark(book, name, places)
+    counted::refusal_of(marks::return_to_mark(book, name, places))
 }
 
 // What the event in `record` will need of an answer buffer of 1,024 bytes and of the book: its own
@@ -117,5 +119,5 @@ pub fn needs(book: &[u8], record: &[u8]) -> needs::Needs
 pub fn chain(book: &[u8], client: u16, name: &[u8], list: &mut [u8]) -> Counted
     ensures { chained result list.new ≡ chain_call book.now client name.now list.old }
 {
-    chain::chain(book, client, name, list)
+    Counted::from(chain::chain(book, client, name, list))
 }

@@ -5,14 +5,14 @@ ghost use Rattle.std.specs.Prelude.{◌≡◌};
 ghost use Rattle.machine.specs.Amend.{send_refused};
 ghost use Rattle.gateway_cancel.specs.Tries.{sent_once};
 
-use orders::order;
 use store::GatewayCancel;
 
 // One try more, which goes out and names the request `current`.
+#[tactic(auto, unfolding(crate::specs::Tries::sent_once), using(orders::specs::Laws::Counts::one_more_lem))]
 fn send(g: &mut GatewayCancel, current: u16)
     ensures { g.new ≡ sent_once g.old current }
 {
-    g.tries = order::one_more_8(g.tries);
+    g.tries = g.tries.saturating_add(1);
     g.unsent = false;
     g.origdownstream = current;
 }
@@ -26,12 +26,13 @@ pub(crate) fn sent(g: GatewayCancel, current: u16) -> GatewayCancel
 }
 
 // One try less, and it waits.
+#[tactic(auto, unfolding(machine::specs::Amend::send_refused), using(orders::specs::Laws::Counts::one_more_lem))]
 fn fail(g: &mut GatewayCancel)
     ensures { g.new ≡ send_refused g.old }
 {
-    g.tries = order::one_less_8(g.tries);
+    g.tries = g.tries.saturating_sub(1);
     g.unsent = true;
-    g.refusedsends = order::one_more_32(g.refusedsends);
+    g.refusedsends = g.refusedsends.saturating_add(1);
 }
 
 pub fn failed(g: GatewayCancel) -> GatewayCancel

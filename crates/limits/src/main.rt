@@ -2,111 +2,94 @@
 // requests, and what an event that adds none gets then. Rests on gateway.
 #![tactic(auto)]
 
+ghost use Rattle.std.specs.Prelude.{◌<◌};
+
 use std::io;
 
+// The most ClOrdIDs that a client may use.
+const SETTING: u32 = 10000;
+
+// A decimal digit of a number, as a character: by `as`, since `try_from` would have a branch that nothing
+// takes.
+fn digit(n: u16, unit: u16) -> u8
+    requires { 0 < unit }
+{
+    b'0' + (n / unit % 10) as u8
+}
+
 // A booking of order Nab by client 1: ClOrdID Cab, symbol S, buy 100 at 10.
-fn booking(i: u8) -> [u8; 37] {
-    let a = 48 + i / 10 % 10;
-    let b = 48 + i % 10;
+fn booking(i: u16) -> [u8; 37] {
+    let a = digit(i, 10);
+    let b = digit(i, 1);
     [
-        1, 207, 7, 0, 0, 1, 0, 1, 0, 3, 78, a, b, 3, 67, a, b, 1, 83, 49, 50, 64, 66, 15, 0, 0, 0,
-        0, 0, 0, 202, 154, 59, 0, 0, 0, 0,
+        1, 207, 7, 0, 0, 1, 0, 1, 0, 3, b'N', a, b, 3, b'C', a, b, 1, b'S', 49, 50, 64, 66, 15, 0,
+        0, 0, 0, 0, 0, 202, 154, 59, 0, 0, 0, 0,
     ]
 }
 
 // A cancel of order N00 with ClOrdID Kabc.
 fn cancel(i: u16) -> [u8; 19] {
-    let a = (48 + i / 100 % 10) as u8;
-    let b = (48 + i / 10 % 10) as u8;
-    let c = (48 + i % 10) as u8;
+    let a = digit(i, 100);
+    let b = digit(i, 10);
+    let c = digit(i, 1);
     [
-        2, 217, 0, 0, 0, 1, 0, 4, 75, a, b, c, 3, 67, 48, 48, 1, 83, 49,
+        2, 217, 0, 0, 0, 1, 0, 4, b'K', a, b, c, 3, b'C', b'0', b'0', 1, b'S', 49,
     ]
 }
 
 // The venue's report that N00 is New: it adds no request.
 fn report() -> [u8; 45] {
-    let mut r = [0u8; 45];
-    r[0] = 4;
-    r[1] = 34;
-    r[2] = 240;
-    r[3] = 3;
-    r[5] = 1;
-    r[7] = 3;
-    r[8] = 78;
-    r[9] = 48;
-    r[10] = 48;
-    r[11] = 48;
-    r[12] = 48;
-    r
+    let mut record = [0u8; 45];
+    record[..13].copy_from_slice(&[4, 34, 240, 3, 0, 1, 0, 3, b'N', b'0', b'0', b'0', b'0']);
+    record
 }
 
-fn taken(book: &mut [u8], record: &[u8]) -> u32 {
+// What an event gets.
+fn refusal(book: &mut [u8], record: &[u8]) -> u32 {
     let mut answer = [0u8; 1024];
     gateway::event(book, record, &mut answer)
 }
 
 // Bookings until one is refused: how many were taken.
-fn bookings(book: &mut [u8]) -> u8 {
-    let mut i: u8 = 0;
-    while i < 99 {
-        let r = booking(i);
-        if taken(book, &r) != 0 {
+fn bookings(book: &mut [u8]) -> u16 {
+    for i in 0..99 {
+        if refusal(book, &booking(i)) != 0 {
             return i;
         }
-        i += 1;
     }
-    i
+    99
 }
 
 // Cancels until one is refused: how many were taken.
 fn cancels(book: &mut [u8]) -> u16 {
-    let mut i: u16 = 0;
-    while i < 999 {
-        let r = cancel(i);
-        if taken(book, &r) != 0 {
+    for i in 0..999 {
+        if refusal(book, &cancel(i)) != 0 {
             return i;
         }
-        i += 1;
     }
-    i
-}
-
-fn say(rt: &impl Print, what: &str, n: u64) -> io::Result<()> {
-    println!(rt; "{what}: {n}")
-}
-
-fn say_booking(rt: &impl Print, book: &mut [u8], what: &str, i: u8) -> io::Result<()> {
-    let r = booking(i);
-    let refusal = taken(book, &r);
-    say(rt, what, refusal as u64)
-}
-
-fn say_cancel(rt: &impl Print, book: &mut [u8], i: u16) -> io::Result<()> {
-    let r = cancel(i);
-    let refusal = taken(book, &r);
-    say(rt, "another cancel", refusal as u64)
-}
-
-fn say_report(rt: &impl Print, book: &mut [u8]) -> io::Result<()> {
-    let r = report();
-    let refusal = taken(book, &r);
-    say(rt, "a report", refusal as u64)
+    999
 }
 
 fn main(rt: HostRuntime) -> io::Result<()> {
     let mut book = [0u8; 65536];
-    let _ = gateway::start(&mut book, 10000);
-    let orders = bookings(&mut book);
-    say(&rt, "bookings taken", orders as u64)?;
-    say_booking(&rt, &mut book, "another booking", 65)?;
-    say_cancel(&rt, &mut book, 0)?;
-    let _ = gateway::start(&mut book, 10000);
-    say_booking(&rt, &mut book, "a booking", 0)?;
-    let requests = cancels(&mut book);
-    say(&rt, "cancels taken", requests as u64)?;
-    say_cancel(&rt, &mut book, 990)?;
-    say_booking(&rt, &mut book, "a booking", 1)?;
-    say_report(&rt, &mut book)?;
-    say(&rt, "check", gateway::check(&book) as u64)
+    let _ = gateway::start(&mut book, SETTING);
+    let taken = bookings(&mut book);
+    println!(rt; "bookings taken: {taken}")?;
+    let another = refusal(&mut book, &booking(65));
+    println!(rt; "another booking: {another}")?;
+    let another = refusal(&mut book, &cancel(0));
+    println!(rt; "another cancel: {another}")?;
+    let _ = gateway::start(&mut book, SETTING);
+    let first = refusal(&mut book, &booking(0));
+    println!(rt; "a booking: {first}")?;
+    let taken = cancels(&mut book);
+    println!(rt; "cancels taken: {taken}")?;
+    let another = refusal(&mut book, &cancel(990));
+    println!(rt; "another cancel: {another}")?;
+    let second = refusal(&mut book, &booking(1));
+    println!(rt; "a booking: {second}")?;
+    let venues = refusal(&mut book, &report());
+    println!(rt; "a report: {venues}")?;
+    let check = gateway::check(&book);
+    println!(rt; "check: {check}")
 }

@@ -12,7 +12,7 @@ use Rattle.machine.specs.Constants.{unknown_order_reason}
 use Rattle.machine.specs.Orders.{is_done, leaves_of, has_pending, as_asked, status_at, is_short, unless_short, set_status}
 use Rattle.machine.specs.Changes.{Event}
 use Rattle.machine.specs.declared.Findings.{Findings}
-use Rattle.machine.specs.declared.Refusal.{Refusal}
+use Rattle.machine.specs.declared.Reject.{Reject}
 use Rattle.machine.specs.GatewayCancel.{outstanding_cancel, gateway_cancel_in_flight}
 use Rattle.machine.specs.Amend.{has, matches, amend_refusal, cancel_refusal, check_replace, replace_refusal, resendable}
 use Rattle.machine.specs.Report.{says_unknown_at_venue, is_rejection, pending_here, behind, stale, repeats, status_taken, accepts}
@@ -115,7 +115,7 @@ accepts_booked k q o e = rw (behind_booked k q o e)
 pub order_asked : OrderAsked
 order_asked = record { done = done; unacknowledged = unacknowledged; pending = pending; behind! = behind_booked; stale! = stale_booked; accepts! = accepts_booked }
 
-amend_asked : (f : Findings) (order : ℕ) (full : Bool) (o : Order) (e : Event) (own : Refusal)
+amend_asked : (f : Findings) (order : ℕ) (full : Bool) (o : Order) (e : Event) (own : Reject)
     → amend_refusal f order full o e own ≡ amend_refusal f order full (asked_order o) e own
 unfolding amend_refusal matches
 amend_asked f order full o e own = rw (done o)

@@ -23,7 +23,7 @@ use Rattle.machine.specs.Report.{unknown_at_venue, stale, dropped_stale, dropped
 use Rattle.machine.specs.Machine.{text_note, on_report}
 use Rattle.machine.specs.declared.Findings.{Findings}
 use Rattle.machine.specs.declared.Note.{Note}
-use Rattle.machine.specs.declared.Refusal.{Refusal}
+use Rattle.machine.specs.declared.Reject.{Reject}
 use Rattle.machine.specs.declared.Refused.{Refused}
 use Rattle.machine.specs.declared.Output.{Output}
 use Rattle.machine.specs.declared.Change.{Change}
@@ -163,21 +163,21 @@ abbrev pub status_told : Order → Event → Message
 status_told o e = report (next_exec o) e.ids.clordid e.ids.origclordid exec_status 0 no_price no_note
 
 -- a refusal of ours, told
-abbrev pub refusal_told : (place responseto : ℕ) → Order → Event → Refusal → Message
+abbrev pub refusal_told : (place responseto : ℕ) → Order → Event → Reject → Message
 refusal_told p responseto o e r =
     cancel_reject e.client o.names.name (if eqb p 0 then rejected otherwise o.state.status) e.ids.clordid e.ids.origclordid responseto
     (record { text = no_long_text; fixedtext = r.fixedtext; reason = r.reason; origin = ours })
 
 module _ (order : ℕ) (full : Bool) (o : Order) (e : Event) (p : ℕ) (x : Request) (m n : ℕ) where
   -- the caller's own refusal, by what it is a response to
-  pub data Own : ℕ → Refusal → Type 0 where
+  pub data Own : ℕ → Reject → Type 0 where
     of_cancel : Own cancel_kind (cancel_refusal (findings p x m) o)
     of_replace : Own replace_kind (replace_refusal (findings p x m) o e)
 
   pub data Amended : Change → Change → Type 0 where
     repeated : already_taken (findings p x m) order e ≡ true
         → Amended (left p (next_exec o) 0 0 (says (status_told o e) 0)) (left p (next_exec o) 0 0 (says (status_told o e) 0))
-    turned : {kind : ℕ} {own : Refusal} → Own kind own → not (eqb (amend_refusal (findings p x m) order full o e own).fixedtext 0) ≡ true
+    turned : {kind : ℕ} {own : Reject} → Own kind own → not (eqb (amend_refusal (findings p x m) order full o e own).fixedtext 0) ≡ true
         → Amended (left p o 0 0 (says (refusal_told p kind o e (amend_refusal (findings p x m) order full o e own)) 0))
         (left p o 0 0 (says (refusal_told p kind o e (amend_refusal (findings p x m) order full o e own)) 0))
     unpriced : not (eqb (amend_refusal (findings p x m) order full o e (replace_refusal (findings p x m) o e)).fixedtext 0) ≡ false → Amended (refusing 6) (refusing 6)

@@ -4,7 +4,7 @@ use native.Mathlib.Omega.{arith}
 use mathlib.Core.Path.{◌≡◌, refl, sym, subst}
 use mathlib.Core.Logic.{◌⊎◌, inl, inr}
 use mathlib.Core.Bool.{Bool, true, false}
-use mathlib.Core.Option.{none, some}
+use Rattle.std.specs.Prelude.{None, Some}
 use lib.Dec.{eqb, leb}
 use lib.ListN.{length}
 use borrow.Author.Tests.{eqb-true, eqb-false, not-false}
@@ -41,16 +41,16 @@ ByName e = 0 < e.kind → 8 < e.kind
 
 pub record Ways (P : Change → Type 0) (b : Book) (e : Event) : Type 0 where
   pub refuses : (n : ℕ) → eqb n 0 ≡ false → P (refusing n)
-  pub no_order_lem : ByRequest e ⊎ (ByName e × (find_name b e.ids.name ≡ none)) → P nothing
+  pub no_order_lem : ByRequest e ⊎ (ByName e × (find_name b e.ids.name ≡ None)) → P nothing
   pub unknown : ByRequest e → P unknown_report
   pub books : eqb e.kind 1 ≡ true → unused b e ≡ true → priced_right e.terms.ordtype e ≡ true
       → P (adding (first_request (length b.orders) e) (unchanged (length b.orders + 1) (booked_order (length b.requests + 1) e)))
   pub amends_none : (e.kind ≡ 2) ⊎ (e.kind ≡ 3) → (order : ℕ) (full : Bool) (c c' : Change) → AmendedBy (findings_of b 0) order full no_order e c c' → P c
-  pub amends : (e.kind ≡ 2) ⊎ (e.kind ≡ 3) → (k : ℕ) → find_clordid b e.client e.ids.origclordid ≡ some k → (full : Bool) (c c' : Change)
+  pub amends : (e.kind ≡ 2) ⊎ (e.kind ≡ 3) → (k : ℕ) → find_clordid b e.client e.ids.origclordid ≡ Some k → (full : Bool) (c c' : Change)
       → AmendedBy (findings_of b (order_link b k)) (order_of b e.client e.ids.clordid) full (order_in b (request_in b k).order) e c c' → P c
-  pub answers : ByRequest e → (k : ℕ) → find_downstream b e.ids.downstream ≡ some k
+  pub answers : ByRequest e → (k : ℕ) → find_downstream b e.ids.downstream ≡ Some k
       → (c c' : Change) → MadeBy (findings_of b (order_link b k)) (k + 1) (request_in b k) (order_in b (request_in b k).order) e c c' → P c
-  pub asks : ByName e → (i : ℕ) → find_name b e.ids.name ≡ some i → (c c' : Change) → AskedBy (findings_of b (i + 1)) (order_in b i) c c' → P c
+  pub asks : ByName e → (i : ℕ) → find_name b e.ids.name ≡ Some i → (c c' : Change) → AskedBy (findings_of b (i + 1)) (order_in b i) c c' → P c
 
 none_at : (b : Book) → no_order ≡ order_at_link b 0
 unfolding order_at_link if◌then◌otherwise◌

@@ -1,6 +1,5 @@
 -- src/book/amend.rs: cancels and replaces, what refuses them, and sends that failed. Rests on GatewayCancel.
-use Rattle.std.specs.Prelude.{ℕ, ◌+◌, ◌-◌, Bool, true, false, not, ◌&&◌, ◌||◌, eqb, leb, ltb}
-use Rattle.std.proofs.Math.Option.{Option, none, some}
+use Rattle.std.specs.Prelude.{ℕ, ◌+◌, ◌-◌, Bool, true, false, not, ◌&&◌, ◌||◌, eqb, leb, ltb, Option, None, Some}
 use Rattle.bits.specs.Map.{bit}
 use Rattle.prelude.specs.Cases.{if◌then◌otherwise◌}
 use Rattle.prelude.specs.Texts.{same_text}
@@ -19,7 +18,7 @@ use Rattle.machine.specs.Changes.{Event, unchanged, refusing, answering, adding,
 use Rattle.machine.specs.GatewayCancel.{gateway_cancel_in_flight, gateway_cancel_refused, resume_gateway_cancel}
 use Rattle.machine.specs.declared.Findings.{Findings}
 use Rattle.machine.specs.declared.Note.{Note}
-use Rattle.machine.specs.declared.Refusal.{Refusal}
+use Rattle.machine.specs.declared.Reject.{Reject}
 use Rattle.machine.specs.declared.Refused.{Refused}
 use Rattle.machine.specs.declared.Change.{Change}
 
@@ -32,10 +31,10 @@ has e k = bit e.map k
 -- A lookup found the link of the order that the client already used the ClOrdID for, `order` below, 0 for none; `full` says that the client has used
 -- as many ClOrdIDs as it may.
 
-abbrev pub passes : Refusal
+abbrev pub passes : Reject
 passes = record { reason = 0; fixedtext = 0 }
 
-abbrev pub refusal : (reason fixedtext : ℕ) → Refusal
+abbrev pub refusal : (reason fixedtext : ℕ) → Reject
 refusal reason fixedtext = record { reason = reason; fixedtext = fixedtext }
 
 -- the event names the order's side and symbol
@@ -43,7 +42,7 @@ unfoldable pub matches : Order → Event → Bool
 matches o e = eqb o.terms.side e.terms.side && same_text o.names.symbol e.ids.symbol
 
 -- the refusals that cancels and replaces share, in order, and then the caller's own. The order's link is 0 where there is none.
-unfoldable pub amend_refusal : Findings → (order : ℕ) (full : Bool) → Order → Event → Refusal → Refusal
+unfoldable pub amend_refusal : Findings → (order : ℕ) (full : Bool) → Order → Event → Reject → Reject
 amend_refusal f order full o e own =
     if not (eqb order 0) then refusal duplicate text_duplicate
     otherwise if eqb f.place 0 then refusal unknown text_unknown_order
@@ -53,7 +52,7 @@ amend_refusal f order full o e own =
     otherwise own
 
 -- a refusal of ours, told to the client. Where there is no order its status is Rejected.
-unfoldable pub refuse : Findings → (responseto : ℕ) → Order → Event → Refusal → Change
+unfoldable pub refuse : Findings → (responseto : ℕ) → Order → Event → Reject → Change
 refuse f responseto o e r =
     telling
     (cancel_reject e.client o.names.name (if eqb f.place 0 then rejected otherwise o.state.status) e.ids.clordid e.ids.origclordid responseto
@@ -70,7 +69,7 @@ unfoldable pub already_taken : Findings → (order : ℕ) → Event → Bool
 already_taken f order e = has e 21 && not (eqb order 0) && eqb order f.place
 
 -- `amendable`: a request already taken is told again, one that is refused is told so, and any other goes on to the change that is given
-abbrev pub amendable : Findings → (responseto order : ℕ) (full : Bool) → Order → Event → (own : Refusal) (goes : Change) → Change
+abbrev pub amendable : Findings → (responseto order : ℕ) (full : Bool) → Order → Event → (own : Reject) (goes : Change) → Change
 amendable f responseto order full o e own goes =
     let r = amend_refusal f order full o e own in
     if already_taken f order e then redelivered_report f o e
@@ -83,7 +82,7 @@ number f kind o e left = adding (next_request f o kind e.ids.clordid e.ids.origc
 
 -- ---- `cancel`
 
-unfoldable pub cancel_refusal : Findings → Order → Refusal
+unfoldable pub cancel_refusal : Findings → Order → Reject
 cancel_refusal f o = if gateway_cancel_in_flight f o then refusal already_pending text_cancelling otherwise passes
 
 -- the cancel goes out
@@ -102,28 +101,28 @@ unfoldable pub or_own : (given own : ℕ) → ℕ
 or_own given own = if eqb given 0 then own otherwise given
 
 unfoldable pub price_of : Event → Option ℕ
-price_of e = if has e 10 then some e.terms.price otherwise none
+price_of e = if has e 10 then Some e.terms.price otherwise None
 
 -- two prices, or none, that are the same
 abbrev pub same_price : Option ℕ → Option ℕ → Bool
-same_price none none = true
-same_price none (some q) = false
-same_price (some p) none = false
-same_price (some p) (some q) = eqb p q
+same_price None None = true
+same_price None (Some q) = false
+same_price (Some p) None = false
+same_price (Some p) (Some q) = eqb p q
 
 -- the text of a verdict: 11 more, or the last text at the top of the field's range, which the format keeps away
 unfoldable pub verdict_text : ℕ → ℕ
 verdict_text v = if ltb v 244 then 11 + v otherwise 255
 
 -- `check_replace`: the verdict that the event brings, passed over where no risk is added
-unfoldable pub check_replace : Order → Event → Refusal
+unfoldable pub check_replace : Order → Event → Reject
 check_replace o e =
-    if same_price (limit_price (or_own e.terms.ordtype o.terms.ordtype) (price_of e)) (limit_price o.terms.ordtype (some o.terms.price))
+    if same_price (limit_price (or_own e.terms.ordtype o.terms.ordtype) (price_of e)) (limit_price o.terms.ordtype (Some o.terms.price))
     && leb e.terms.qty o.terms.qty then passes
     otherwise if eqb e.verdict 0 then passes
     otherwise refusal other (verdict_text e.verdict)
 
-unfoldable pub replace_refusal : Findings → Order → Event → Refusal
+unfoldable pub replace_refusal : Findings → Order → Event → Reject
 replace_refusal f o e =
     if gateway_cancel_in_flight f o then refusal already_pending text_cancelling
     otherwise if has_pending o then refusal already_pending text_replace_pending

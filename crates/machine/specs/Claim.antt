@@ -1,8 +1,7 @@
 -- Demand 3, whole: what holds after every list of calls, from the empty book with any setting. Rests on History.
 -- All of it is counted from the history: the messages sent, the events, and the books before and after them. Of what the book stores, only what
 -- is spoken of is read. What stands in quotes is the desk's wording; docs/SCOPE.md, Demand 3, has all of it. An order is known by its name: names are distinct.
-use Rattle.std.specs.Prelude.{ℕ, ◌+◌, ◌≤◌, ◌<◌, ◌≡◌, Bool, true, false, not, ◌&&◌, List, [], ◌∷◌, ◌++◌, eqb, length}
-use Rattle.std.proofs.Math.Option.{Option, none, some}
+use Rattle.std.specs.Prelude.{ℕ, ◌+◌, ◌≤◌, ◌<◌, ◌≡◌, Bool, true, false, not, ◌&&◌, List, [], ◌∷◌, ◌++◌, eqb, length, Option, None, Some}
 use Rattle.prelude.specs.Cases.{if◌then◌otherwise◌, maybe}
 use Rattle.prelude.specs.Texts.{same_text}
 use Rattle.prelude.specs.Totals.{total_of, some_of, how_many, those, Every}
@@ -30,7 +29,7 @@ last_qty_of client name = total_of (λ e. total_of (last_qty client name) e.mess
 -- ---- the status
 
 abbrev pub status_of : Text → Book → Option ℕ
-status_of name b = maybe none (λ i. some (order_in b i).state.status) (find_name b name)
+status_of name b = maybe None (λ i. Some (order_in b i).state.status) (find_name b name)
 
 -- ---- a gateway cancel begins
 
@@ -113,7 +112,7 @@ pub record Demand3 (s : State) : Type 0 where
   -- which is at most the quantity then ordered
   pub ordered : Each s (λ o. o.state.cumqty ≤ o.terms.qty)
   -- a done status that an order had after some call, it has still
-  pub done : Every (λ e. (name : Text) (st : ℕ) → status_of name e.left ≡ some st → is_done st ≡ true → status_of name s.book ≡ some st) s.past
+  pub done : Every (λ e. (name : Text) (st : ℕ) → status_of name e.left ≡ Some st → is_done st ≡ true → status_of name s.book ≡ Some st) s.past
   -- while a gateway cancel stands, and it "stands while the Rust keeps its record", its tries are the gateway's cancel requests put out since it
   -- last began, less those whose send failed
   pub tries : Each s (λ o. has_gateway o ≡ true

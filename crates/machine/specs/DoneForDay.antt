@@ -7,7 +7,7 @@ use Rattle.store.specs.declared.Request.{Request}
 use Rattle.machine.specs.Orders.{is_done, leaves_of, as_asked, set_status, with_state}
 use Rattle.machine.specs.Changes.{Event}
 use Rattle.machine.specs.declared.Findings.{Findings}
-use Rattle.machine.specs.declared.Refusal.{Refusal}
+use Rattle.machine.specs.declared.Reject.{Reject}
 use Rattle.machine.specs.Amend.{amend_refusal, cancel_refusal, replace_refusal, resendable}
 use Rattle.machine.specs.Report.{says_unknown_at_venue, is_rejection, behind, stale, repeats, accepts}
 
@@ -72,7 +72,7 @@ pub record OrderAsked : Type 0 where
 
 -- what refuses a cancel or a replace, or sends one again, does so of a 3 as of what it is taken as, whatever is filled
 pub record RequestsAsked : Type 0 where
-  pub amend : (f : Findings) (order : ℕ) (full : Bool) (o : Order) (e : Event) (own : Refusal)
+  pub amend : (f : Findings) (order : ℕ) (full : Bool) (o : Order) (e : Event) (own : Reject)
       → amend_refusal f order full o e own ≡ amend_refusal f order full (asked_order o) e own
   pub cancel : (f : Findings) (o : Order) → cancel_refusal f o ≡ cancel_refusal f (asked_order o)
   pub replace : (f : Findings) (o : Order) (e : Event) → replace_refusal f o e ≡ replace_refusal f (asked_order o) e

@@ -22,3 +22,4 @@ pub mod Said
 pub mod Exchange
 pub mod Status
 pub mod Sources
+pub mod Taken

@@ -1,7 +1,6 @@
 -- The order parts of src/book.rs: `impl Order` and what stands around it, on the book's own types. Rests on store and wide's words.
 -- Beside each definition stands the Rust's name.
-use Rattle.std.specs.Prelude.{ℕ, ◌+◌, ◌-◌, ◌^◌, Bool, true, false, not, ◌&&◌, ◌||◌, [], ◌∷◌, eqb, ltb}
-use Rattle.std.proofs.Math.Option.{Option, none}
+use Rattle.std.specs.Prelude.{ℕ, ◌+◌, ◌-◌, ◌^◌, Bool, true, false, not, ◌&&◌, ◌||◌, [], ◌∷◌, eqb, ltb, Option, None}
 use Rattle.prelude.specs.Cases.{if◌then◌otherwise◌}
 use Rattle.prelude.specs.Texts.{text_of, same_text}
 use Rattle.prelude.specs.declared.Text.{Text}
@@ -55,7 +54,7 @@ has_gateway o = not (eqb o.gateway.origdownstream 0)
 
 -- `limit_price`: a limit order's price; a market order has none
 unfoldable pub limit_price : ℕ → Option ℕ → Option ℕ
-limit_price ordtype price = if eqb ordtype market then none otherwise price
+limit_price ordtype price = if eqb ordtype market then None otherwise price
 
 -- `Status::is_done`
 unfoldable pub is_done : ℕ → Bool

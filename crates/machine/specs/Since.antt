@@ -1,7 +1,6 @@
 -- Demand 3 from any book that keeps its rules, the image: what holds after every list of calls since it. Rests on Claim.
 -- Demand 3 from the empty book is a case. What stands in quotes is the desk's wording of wish 10. The image is the first argument throughout.
-use Rattle.std.specs.Prelude.{ℕ, ◌+◌, ◌≤◌, ◌≡◌, Bool, true, false, not, ◌&&◌, ◌||◌, List, [], ◌∷◌, eqb, length}
-use Rattle.std.proofs.Math.Option.{some}
+use Rattle.std.specs.Prelude.{ℕ, ◌+◌, ◌≤◌, ◌≡◌, Bool, true, false, not, ◌&&◌, ◌||◌, List, [], ◌∷◌, eqb, length, Some}
 use Rattle.prelude.specs.Cases.{if◌then◌otherwise◌, maybe}
 use Rattle.prelude.specs.Texts.{same_text}
 use Rattle.prelude.specs.Totals.{total_of, some_of, how_many, Every}
@@ -64,8 +63,8 @@ pub record Demand3From (image : Book) (s : State) : Type 0 where
   pub filled : Each s (λ o. last_qty_of o.client o.names.name s.past + held_qty image o.names.name ≡ o.state.cumqty)
   pub ordered : Each s (λ o. o.state.cumqty ≤ o.terms.qty)
   -- a done status that an order had in the image, or after some call since, it has still
-  pub held : (name : Text) (st : ℕ) → status_of name image ≡ some st → is_done st ≡ true → status_of name s.book ≡ some st
-  pub done : Every (λ e. (name : Text) (st : ℕ) → status_of name e.left ≡ some st → is_done st ≡ true → status_of name s.book ≡ some st) s.past
+  pub held : (name : Text) (st : ℕ) → status_of name image ≡ Some st → is_done st ≡ true → status_of name s.book ≡ Some st
+  pub done : Every (λ e. (name : Text) (st : ℕ) → status_of name e.left ≡ Some st → is_done st ≡ true → status_of name s.book ≡ Some st) s.past
   -- the tries are the image's and the new requests, less those of both whose send failed since
   pub tries : Each s (λ o. has_gateway o ≡ true
       → o.gateway.tries + (how_many (failed s.past) (new_out image o.names.name s.past) + how_many (failed s.past) (base_out image o.names.name s.past))

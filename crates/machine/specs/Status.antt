@@ -1,8 +1,7 @@
 -- Which status a venue's event leaves (change requests 8 and 14), and when alarm 6 comes (change request 8): of every book and every event. Rests on Machine.
 -- It is said by the papers' own questions (`stale`, `repeats`, `behind`, `accepts`) and by no handler. The proofs are in proofs/Venue.
 -- k is the link of the request that the event names, q that request, and o its order as it was.
-use Rattle.std.specs.Prelude.{ℕ, ◌+◌, ◌≤◌, ◌≡◌, Bool, true, false, not, ◌&&◌, ◌||◌, eqb, ltb}
-use Rattle.std.proofs.Math.Option.{some}
+use Rattle.std.specs.Prelude.{ℕ, ◌+◌, ◌≤◌, ◌≡◌, Bool, true, false, not, ◌&&◌, ◌||◌, eqb, ltb, Some}
 use Rattle.prelude.specs.Cases.{if◌then◌otherwise◌, maybe}
 use Rattle.format.specs.Codes.{pending_new, new, partially_filled, filled, pending_cancel, pending_replace, rejected}
 use Rattle.store.specs.declared.Order.{Order}
@@ -89,7 +88,7 @@ pub record Left (k : ℕ) (q : Request) (o : Order) (e : Event) (left : Order) :
 -- THE STATUS THAT IS SET: of every order of a book that keeps its rules, and every event of a venue that is taken
 abbrev pub StatusSet : Type 0
 StatusSet = (b : Book) (e : Event) → rules b ≡ true → (step_of b e).refusal ≡ 0 → 4 ≤ e.kind → e.kind ≤ 6
-    → (k : ℕ) → find_downstream b e.ids.downstream ≡ some k
+    → (k : ℕ) → find_downstream b e.ids.downstream ≡ Some k
     → let q = request_in b k in Left (k + 1) q (order_in b q.order) e (order_in (after b (step_of b e)) q.order)
 
 -- ---- alarm 6

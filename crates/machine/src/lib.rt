@@ -26,10 +26,10 @@ pub struct Note {
     pub origin: u8,
 }
 
-// Why a client's cancel or replace is refused: the reason and the number of the text. The text
-// is 0 where it is not refused.
+// What a client is told of a cancel or replace that is refused: the reason and the number of the
+// text. The text is 0 where it is not refused.
 #[derive(Clone, Copy)]
-pub struct Refusal {
+pub struct Reject {
     pub reason: u32,
     pub fixedtext: u8,
 }
@@ -44,7 +44,9 @@ pub struct Refused {
     pub note: Note,
 }
 
-// What an event does to the requests: the links of those it answers, and the one it adds.
+// What an event does to the requests: the links of those it answers, and the one it adds. Links of 0,
+// counts and flags as in the book's own records, which the definitions read and write: so an event's
+// whole effect is one flat value.
 #[derive(Clone, Copy)]
 pub struct Requests {
     pub answered: u16,
@@ -64,7 +66,8 @@ pub struct Output {
 }
 
 // What an event does. The order as it is left goes to the place that the link names: 0 is none,
-// and one past those in use is a new order. Where the refusal is not 0 the event is not taken.
+// and one past those in use is a new order. Where the refusal is not 0 the event is not taken: a number,
+// since the definitions and their theorems have it; in code a `Result` stands around the change.
 #[derive(Clone, Copy)]
 pub struct Change {
     pub refusal: u8,

@@ -1,7 +1,6 @@
 -- MARKS TO COME BACK TO (change request 10): a name and an image of the book, in a lent buffer divided into places; and the two calls, one that sets a mark
 -- and one that returns to it. What stands in quotes is the desk's wording. Rests on format's `is_alnum`, store's `book_size` and opens' `keeps_of`.
-use Rattle.std.specs.Prelude.{ℕ, ◌+◌, ◌*◌, ◌/◌, Bool, not, ◌&&◌, List, ◌++◌, length, get_or, take}
-use Rattle.std.proofs.Math.Option.{Option, some}
+use Rattle.std.specs.Prelude.{ℕ, ◌+◌, ◌*◌, ◌/◌, Bool, not, ◌&&◌, List, ◌++◌, length, get_or, take, Option, Some}
 use Rattle.prelude.specs.Below.{all_below, first_below}
 use Rattle.prelude.specs.Bytes.{zeros}
 use Rattle.prelude.specs.Cases.{if◌then◌otherwise◌, maybe}
@@ -60,7 +59,7 @@ is_free places = has_name places (zeros name_size)
 
 -- "A mark goes to the first place of its name, else to the first free one"
 unfoldable pub set_place : (places name : List ℕ) → Option ℕ
-set_place places name = maybe (first_below (is_free places) (place_count places)) some (first_below (is_of places name) (place_count places))
+set_place places name = maybe (first_below (is_free places) (place_count places)) Some (first_below (is_of places name) (place_count places))
 
 -- it is of that name, and its image keeps the book's rules
 unfoldable pub is_mark : (places name : List ℕ) → ℕ → Bool

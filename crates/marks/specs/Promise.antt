@@ -1,7 +1,6 @@
 -- What the two calls do, said once more of the places' own bytes and of the name's, for any book, name and places; and that a mark stands until its name is
 -- set again. Rests on Marks. All of it is proved in Laws/Sound, Laws/Names, Laws/Stands and Laws/Last.
-use Rattle.std.specs.Prelude.{ℕ, ◌+◌, ◌*◌, ◌≤◌, ◌<◌, ◌≡◌, true, false, ◌⊎◌, List, ◌++◌, length, get_or}
-use Rattle.std.proofs.Math.Option.{some}
+use Rattle.std.specs.Prelude.{ℕ, ◌+◌, ◌*◌, ◌≤◌, ◌<◌, ◌≡◌, true, false, ◌⊎◌, List, ◌++◌, length, get_or, Some}
 use Rattle.prelude.specs.Bytes.{zeros}
 use Rattle.prelude.specs.Number.{Bytes}
 use Rattle.opens.specs.Keeps.{keeps_of}
@@ -18,8 +17,8 @@ pub record Earliest (passes : ℕ → Type 0) (n i : ℕ) : Type 0 where
   pub is : passes i
   pub before : (k : ℕ) → k < i → passes k → ⊥
 
-abbrev pub None : (passes : ℕ → Type 0) (n : ℕ) → Type 0
-None passes n = (k : ℕ) → k < n → passes k → ⊥
+abbrev pub Nowhere : (passes : ℕ → Type 0) (n : ℕ) → Type 0
+Nowhere passes n = (k : ℕ) → k < n → passes k → ⊥
 
 -- ---- a mark is set
 
@@ -40,10 +39,10 @@ pub record IsSet (book name places : List ℕ) (r : Marked) : Type 0 where
   pub bad : keeps_of book ≡ false → r ≡ marked 1 book places
   pub malformed : keeps_of book ≡ true → is_mark_name name ≡ false → r ≡ marked 13 book places
   pub again : keeps_of book ≡ true → is_mark_name name ≡ true → (i : ℕ) → Earliest (NameIs places (name_bytes name)) (place_count places) i → SetAt book name places i r
-  pub fresh : keeps_of book ≡ true → is_mark_name name ≡ true → None (NameIs places (name_bytes name)) (place_count places)
+  pub fresh : keeps_of book ≡ true → is_mark_name name ≡ true → Nowhere (NameIs places (name_bytes name)) (place_count places)
       → (i : ℕ) → Earliest (NameIs places (zeros name_size)) (place_count places) i → SetAt book name places i r
-  pub full : keeps_of book ≡ true → is_mark_name name ≡ true → None (NameIs places (name_bytes name)) (place_count places)
-      → None (NameIs places (zeros name_size)) (place_count places) → r ≡ marked 15 book places
+  pub full : keeps_of book ≡ true → is_mark_name name ≡ true → Nowhere (NameIs places (name_bytes name)) (place_count places)
+      → Nowhere (NameIs places (zeros name_size)) (place_count places) → r ≡ marked 15 book places
 
 abbrev pub SoundSet : Type 0
 SoundSet = (book name places : List ℕ) → IsSet book name places (set_mark_of book name places)
@@ -60,7 +59,7 @@ pub record IsReturn (book name places : List ℕ) (r : Marked) : Type 0 where
   pub bad : keeps_of book ≡ false → r ≡ marked 1 book places
   pub malformed : keeps_of book ≡ true → is_mark_name name ≡ false → r ≡ marked 13 book places
   pub taken : keeps_of book ≡ true → is_mark_name name ≡ true → (i : ℕ) → Earliest (MarkIs places name) (place_count places) i → r ≡ marked 0 (image_at places i) places
-  pub missing : keeps_of book ≡ true → is_mark_name name ≡ true → None (MarkIs places name) (place_count places) → r ≡ marked 14 book places
+  pub missing : keeps_of book ≡ true → is_mark_name name ≡ true → Nowhere (MarkIs places name) (place_count places) → r ≡ marked 14 book places
 
 abbrev pub SoundReturn : Type 0
 SoundReturn = (book name places : List ℕ) → IsReturn book name places (return_of book name places)
@@ -122,7 +121,7 @@ pub record LastPart : Type 0 where
 
 pub record Stands (places name image : List ℕ) : Type 0 where
   pub at : ℕ
-  pub found : return_place places name ≡ some at
+  pub found : return_place places name ≡ Some at
   pub is : image_at places at ≡ image
 
 pub record MarksStand : Type 0 where

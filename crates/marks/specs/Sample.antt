@@ -1,8 +1,7 @@
 -- Small cases of names and places, by value. Rests on Marks. What they shut out: a name by its letters alone, a mark beside one of its name, a return to
 -- a damaged image or to a later one, a last part that counts.
-use Rattle.std.specs.Prelude.{ℕ, ◌≡◌, true, false, List, [], ◌∷◌, ◌++◌, length, replicate}
+use Rattle.std.specs.Prelude.{ℕ, ◌≡◌, true, false, List, [], ◌∷◌, ◌++◌, length, replicate, None, Some}
 use Rattle.std.proofs.Math.Path.{refl}
-use Rattle.std.proofs.Math.Option.{none, some}
 use Rattle.prelude.specs.Below.{all_below, first_below}
 use Rattle.prelude.specs.Bytes.{zeros}
 use Rattle.prelude.specs.Cases.{if◌then◌otherwise◌, maybe}
@@ -56,27 +55,27 @@ sample_free = (refl, refl, refl)
 
 -- [free, A]: a set of A goes to the second, one of B to the first
 module _ (p : List ℕ) (two : place_count p ≡ 2) (first : name_at p 0 ≡ zeros name_size) (second : name_at p 1 ≡ name_bytes A) where
-  pub sample_again : set_place p A ≡ some 1
+  pub sample_again : set_place p A ≡ Some 1
   unfolding set_place has_name name_bytes first_below all_below maybe if◌then◌otherwise◌
   sample_again = rw (two, first, second) refl
 
-  pub sample_fresh : set_place p (66 ∷ []) ≡ some 0
+  pub sample_fresh : set_place p (66 ∷ []) ≡ Some 0
   unfolding set_place has_name name_bytes first_below all_below maybe if◌then◌otherwise◌
   sample_fresh = rw (two, first, second) refl
 
 -- [A, A damaged]: a set of A goes to the first, and where B has neither, a set of B finds no place
 module _ (p : List ℕ) (two : place_count p ≡ 2) (first : name_at p 0 ≡ name_bytes A) (second : name_at p 1 ≡ name_bytes A) where
-  pub sample_first : set_place p A ≡ some 0
+  pub sample_first : set_place p A ≡ Some 0
   unfolding set_place has_name name_bytes first_below all_below maybe if◌then◌otherwise◌
   sample_first = rw (two, first) refl
 
-  pub sample_full : set_place p (66 ∷ []) ≡ none
+  pub sample_full : set_place p (66 ∷ []) ≡ None
   unfolding set_place has_name name_bytes first_below all_below maybe if◌then◌otherwise◌
   sample_full = rw (two, first, second) refl
 
 -- [A damaged, A, A]: a return takes the second
 pub sample_return : (p : List ℕ) → place_count p ≡ 3 → name_at p 0 ≡ name_bytes A → name_at p 1 ≡ name_bytes A → name_at p 2 ≡ name_bytes A
-    → keeps_of (image_at p 0) ≡ false → keeps_of (image_at p 1) ≡ true → keeps_of (image_at p 2) ≡ true → return_place p A ≡ some 1
+    → keeps_of (image_at p 0) ≡ false → keeps_of (image_at p 1) ≡ true → keeps_of (image_at p 2) ≡ true → return_place p A ≡ Some 1
 unfolding return_place is_mark has_name name_bytes first_below all_below maybe if◌then◌otherwise◌
 sample_return p three a b c x y z = rw (three, a, b, x, y) refl
 
@@ -92,10 +91,10 @@ pub sample_last : (p : List ℕ) → length p ≡ 131135 → place_count p ≡ 1
 sample_last p e = rw e refl
 
 module _ (p : List ℕ) (e : length p ≡ 65567) where
-  pub sample_no_place : (name : List ℕ) → set_place p name ≡ none
+  pub sample_no_place : (name : List ℕ) → set_place p name ≡ None
   unfolding set_place first_below maybe
   sample_no_place name = rw e refl
 
-  pub sample_no_mark : (name : List ℕ) → return_place p name ≡ none
+  pub sample_no_mark : (name : List ℕ) → return_place p name ≡ None
   unfolding return_place first_below
   sample_no_mark name = rw e refl

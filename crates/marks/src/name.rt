@@ -9,18 +9,8 @@ const LONGEST: usize = 16;
 pub(crate) fn name_ok(name: &[u8]) -> bool
     ensures { result ≡ is_mark_name name.now }
 {
-    if name.len() < 1 {
+    if name.is_empty() || name.len() > LONGEST {
         return false;
     }
-    if name.len() > LONGEST {
-        return false;
-    }
-    let mut k: usize = 0;
-    while k < name.len() {
-        if !format::is_alnum(name[k]) {
-            return false;
-        }
-        k += 1;
-    }
-    true
+    name.iter().all(|c| format::is_alnum(*c))
 }

@@ -11,7 +11,7 @@ ghost use Rattle.needs.specs.Needs.{refused, answer_length, field_count, added_c
 use machine::Output;
 use records::Record;
 
-// The refusal, or 0 and the event's needs. With a refusal all else is 0.
+// The refusal, or 0 and the event's needs. With a refusal all else is 0. The C structure has all fields.
 #[repr(C)]
 #[derive(Clone, Copy)]
 pub struct Needs {
@@ -26,6 +26,7 @@ pub struct Needs {
 // The answer buffer that the event is asked about.
 const ANSWER: usize = step::SHORTEST_ANSWER;
 
+#[tactic(auto, unfolding(crate::specs::Needs::refused))]
 fn refused(refusal: u32) -> Needs
     ensures { result ≡ refused refusal }
 {
@@ -55,19 +56,18 @@ fn answer_length(out: Output) -> u32
 }
 
 // How many fields a message has: one for each bit of its map.
+#[tactic(auto, unfolding(crate::specs::Needs::field_count))]
 fn field_count(m: Record) -> u32
     ensures { result ≡ field_count m }
 {
     bits::standing(m.map)
 }
 
+#[tactic(auto, unfolding(crate::specs::Needs::added_count), using(prelude::specs::Cases::if_true, prelude::specs::Cases::if_false))]
 fn added_count(added: u8) -> u32
     ensures { result ≡ added_count added }
 {
-    if added == 0 {
-        return 0;
-    }
-    1
+    if added == 0 { 0 } else { 1 }
 }
 
 // The needs of an event that is taken, puts this out and adds a request or none.
@@ -76,32 +76,15 @@ fn needed(out: Output, added: u8) -> Needs
 {
     let length = answer_length(out);
     let requests = added_count(added);
-    if out.count == 0 {
-        return Needs {
-            refusal: 0,
-            length,
-            messages: 0,
-            requests,
-            fields_first: 0,
-            fields_second: 0,
-        };
-    }
-    let fields_first = field_count(out.first);
-    if out.count == 1 {
-        return Needs {
-            refusal: 0,
-            length,
-            messages: 1,
-            requests,
-            fields_first,
-            fields_second: 0,
-        };
-    }
-    let fields_second = field_count(out.second);
+    let (messages, fields_first, fields_second) = match out.count {
+        0 => (0, 0, 0),
+        1 => (1, field_count(out.first), 0),
+        _ => (2, field_count(out.first), field_count(out.second)),
+    };
     Needs {
         refusal: 0,
         length,
-        messages: 2,
+        messages,
         requests,
         fields_first,
         fields_second,
@@ -112,9 +95,8 @@ fn needed(out: Output, added: u8) -> Needs
 pub fn needs_of(book: &[u8], record: &[u8]) -> Needs
     ensures { result ≡ needs_call book.now «record».now }
 {
-    let c = step::call_of(book, record, ANSWER);
-    if c.refusal != 0 {
-        return refused(c.refusal as u32);
+    match step::call_of(book, record, ANSWER) {
+        Ok(c) => needed(c.output, c.requests.added),
+        Err(refusal) => refused(refusal.number()),
     }
-    needed(c.output, c.requests.added)
 }

@@ -9,19 +9,39 @@ ghost use Rattle.store.specs.Book.{book_of};
 ghost use Rattle.machine.specs.Machine.{order_at_link};
 ghost use Rattle.machine.specs.Orders.{leaves_qty};
 ghost use Rattle.opens.specs.Opens.{opening_of};
-ghost use Rattle.opens.specs.Keeps.{keeps_of, opened, open_call};
+ghost use Rattle.opens.specs.Keeps.{keeps_of, opened_of, open_call};
 
-use orders::order;
-use store::Found;
+use prelude::Refusal;
 
+mod checked; // a book that is known to keep its rules
 mod sums; // the sum of each client's leaves, in one pass
 
-// The refusal, or 0 and the client's open quantity. With a refusal the quantity is 0.
+pub use checked::Kept;
+
+// The refusal, or 0 and the client's open quantity. With a refusal the quantity is 0. The C structure
+// has both fields.
 #[repr(C)]
 #[derive(Clone, Copy)]
 pub struct Opened {
     pub refusal: u32,
     pub quantity: u64,
+}
+
+impl From<Result<u64, Refusal>> for Opened {
+    fn from(answer: Result<u64, Refusal>) -> Opened
+        ensures { result ≡ opened_of answer }
+    {
+        match answer {
+            Ok(quantity) => Opened {
+                refusal: 0,
+                quantity,
+            },
+            Err(refusal) => Opened {
+                refusal: refusal.number(),
+                quantity: 0,
+            },
+        }
+    }
 }
 
 // The order whose word is written, and the quantity that is written there.
@@ -31,42 +51,22 @@ pub struct Word {
     pub quantity: u64,
 }
 
-// Refusals.
-const BAD_BOOK: u32 = 1;
-
 // Whether the book keeps its rules: machine's and what stands beside the requests, then the open
 // quantities.
 pub fn keeps(book: &[u8]) -> bool
     ensures { result ≡ keeps_of book.now }
 {
-    if !rules::ruled(book) {
-        return false;
-    }
-    sums::opens_right(book)
+    rules::ruled(book) && sums::opens_right(book)
 }
 
-// The open quantity of a client, 0 for one without orders.
-pub fn open_quantity(book: &[u8], client: u16) -> Opened
-    ensures { result ≡ open_call book.now client }
+// The open quantity of a client, 0 for one without orders. Refuses a book that does not keep its rules.
+pub fn open_quantity(book: &[u8], client: u16) -> Result<u64, Refusal>
+    ensures { opened_of result ≡ open_call book.now client }
 {
-    if !keeps(book) {
-        return Opened {
-            refusal: BAD_BOOK,
-            quantity: 0,
-        };
-    }
-    match store::find_client(book, client) {
-        Found::At(i) => {
-            let quantity = store::load_open(book, i);
-            Opened {
-                refusal: 0,
-                quantity,
-            }
-        }
-        Found::Nothing => Opened {
-            refusal: 0,
-            quantity: 0,
-        },
+    let book = Kept::new(book)?;
+    match store::find_client(book.bytes, client) {
+        Some(i) => Ok(store::load_open(book.bytes, i)),
+        None => Ok(0),
     }
 }
 
@@ -77,7 +77,7 @@ fn leaves_at_link(book: &[u8], place: u16) -> u64
     if place == 0 {
         return 0;
     }
-    let i = (place - 1) as usize;
+    let i = usize::from(place - 1);
     if i >= store::order_count(book) {
         return 0;
     }
@@ -90,19 +90,15 @@ pub fn opening(book: &[u8], place: u16, client: u16, leaves: u64) -> Word
     ensures { result ≡ opening_of book.now place client leaves }
 {
     match store::find_client(book, client) {
-        Found::At(i) => {
-            let stored = store::load_open(book, i);
-            let before = leaves_at_link(book, place);
-            let rest = order::less(stored, before);
-            let quantity = std::num::wrapping_add_u64(rest, leaves);
-            Word { at: i, quantity }
+        Some(at) => {
+            let stored = store::load_open(book, at);
+            let rest = stored.saturating_sub(leaves_at_link(book, place));
+            let quantity = rest.wrapping_add(leaves);
+            Word { at, quantity }
         }
-        Found::Nothing => {
-            let at = store::order_count(book);
-            Word {
-                at,
-                quantity: leaves,
-            }
-        }
+        None => Word {
+            at: store::order_count(book),
+            quantity: leaves,
+        },
     }
 }

@@ -2,41 +2,31 @@
 // to its book and its outputs, and `next_downstream`. Each function equals its definition in
 // machine's Changes. Rests on order and message.
 ghost use Rattle.std.specs.Prelude.{◌≡◌};
-ghost use Rattle.store.specs.Orders.{no_order};
-ghost use Rattle.machine.specs.Changes.{is_first, is_replace, is_gateway, is_cancel, is_answered, no_requests, silent, unchanged, refusing, with_order, answering, superseding, adding, telling, alarming, next_link, next_number, next_downstream, next_request, numbered_order};
+ghost use Rattle.machine.specs.Changes.{is_first, is_replace, is_gateway, is_cancel, is_answered, no_requests, silent, unchanged, with_order, answering, superseding, adding, telling, alarming, next_link, next_number, next_downstream, next_request, numbered_order};
+ghost use Rattle.orders.specs.Alarms.{alarm_number, alarm_in};
 
-use crate::message::{NO_TERMS, no_message};
-use crate::order::{NO_GATEWAY, NO_PENDING, NO_TEXT, one_less_16, one_more_16};
+use crate::alarm::Alarm;
+use crate::message::no_message;
 use machine::{Change, Findings, Output, Requests};
 use prelude::Text;
 use records::Record;
-use store::{Links, Names, Order, Request, State, kinds};
+use store::{Order, Request, kinds};
 
-pub const NO_STATE: State = State {
-    status: 0,
-    cumqty: 0,
-    avgpx: 0,
-    execseq: 0,
-};
-
-pub const NO_LINKS: Links = Links {
-    amendments: 0,
-    current: 0,
-    cancel: 0,
-};
-
+#[tactic(auto, unfolding(machine::specs::Changes::is_first))]
 pub fn is_first(q: Request) -> bool
     ensures { result ≡ is_first q }
 {
     q.kind == kinds::FIRST
 }
 
+#[tactic(auto, unfolding(machine::specs::Changes::is_replace))]
 pub fn is_replace(q: Request) -> bool
     ensures { result ≡ is_replace q }
 {
     q.kind == kinds::REPLACE
 }
 
+#[tactic(auto, unfolding(machine::specs::Changes::is_gateway))]
 pub fn is_gateway(q: Request) -> bool
     ensures { result ≡ is_gateway q }
 {
@@ -44,63 +34,28 @@ pub fn is_gateway(q: Request) -> bool
 }
 
 // The client's or the gateway's.
+#[tactic(auto, unfolding(machine::specs::Changes::is_cancel))]
 pub fn is_cancel(q: Request) -> bool
     ensures { result ≡ is_cancel q }
 {
-    !is_first(q) & !is_replace(q)
+    !is_first(q) && !is_replace(q)
 }
 
+#[tactic(auto, unfolding(machine::specs::Changes::is_answered))]
 pub fn is_answered(q: Request) -> bool
     ensures { result ≡ is_answered q }
 {
     q.answered != 0
 }
 
-fn no_order() -> Order
-    ensures { result ≡ no_order }
-{
-    let t = NO_TEXT;
-    let names = Names {
-        name: t,
-        clordid: t,
-        downstream: t,
-        symbol: t,
-        venueorderid: t,
-    };
-    let terms = NO_TERMS;
-    let state = NO_STATE;
-    let links = NO_LINKS;
-    let pending = NO_PENDING;
-    let gateway = NO_GATEWAY;
-    Order {
-        client: 0,
-        venue: 0,
-        names,
-        terms,
-        state,
-        links,
-        pending,
-        gateway,
-    }
-}
-
 fn no_requests() -> Requests
     ensures { result ≡ no_requests }
 {
-    let t = NO_TEXT;
-    let request = Request {
-        order: 0,
-        kind: 0,
-        answered: 0,
-        clordid: t,
-        origclordid: t,
-        downstream: t,
-    };
     Requests {
         answered: 0,
         superseded: 0,
         added: 0,
-        request,
+        request: store::no_request(),
     }
 }
 
@@ -118,37 +73,21 @@ fn silent() -> Output
 }
 
 // The order at a place as it stands, and nothing else.
+#[tactic(auto, unfolding(machine::specs::Changes::unchanged))]
 pub fn unchanged(place: u16, o: Order) -> Change
     ensures { result ≡ unchanged place o }
 {
-    let requests = no_requests();
-    let output = silent();
     Change {
         refusal: 0,
         place,
         order: o,
-        requests,
-        output,
-    }
-}
-
-// The event is not taken.
-pub fn refusing(n: u8) -> Change
-    ensures { result ≡ refusing n }
-{
-    let order = no_order();
-    let requests = no_requests();
-    let output = silent();
-    Change {
-        refusal: n,
-        place: 0,
-        order,
-        requests,
-        output,
+        requests: no_requests(),
+        output: silent(),
     }
 }
 
 // The request of this link is answered.
+#[tactic(auto, unfolding(machine::specs::Changes::answering))]
 pub fn answering(k: u16, c: Change) -> Change
     ensures { result ≡ answering k c }
 {
@@ -158,6 +97,7 @@ pub fn answering(k: u16, c: Change) -> Change
 }
 
 // And so is the one that it supersedes.
+#[tactic(auto, unfolding(machine::specs::Changes::superseding))]
 pub fn superseding(k: u16, c: Change) -> Change
     ensures { result ≡ superseding k c }
 {
@@ -167,32 +107,29 @@ pub fn superseding(k: u16, c: Change) -> Change
 }
 
 // A request is added.
+#[tactic(auto, unfolding(machine::specs::Changes::adding))]
 pub fn adding(q: Request, c: Change) -> Change
     ensures { result ≡ adding q c }
 {
-    let mut requests = c.requests;
-    requests.added = 1;
-    requests.request = q;
     let mut out = c;
-    out.requests = requests;
+    out.requests.added = 1;
+    out.requests.request = q;
     out
 }
 
 // A message goes out, behind the one that is there.
+#[tactic(auto, unfolding(machine::specs::Changes::telling), using(crate::specs::Laws::Choices::choices))]
 pub fn telling(m: Record, c: Change) -> Change
     ensures { result ≡ telling m c }
 {
-    let mut output = c.output;
     let mut out = c;
     if c.output.count == 0 {
-        output.count = 1;
-        output.first = m;
-        out.output = output;
-        return out;
+        out.output.count = 1;
+        out.output.first = m;
+    } else {
+        out.output.count = 2;
+        out.output.second = m;
     }
-    output.count = 2;
-    output.second = m;
-    out.output = output;
     out
 }
 
@@ -220,75 +157,84 @@ pub fn sending_on(m: Record, q: Request, o: Order, c: Change) -> Change
 }
 
 // An alarm is raised, behind the one that is there.
-pub fn alarming(a: u8, c: Change) -> Change
-    ensures { result ≡ alarming a c }
+#[tactic(auto, unfolding(machine::specs::Changes::alarming), using(crate::specs::Laws::Choices::choices))]
+pub fn alarming(a: Alarm, c: Change) -> Change
+    ensures { result ≡ alarming (alarm_number a) c }
 {
     let mut out = c;
     if c.output.alarm == 0 {
-        out.output.alarm = a;
-        return out;
+        out.output.alarm = a.number();
+    } else {
+        out.output.alarm2 = a.number();
     }
-    out.output.alarm2 = a;
     out
 }
 
 // An alarm, and the order at a place stands as it is given.
-pub fn raising(a: u8, place: u16, o: Order) -> Change
-    ensures { result ≡ alarming a (unchanged place o) }
+pub fn raising(a: Alarm, place: u16, o: Order) -> Change
+    ensures { result ≡ alarming (alarm_number a) (unchanged place o) }
 {
     alarming(a, unchanged(place, o))
 }
 
+// The same where there may be no alarm.
+#[tactic(auto, using(crate::specs::Laws::Alarms::no_alarm))]
+pub fn raising_if(a: Option<Alarm>, place: u16, o: Order) -> Change
+    ensures { result ≡ alarming (alarm_in a) (unchanged place o) }
+{
+    match a {
+        Some(a) => raising(a, place, o),
+        None => unchanged(place, o),
+    }
+}
+
 // The link of a request that is added.
+#[tactic(auto, unfolding(machine::specs::Changes::next_link), using(crate::specs::Laws::Counts::one_more_lem))]
 pub fn next_link(f: Findings) -> u16
     ensures { result ≡ next_link f }
 {
-    one_more_16(f.requests)
+    f.requests.saturating_add(1)
 }
 
+#[tactic(auto, unfolding(machine::specs::Changes::next_number), using(crate::specs::Laws::Counts::one_more_lem))]
 fn next_number(o: Order) -> u16
     ensures { result ≡ next_number o }
 {
-    one_more_16(o.links.amendments)
+    o.links.amendments.saturating_add(1)
 }
 
 // The order's next numbered downstream ClOrdID.
+#[tactic(auto, unfolding(machine::specs::Changes::next_downstream))]
 pub fn next_downstream(o: Order) -> Text
     ensures { result ≡ next_downstream o }
 {
-    let number = next_number(o);
-    let names = o.names;
-    let name = names.name;
-    text::numbered(name, number)
+    text::numbered(o.names.name, next_number(o))
 }
 
 // The request under it.
+#[tactic(auto, unfolding(machine::specs::Changes::next_request))]
 pub fn next_request(f: Findings, o: Order, kind: u8, clordid: Text, origclordid: Text) -> Request
     ensures { result ≡ next_request f o kind clordid origclordid }
 {
-    let order = one_less_16(f.place);
-    let downstream = next_downstream(o);
     Request {
-        order,
+        order: f.place.saturating_sub(1),
         kind,
         answered: 0,
         clordid,
         origclordid,
-        downstream,
+        downstream: next_downstream(o),
     }
 }
 
 // The order with that number taken. A cancel becomes the order's latest.
+#[tactic(auto, unfolding(machine::specs::Changes::numbered_order), using(crate::specs::Laws::Choices::choices))]
 pub fn numbered_order(f: Findings, cancels: bool, o: Order) -> Order
     ensures { result ≡ numbered_order f cancels o }
 {
-    let amendments = next_number(o);
     let mut out = o;
-    out.links.amendments = amendments;
+    out.links.amendments = next_number(o);
     if cancels {
-        let link = next_link(f);
-        out.links.cancel = link;
-        return out;
+        out.links.cancel = next_link(f);
     }
     out
 }

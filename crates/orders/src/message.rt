@@ -7,7 +7,7 @@ ghost use Rattle.machine.specs.Messages.{no_message, report, cancel_reject, to_v
 ghost use Rattle.orders.specs.Laws.Parts.{told_of};
 ghost use Rattle.orders.specs.Laws.Maps.{with_bit_if, with_terms, with_note, report_map, reject_map, venue_map, ToVenue, extra_bits};
 
-use crate::order::{NO_TEXT, is_empty, leaves_qty};
+use crate::order::{is_empty, leaves_qty};
 use format::{bit, codes};
 use machine::Note;
 use prelude::{Terms, Text};
@@ -15,36 +15,9 @@ use records::{Exec, Ids, LongText, Record, Told};
 use store::Order;
 use wide::Priced;
 
-pub const NO_LONG_TEXT: LongText = LongText {
+const NO_LONG_TEXT: LongText = LongText {
     bytes: [0u8; 64],
     len: 0,
-};
-
-pub const NO_TERMS: Terms = Terms {
-    side: 0,
-    ordtype: 0,
-    timeinforce: 0,
-    qty: 0,
-    price: 0,
-};
-
-const NO_EXEC: Exec = Exec {
-    exectype: 0,
-    status: 0,
-    lastqty: 0,
-    lastpx: 0,
-    cumqty: 0,
-    avgpx: 0,
-};
-
-const NO_TOLD: Told = Told {
-    leavesqty: 0,
-    execseq: 0,
-    fillprice: [0, 0],
-    fixedtext: 0,
-    origin: 0,
-    responseto: 0,
-    source: 0,
 };
 
 // No price, and no rule that set one.
@@ -64,20 +37,7 @@ pub const NO_NOTE: Note = Note {
 pub fn no_message() -> Record
     ensures { result ≡ no_message }
 {
-    let t = NO_TEXT;
-    let ids = Ids {
-        name: t,
-        clordid: t,
-        origclordid: t,
-        downstream: t,
-        symbol: t,
-        venueorderid: t,
-        origdownstream: t,
-    };
-    let terms = NO_TERMS;
-    let exec = NO_EXEC;
-    let told = NO_TOLD;
-    let text = NO_LONG_TEXT;
+    let t = text::no_text();
     Record {
         kind: 0,
         map: 0,
@@ -85,25 +45,53 @@ pub fn no_message() -> Record
         venue: 0,
         reason: 0,
         verdict: 0,
-        ids,
-        terms,
-        exec,
-        told,
-        text,
+        ids: Ids {
+            name: t,
+            clordid: t,
+            origclordid: t,
+            downstream: t,
+            symbol: t,
+            venueorderid: t,
+            origdownstream: t,
+        },
+        terms: Terms {
+            side: 0,
+            ordtype: 0,
+            timeinforce: 0,
+            qty: 0,
+            price: 0,
+        },
+        exec: Exec {
+            exectype: 0,
+            status: 0,
+            lastqty: 0,
+            lastpx: 0,
+            cumqty: 0,
+            avgpx: 0,
+        },
+        told: Told {
+            leavesqty: 0,
+            execseq: 0,
+            fillprice: [0, 0],
+            fixedtext: 0,
+            origin: 0,
+            responseto: 0,
+            source: 0,
+        },
+        text: NO_LONG_TEXT,
     }
 }
 
 // A map with one more bit where the test holds.
+#[tactic(auto, using(crate::specs::Laws::Choices::choices))]
 fn with_bit_if(map: u32, t: bool, k: u32) -> u32
     ensures { result ≡ with_bit_if map t k }
 {
-    if t {
-        return bits::with_bit(map, k);
-    }
-    map
+    if t { bits::with_bit(map, k) } else { map }
 }
 
 // Price and time in force are there where the terms have them.
+#[tactic(auto, unfolding(crate::specs::Laws::Maps::with_terms))]
 fn with_terms(map: u32, t: Terms) -> u32
     ensures { result ≡ with_terms map t }
 {
@@ -111,6 +99,7 @@ fn with_terms(map: u32, t: Terms) -> u32
     with_bit_if(priced, t.timeinforce != 0, bit::TIMEINFORCE)
 }
 
+#[tactic(auto, unfolding(crate::specs::Laws::Maps::with_note))]
 fn with_note(map: u32, n: Note) -> u32
     ensures { result ≡ with_note map n }
 {
@@ -121,6 +110,7 @@ fn with_note(map: u32, n: Note) -> u32
     with_bit_if(reasoned, given, bit::ORIGIN)
 }
 
+#[tactic(auto, unfolding(crate::specs::Laws::Maps::report_map))]
 fn report_map(origclordid: Text, terms: Terms, n: Note) -> u32
     ensures { result ≡ report_map (not (is_empty origclordid)) terms n }
 {
@@ -131,6 +121,7 @@ fn report_map(origclordid: Text, terms: Terms, n: Note) -> u32
 }
 
 // A cancel reject's reason comes with its note.
+#[tactic(auto, unfolding(crate::specs::Laws::Maps::reject_map))]
 fn reject_map(name: Text, n: Note) -> u32
     ensures { result ≡ reject_map (not (is_empty name)) n }
 {
@@ -142,6 +133,7 @@ fn reject_map(name: Text, n: Note) -> u32
 }
 
 // The venue's OrderID is there where the order has one.
+#[tactic(auto, unfolding(crate::specs::Laws::Maps::venue_map))]
 fn venue_map(kind: u8, venueorderid: Text, terms: Terms) -> u32
     ensures { result ≡ venue_map kind (not (is_empty venueorderid)) terms }
 {
@@ -154,10 +146,9 @@ fn venue_map(kind: u8, venueorderid: Text, terms: Terms) -> u32
 fn told_of(o: Order, price: Priced, n: Note) -> Told
     ensures { result ≡ told_of o price n }
 {
-    let leavesqty = leaves_qty(o);
     let fillprice = price.price;
     Told {
-        leavesqty,
+        leavesqty: leaves_qty(o),
         execseq: o.state.execseq,
         fillprice,
         fixedtext: n.fixedtext,
@@ -179,32 +170,23 @@ pub fn report(
 ) -> Record
     ensures { result ≡ report o clordid origclordid exectype lastqty price n }
 {
-    let terms = o.terms;
-    let map = report_map(origclordid, terms, n);
-    let told = told_of(o, price, n);
-    let order = o.names;
-    let name = order.name;
-    let symbol = order.symbol;
-    let text = n.text;
     let mut m = no_message();
-    let mut ids = m.ids;
-    ids.name = name;
-    ids.clordid = clordid;
-    ids.origclordid = origclordid;
-    ids.symbol = symbol;
     m.kind = codes::REPORT;
-    m.map = map;
+    m.map = report_map(origclordid, o.terms, n);
     m.client = o.client;
     m.reason = n.reason;
-    m.ids = ids;
-    m.terms = terms;
+    m.ids.name = o.names.name;
+    m.ids.clordid = clordid;
+    m.ids.origclordid = origclordid;
+    m.ids.symbol = o.names.symbol;
+    m.terms = o.terms;
     m.exec.exectype = exectype;
     m.exec.status = o.state.status;
     m.exec.lastqty = lastqty;
     m.exec.cumqty = o.state.cumqty;
     m.exec.avgpx = o.state.avgpx;
-    m.told = told;
-    m.text = text;
+    m.told = told_of(o, price, n);
+    m.text = n.text;
     m
 }
 
@@ -221,23 +203,19 @@ pub fn cancel_reject(
 ) -> Record
     ensures { result ≡ cancel_reject client name status clordid origclordid responseto n }
 {
-    let map = reject_map(name, n);
-    let text = n.text;
     let mut m = no_message();
-    let mut ids = m.ids;
-    ids.name = name;
-    ids.clordid = clordid;
-    ids.origclordid = origclordid;
     m.kind = codes::CANCEL_REJECT;
-    m.map = map;
+    m.map = reject_map(name, n);
     m.client = client;
     m.reason = n.reason;
-    m.ids = ids;
+    m.ids.name = name;
+    m.ids.clordid = clordid;
+    m.ids.origclordid = origclordid;
     m.exec.status = status;
     m.told.fixedtext = n.fixedtext;
     m.told.origin = n.origin;
     m.told.responseto = responseto;
-    m.text = text;
+    m.text = n.text;
     m
 }
 
@@ -254,59 +232,50 @@ fn to_venue(
     requires { ToVenue kind }
     ensures { result ≡ to_venue kind (extra_bits kind (not (is_empty venueorderid))) o downstream venueorderid origdownstream terms }
 {
-    let map = venue_map(kind, venueorderid, terms);
-    let names = o.names;
-    let symbol = names.symbol;
     let mut m = no_message();
-    let mut ids = m.ids;
-    ids.downstream = downstream;
-    ids.symbol = symbol;
-    ids.venueorderid = venueorderid;
-    ids.origdownstream = origdownstream;
     m.kind = kind;
-    m.map = map;
+    m.map = venue_map(kind, venueorderid, terms);
     m.venue = o.venue;
-    m.ids = ids;
+    m.ids.downstream = downstream;
+    m.ids.symbol = o.names.symbol;
+    m.ids.venueorderid = venueorderid;
+    m.ids.origdownstream = origdownstream;
     m.terms = terms;
     m
 }
 
+#[tactic(auto, unfolding(machine::specs::Messages::new_order, crate::specs::Laws::Maps::extra_bits, format::specs::Format::required, format::specs::Format::required_bits, machine::specs::Messages::bit_if), using(crate::specs::Laws::Choices::choices))]
 pub fn new_order(o: Order, downstream: Text) -> Record
     ensures { result ≡ new_order o downstream }
 {
-    let terms = o.terms;
-    to_venue(codes::NEW_ORDER, o, downstream, NO_TEXT, NO_TEXT, terms)
+    let none = text::no_text();
+    to_venue(codes::NEW_ORDER, o, downstream, none, none, o.terms)
 }
 
+#[tactic(auto, unfolding(machine::specs::Messages::cancel_request, crate::specs::Laws::Maps::extra_bits, format::specs::Format::required, format::specs::Format::required_bits, machine::specs::Messages::bit_if))]
 pub fn cancel_request(o: Order, downstream: Text) -> Record
     ensures { result ≡ cancel_request o downstream }
 {
-    let terms = o.terms;
-    let names = o.names;
-    let venueorderid = names.venueorderid;
-    let orig = names.downstream;
     to_venue(
         codes::CANCEL_REQUEST,
         o,
         downstream,
-        venueorderid,
-        orig,
-        terms,
+        o.names.venueorderid,
+        o.names.downstream,
+        o.terms,
     )
 }
 
+#[tactic(auto, unfolding(machine::specs::Messages::replace_request, crate::specs::Laws::Maps::extra_bits, format::specs::Format::required, format::specs::Format::required_bits, machine::specs::Messages::bit_if))]
 pub fn replace_request(o: Order, downstream: Text, terms: Terms) -> Record
     ensures { result ≡ replace_request o downstream terms }
 {
-    let names = o.names;
-    let venueorderid = names.venueorderid;
-    let orig = names.downstream;
     to_venue(
         codes::REPLACE_REQUEST,
         o,
         downstream,
-        venueorderid,
-        orig,
+        o.names.venueorderid,
+        o.names.downstream,
         terms,
     )
 }

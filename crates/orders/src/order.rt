@@ -1,128 +1,13 @@
 // The order parts of src/book.rs: `impl Order` and what stands around it. Each function equals its
 // definition in machine's Orders. Rests on text.
-ghost use Rattle.std.specs.Prelude.{◌≡◌, ◌-◌};
-ghost use Rattle.prelude.specs.Cases.{if◌then◌otherwise◌};
-ghost use Rattle.machine.specs.Orders.{one_more, is_empty, has_pending, has_gateway, is_done, leaves_of, leaves_qty, as_asked, status_at, is_short, unless_short, short_alarm, set_status, text_none, kept_order_id, record_venue_order_id, pending_terms, apply_replace, next_sequence, next_exec};
+ghost use Rattle.std.specs.Prelude.{◌≡◌};
+ghost use Rattle.machine.specs.Orders.{is_empty, has_pending, has_gateway, is_done, leaves_of, leaves_qty, as_asked, status_at, is_short, unless_short, short_alarm, set_status, text_none, kept_order_id, record_venue_order_id, pending_terms, apply_replace, next_sequence, next_exec};
+ghost use Rattle.orders.specs.Alarms.{alarm_in};
 
+use crate::alarm::Alarm;
 use format::codes;
 use prelude::{Terms, Text};
-use store::{GatewayCancel, Links, Names, Order, Pending, Request, State};
-
-// The alarm of a Filled below the quantity.
-const FILLED_SHORT: u8 = 6;
-
-pub const NO_TEXT: Text = Text {
-    bytes: [0u8; 32],
-    len: 0,
-};
-
-pub const NO_PENDING: Pending = Pending {
-    request: 0,
-    qty: 0,
-    price: 0,
-    ordtype: 0,
-    timeinforce: 0,
-};
-
-pub const NO_GATEWAY: GatewayCancel = GatewayCancel {
-    tries: 0,
-    unsent: false,
-    stuck: false,
-    origdownstream: 0,
-    refusedsends: 0,
-};
-
-pub fn one_more_8(n: u8) -> u8
-    ensures { result ≡ one_more 255 n }
-{
-    if n < 255 {
-        return n + 1;
-    }
-    n
-}
-
-pub fn one_more_16(n: u16) -> u16
-    ensures { result ≡ one_more 65535 n }
-{
-    if n < 65535 {
-        return n + 1;
-    }
-    n
-}
-
-pub fn one_more_32(n: u32) -> u32
-    ensures { result ≡ one_more 4294967295 n }
-{
-    if n < 4294967295 {
-        return n + 1;
-    }
-    n
-}
-
-pub fn one_less_8(n: u8) -> u8
-    ensures { result ≡ n - 1 }
-{
-    if n == 0 {
-        return 0;
-    }
-    n - 1
-}
-
-pub fn one_less_16(n: u16) -> u16
-    ensures { result ≡ n - 1 }
-{
-    if n == 0 {
-        return 0;
-    }
-    n - 1
-}
-
-// `a` less `b`, and 0 where `b` is above `a`.
-pub fn less(a: u64, b: u64) -> u64
-    ensures { result ≡ a - b }
-{
-    if b < a {
-        return a - b;
-    }
-    0
-}
-
-// `a` where the test holds, else `b`.
-pub fn pick_8(t: bool, a: u8, b: u8) -> u8
-    ensures { result ≡ (if t then a otherwise b) }
-{
-    if t {
-        return a;
-    }
-    b
-}
-
-pub fn pick_32(t: bool, a: u32, b: u32) -> u32
-    ensures { result ≡ (if t then a otherwise b) }
-{
-    if t {
-        return a;
-    }
-    b
-}
-
-pub fn pick_64(t: bool, a: u64, b: u64) -> u64
-    ensures { result ≡ (if t then a otherwise b) }
-{
-    if t {
-        return a;
-    }
-    b
-}
-
-pub fn pick_text(t: bool, a: Text, b: Text) -> Text
-    ensures { result ≡ (if t then a otherwise b) }
-{
-    if t {
-        return a;
-    }
-    b
-}
+use store::{Order, Request};
 
 pub fn is_empty(t: Text) -> bool
     ensures { result ≡ is_empty t }
@@ -130,12 +15,14 @@ pub fn is_empty(t: Text) -> bool
     t.len == 0
 }
 
+#[tactic(auto, unfolding(machine::specs::Orders::has_pending))]
 pub fn has_pending(o: Order) -> bool
     ensures { result ≡ has_pending o }
 {
     o.pending.request != 0
 }
 
+#[tactic(auto, unfolding(machine::specs::Orders::has_gateway))]
 pub fn has_gateway(o: Order) -> bool
     ensures { result ≡ has_gateway o }
 {
@@ -143,23 +30,29 @@ pub fn has_gateway(o: Order) -> bool
 }
 
 // `Status::is_done`.
+#[tactic(auto, unfolding(machine::specs::Orders::is_done))]
 pub fn is_done(s: u8) -> bool
     ensures { result ≡ is_done s }
 {
-    (s == codes::FILLED) | (s == codes::CANCELED) | (s == codes::EXPIRED) | (s == codes::REJECTED)
+    matches!(
+        s,
+        codes::FILLED | codes::CANCELED | codes::EXPIRED | codes::REJECTED
+    )
 }
 
 // By status, ordered and cumulative: 0 of a done order and, while it lasts, of one that is done for the
 // day.
+#[tactic(auto, unfolding(machine::specs::Orders::leaves_of), using(crate::specs::Laws::Choices::choices))]
 pub fn leaves_of(status: u8, qty: u64, cumqty: u64) -> u64
     ensures { result ≡ leaves_of status qty cumqty }
 {
-    if is_done(status) | (status == codes::DONE_FOR_DAY) {
+    if is_done(status) || status == codes::DONE_FOR_DAY {
         return 0;
     }
-    less(qty, cumqty)
+    qty.saturating_sub(cumqty)
 }
 
+#[tactic(auto, unfolding(machine::specs::Orders::leaves_qty))]
 pub fn leaves_qty(o: Order) -> u64
     ensures { result ≡ leaves_qty o }
 {
@@ -168,57 +61,63 @@ pub fn leaves_qty(o: Order) -> u64
 
 // A status as the Rust's questions take it: done for the day is New where the cumulative is 0, and
 // PartiallyFilled above.
+#[tactic(auto, unfolding(machine::specs::Orders::as_asked), using(crate::specs::Laws::Choices::choices))]
 pub fn as_asked(cumqty: u64, s: u8) -> u8
     ensures { result ≡ as_asked cumqty s }
 {
-    if s != codes::DONE_FOR_DAY {
-        return s;
+    match s {
+        codes::DONE_FOR_DAY if cumqty == 0 => codes::NEW,
+        codes::DONE_FOR_DAY => codes::PARTIALLY_FILLED,
+        _ => s,
     }
-    if cumqty == 0 {
-        return codes::NEW;
-    }
-    codes::PARTIALLY_FILLED
 }
 
 // The status that `set_status` leaves: above a cumulative of 0, New and PendingNew are
 // PartiallyFilled.
+#[tactic(auto, unfolding(machine::specs::Orders::status_at), using(crate::specs::Laws::Choices::choices))]
 pub fn status_at(cumqty: u64, s: u8) -> u8
     ensures { result ≡ status_at cumqty s }
 {
-    if ((s == codes::NEW) | (s == codes::PENDING_NEW)) & (0 < cumqty) {
-        return codes::PARTIALLY_FILLED;
+    match s {
+        codes::NEW | codes::PENDING_NEW if 0 < cumqty => codes::PARTIALLY_FILLED,
+        _ => s,
     }
-    s
 }
 
 // A Filled below the quantity.
+#[tactic(auto, unfolding(machine::specs::Orders::is_short))]
 fn is_short(qty: u64, cumqty: u64, s: u8) -> bool
     ensures { result ≡ is_short qty cumqty s }
 {
-    (s == codes::FILLED) & (cumqty < qty)
+    s == codes::FILLED && cumqty < qty
 }
 
 // It is set as New.
+#[tactic(auto, unfolding(machine::specs::Orders::unless_short), using(crate::specs::Laws::Choices::choices))]
 fn unless_short(qty: u64, cumqty: u64, s: u8) -> u8
     ensures { result ≡ unless_short qty cumqty s }
 {
     if is_short(qty, cumqty, s) {
-        return codes::NEW;
+        codes::NEW
+    } else {
+        s
     }
-    s
 }
 
-// And it raises its alarm; 0 is none.
-pub fn short_alarm(qty: u64, cumqty: u64, s: u8) -> u8
-    ensures { result ≡ short_alarm qty cumqty s }
+// And it raises its alarm.
+#[tactic(auto, unfolding(machine::specs::Orders::short_alarm), using(crate::specs::Laws::Choices::choices))]
+pub fn short_alarm(qty: u64, cumqty: u64, s: u8) -> Option<Alarm>
+    ensures { alarm_in result ≡ short_alarm qty cumqty s }
 {
     if is_short(qty, cumqty, s) {
-        return FILLED_SHORT;
+        Some(Alarm::FilledShort)
+    } else {
+        None
     }
-    0
 }
 
 // A done order has nothing pending and no gateway cancel.
+#[tactic(auto, unfolding(machine::specs::Orders::set_status), using(crate::specs::Laws::Choices::choices))]
 pub fn set_status(s: u8, o: Order) -> Order
     ensures { result ≡ set_status s o }
 {
@@ -227,53 +126,47 @@ pub fn set_status(s: u8, o: Order) -> Order
     let mut out = o;
     out.state.status = status;
     if is_done(status) {
-        let pending = NO_PENDING;
-        let gateway = NO_GATEWAY;
-        out.pending = pending;
-        out.gateway = gateway;
-        return out;
+        out.pending = store::no_pending();
+        out.gateway = store::no_gateway();
     }
     out
 }
 
 // FIX's placeholder for no OrderID.
+#[tactic(auto, unfolding(prelude::specs::Texts::text_of))]
 pub fn text_none() -> Text
     ensures { result ≡ text_none }
 {
     let mut bytes = [0u8; 32];
-    bytes[0] = b'N';
-    bytes[1] = b'O';
-    bytes[2] = b'N';
-    bytes[3] = b'E';
+    bytes[..4].copy_from_slice(b"NONE");
     Text { bytes, len: 4 }
 }
 
 // The venue's OrderID that is kept: the first, or the one of the report that accepts a replace.
+#[tactic(auto, unfolding(machine::specs::Orders::kept_order_id), using(crate::specs::Laws::Choices::choices))]
 pub fn kept_order_id(kept: Text, given: Text, replaced: bool) -> Text
     ensures { result ≡ kept_order_id kept given replaced }
 {
-    if is_empty(given) | text::same_text(given, text_none()) {
+    if is_empty(given) || text::same_text(given, text_none()) {
         return kept;
     }
-    if is_empty(kept) | replaced {
+    if is_empty(kept) || replaced {
         return given;
     }
     kept
 }
 
+#[tactic(auto, unfolding(machine::specs::Orders::record_venue_order_id))]
 pub fn record_venue_order_id(given: Text, replaced: bool, o: Order) -> Order
     ensures { result ≡ record_venue_order_id given replaced o }
 {
-    let mut names = o.names;
-    let kept = names.venueorderid;
-    let venueorderid = kept_order_id(kept, given, replaced);
-    names.venueorderid = venueorderid;
     let mut out = o;
-    out.names = names;
+    out.names.venueorderid = kept_order_id(o.names.venueorderid, given, replaced);
     out
 }
 
 // The terms of the pending replace.
+#[tactic(auto, unfolding(machine::specs::Orders::pending_terms))]
 pub fn pending_terms(o: Order) -> Terms
     ensures { result ≡ pending_terms o }
 {
@@ -287,39 +180,32 @@ pub fn pending_terms(o: Order) -> Terms
 }
 
 // The order takes the pending terms and the names of the replace's request.
+#[tactic(auto, unfolding(machine::specs::Orders::apply_replace))]
 pub fn apply_replace(q: Request, o: Order) -> Order
     ensures { result ≡ apply_replace q o }
 {
-    let clordid = q.clordid;
-    let downstream = q.downstream;
-    let mut names = o.names;
-    names.clordid = clordid;
-    names.downstream = downstream;
-    let terms = pending_terms(o);
-    let pending = NO_PENDING;
     let mut out = o;
-    out.names = names;
-    out.terms = terms;
+    out.names.clordid = q.clordid;
+    out.names.downstream = q.downstream;
+    out.terms = pending_terms(o);
     out.links.current = o.pending.request;
-    out.pending = pending;
+    out.pending = store::no_pending();
     out
 }
 
 // `exec_seq` goes on at 0 after its last number.
+#[tactic(auto, using(crate::specs::Laws::Counts::next_sequence_lem))]
 pub fn next_sequence(n: u64) -> u64
     ensures { result ≡ next_sequence n }
 {
-    if n == 18446744073709551615 {
-        return 0;
-    }
-    n + 1
+    n.wrapping_add(1)
 }
 
+#[tactic(auto, unfolding(machine::specs::Orders::next_exec))]
 pub fn next_exec(o: Order) -> Order
     ensures { result ≡ next_exec o }
 {
-    let execseq = next_sequence(o.state.execseq);
     let mut out = o;
-    out.state.execseq = execseq;
+    out.state.execseq = next_sequence(o.state.execseq);
     out
 }

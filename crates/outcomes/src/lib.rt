@@ -10,9 +10,8 @@ ghost use Rattle.outcomes.specs.Outcomes.{origin_of, outcome_by, outcome_in};
 use format::codes;
 use prelude::Text;
 use records::Record;
-use store::Found;
 
-// Outcomes; 0 is an open request's.
+// Outcomes; 0 is an open request's. A byte of the book, in which any may stand: numbers, no enum.
 const ACCEPTED: u8 = 1;
 
 const REFUSED: u8 = 2;
@@ -24,8 +23,9 @@ pub fn origin_of(book: &[u8], client: u16, t: Text) -> u16
     ensures { result ≡ origin_of book.now client t }
 {
     match store::find_clordid(book, client, t) {
-        Found::At(k) => (k + 1) as u16,
-        Found::Nothing => 0,
+        // At most 256: `try_from` would have a branch that nothing takes.
+        Some(k) => (k + 1) as u16,
+        None => 0,
     }
 }
 
@@ -33,24 +33,22 @@ pub fn origin_of(book: &[u8], client: u16, t: Text) -> u16
 fn outcome_by(e: Record) -> u8
     ensures { result ≡ outcome_by e }
 {
-    if e.kind == codes::EVENT_SEND_FAILED {
-        return FAILED_TO_SEND;
+    match e.kind {
+        codes::EVENT_SEND_FAILED => FAILED_TO_SEND,
+        codes::EVENT_REPORT
+            if e.exec.status != codes::REJECTED && e.exec.exectype != codes::EXEC_REJECTED => {
+            ACCEPTED
+        }
+        _ => REFUSED,
     }
-    let status = e.exec.status;
-    let exectype = e.exec.exectype;
-    if (e.kind == codes::EVENT_REPORT)
-        & !(status == codes::REJECTED)
-        & !(exectype == codes::EXEC_REJECTED)
-    {
-        return ACCEPTED;
-    }
-    REFUSED
 }
 
 // What the event in a record sets.
 pub fn outcome_in(record: &[u8]) -> u8
     ensures { result ≡ outcome_in «record».now }
 {
-    let read = records::read_event(record);
-    outcome_by(read.event)
+    match records::read_event(record) {
+        Ok(event) => outcome_by(event),
+        Err(_) => REFUSED,
+    }
 }

@@ -1,6 +1,7 @@
 // A reader over a record: the bytes, and how far it has read. Each function over it takes it apart
 // and calls the core, which has slice and number apart (`walk`). `next_at` and `left_at` stand above
-// them: their parameters are plain, so no caller sees a reader.
+// them: their parameters are plain, so no caller sees a reader. That a position is below 131,072 stands at
+// each, since one that has read past a field may be 256 above it.
 ghost use Rattle.std.specs.Prelude.{◌≡◌, ◌<◌, ◌+◌, ◌-◌, ◌≤◌, length};
 ghost use Rattle.format.specs.Places.{next};
 

@@ -1,11 +1,10 @@
 -- What a loop over the numbers below n answers: whether all pass a test, the first that does, and how many do. Rests on Cases.
 -- Each recurs at the end of its range, so that it meets a loop that counts up. A loop's invariant is `all_below p i ≡ true` or
 -- `first_below p i ≡ none`, and four laws carry it: at the start, one more, a miss or a hit, and done.
-use Rattle.std.specs.Prelude.{◌≡◌, Bool, true, ◌&&◌, ◌||◌, List, eqb, leb, length, get_or, set}
+use Rattle.std.specs.Prelude.{◌≡◌, Bool, true, ◌&&◌, ◌||◌, List, eqb, leb, length, get_or, set, Option, None, Some}
 use Rattle.std.proofs.Math.Path.{refl, ap, subst}
 use Rattle.std.proofs.Common.{sym, ◌∙◌, not-suc-le-zero, eq-or-lt_of_le, le_of_suc-le-suc, add-one, eq-eqb, ne_eqb, le-leb, get_or-set_same, get_or-set_other}
 use Rattle.std.proofs.Math.Bool.{false}
-use Rattle.std.proofs.Math.Option.{Option, none, some}
 use Rattle.std.proofs.Math.Logic.{⊎_elim}
 use Prim.Native.Nat.{ℕ, zero, suc, ◌+◌, ◌≤◌, ◌<◌}
 use Rattle.std.proofs.Math.Decide.{ℕ_discrete, dec_lt}
@@ -20,8 +19,8 @@ all_below p (suc n) = all_below p n && p n
 
 -- the first number below n that passes
 unfoldable pub first_below : (ℕ → Bool) → ℕ → Option ℕ
-first_below p zero = none
-first_below p (suc n) = maybe (if p n then some n otherwise none) some (first_below p n)
+first_below p zero = None
+first_below p (suc n) = maybe (if p n then Some n otherwise None) Some (first_below p n)
 
 -- how many numbers below n pass
 unfoldable pub count_below : (ℕ → Bool) → ℕ → ℕ
@@ -61,57 +60,57 @@ module _ (p : ℕ → Bool) where
   all_intro zero h = refl
   all_intro (suc n) h = rw (all_intro n (λ k l. h k (omega arith)), h n (omega arith))
 
-  pub first_none : first_below p 0 ≡ none
+  pub first_none : first_below p 0 ≡ None
   unfolding first_below
   first_none = refl
 
-  pub first_more : (i : ℕ) → first_below p i ≡ none → p i ≡ false → first_below p (i + 1) ≡ none
+  pub first_more : (i : ℕ) → first_below p i ≡ None → p i ≡ false → first_below p (i + 1) ≡ None
   unfolding first_below maybe if◌then◌otherwise◌
   first_more i a h = rw (add-one, a, h)
 
-  pub first_hit : (n i : ℕ) → i < n → first_below p i ≡ none → p i ≡ true → first_below p n ≡ some i
+  pub first_hit : (n i : ℕ) → i < n → first_below p i ≡ None → p i ≡ true → first_below p n ≡ Some i
   unfolding first_below maybe if◌then◌otherwise◌
   first_hit zero i l a h = absurd (not-suc-le-zero l)
   first_hit (suc n) i l a h =
       ⊎_elim
-      (λ e. subst (λ (m : ℕ). maybe (if p m then some m otherwise none) some (first_below p m) ≡ some i) e (rw (a, h)))
-      (λ k. ap (maybe (if p n then some n otherwise none) some) (first_hit n i k a h))
+      (λ e. subst (λ (m : ℕ). maybe (if p m then Some m otherwise None) Some (first_below p m) ≡ Some i) e (rw (a, h)))
+      (λ k. ap (maybe (if p n then Some n otherwise None) Some) (first_hit n i k a h))
       (eq-or-lt_of_le (le_of_suc-le-suc l))
 
-  pub first_done : (n i : ℕ) → first_below p i ≡ none → i ≤ n → n ≤ i → first_below p n ≡ none
-  first_done n i a l h = let e : i ≡ n = omega arith in subst (λ (k : ℕ). first_below p k ≡ none) e a
+  pub first_done : (n i : ℕ) → first_below p i ≡ None → i ≤ n → n ≤ i → first_below p n ≡ None
+  first_done n i a l h = let e : i ≡ n = omega arith in subst (λ (k : ℕ). first_below p k ≡ None) e a
 
 -- nothing was found among n + 1, so nothing among n, and n does not pass
-rest_none : (o : Option ℕ) (b : Bool) (n : ℕ) → maybe (if b then some n otherwise none) some o ≡ none → (o ≡ none) × (b ≡ false)
+rest_none : (o : Option ℕ) (b : Bool) (n : ℕ) → maybe (if b then Some n otherwise None) Some o ≡ None → (o ≡ None) × (b ≡ false)
 unfolding maybe if◌then◌otherwise◌
-rest_none none false n e = (refl, refl)
-rest_none none true n e = let z : ◌≡◌ {A = ℕ} 0 1 = cc in absurd (omega arith)
-rest_none (some k) b n e = let z : ◌≡◌ {A = ℕ} 0 1 = cc in absurd (omega arith)
+rest_none None false n e = (refl, refl)
+rest_none None true n e = let z : ◌≡◌ {A = ℕ} 0 1 = cc in absurd (omega arith)
+rest_none (Some k) b n e = let z : ◌≡◌ {A = ℕ} 0 1 = cc in absurd (omega arith)
 
-pub first_elim : (p : ℕ → Bool) (n : ℕ) → first_below p n ≡ none → (k : ℕ) → k < n → p k ≡ false
+pub first_elim : (p : ℕ → Bool) (n : ℕ) → first_below p n ≡ None → (k : ℕ) → k < n → p k ≡ false
 unfolding first_below
 first_elim p zero a k l = absurd (not-suc-le-zero l)
 first_elim p (suc n) a k l =
-    let s : (first_below p n ≡ none) × (p n ≡ false) = rest_none (first_below p n) (p n) n a in
+    let s : (first_below p n ≡ None) × (p n ≡ false) = rest_none (first_below p n) (p n) n a in
     ⊎_elim (λ e. ap p e ∙ s.1) (λ h. first_elim p n s.0 k h) (eq-or-lt_of_le (le_of_suc-le-suc l))
 
 -- what was found is below n, passes, and nothing before it does
 pub record First (p : ℕ → Bool) (n i : ℕ) : Type 0 where
   pub below : i < n
   pub passes : p i ≡ true
-  pub least : first_below p i ≡ none
+  pub least : first_below p i ≡ None
 
-rest_some : (p : ℕ → Bool) (n i : ℕ) (o : Option ℕ) (b : Bool) → first_below p n ≡ o → p n ≡ b → (o ≡ some i → First p n i)
-    → maybe (if b then some n otherwise none) some o ≡ some i → First p (suc n) i
+rest_some : (p : ℕ → Bool) (n i : ℕ) (o : Option ℕ) (b : Bool) → first_below p n ≡ o → p n ≡ b → (o ≡ Some i → First p n i)
+    → maybe (if b then Some n otherwise None) Some o ≡ Some i → First p (suc n) i
 unfolding maybe if◌then◌otherwise◌
-rest_some p n i none true f q k e =
+rest_some p n i None true f q k e =
     let s : n ≡ i = cc in subst (λ (m : ℕ). First p (suc n) m) s (record { below = omega arith; passes = q; least = f })
-rest_some p n i none false f q k e = let z : ◌≡◌ {A = ℕ} 0 1 = cc in absurd (omega arith)
-rest_some p n i (some j) b f q k e =
+rest_some p n i None false f q k e = let z : ◌≡◌ {A = ℕ} 0 1 = cc in absurd (omega arith)
+rest_some p n i (Some j) b f q k e =
     let h : First p n i = k e in
     record { below = omega (arith, h.below); passes = h.passes; least = h.least }
 
-pub first_some : (p : ℕ → Bool) (n i : ℕ) → first_below p n ≡ some i → First p n i
+pub first_some : (p : ℕ → Bool) (n i : ℕ) → first_below p n ≡ Some i → First p n i
 unfolding first_below
 first_some p zero i e = let z : ◌≡◌ {A = ℕ} 0 1 = cc in absurd (omega arith)
 first_some p (suc n) i e = rest_some p n i (first_below p n) (p n) refl refl (λ h. first_some p n i h) e
@@ -163,9 +162,9 @@ module _ (p : ℕ → Bool) (n : ℕ) where
       (λ u. miss (first_below p m) (p m) (h m (le_of_suc-le-suc u) (omega arith)) ∙ first_past m (le_of_suc-le-suc u) (λ k a b. h k a (omega arith)))
       (eq-or-lt_of_le l)
     where
-      miss : (o : Option ℕ) (a : Bool) → a ≡ false → maybe (if a then some m otherwise none) some o ≡ o
-      miss none a e = unfold maybe if◌then◌otherwise◌ in rw e
-      miss (some k) a e = unfold maybe in refl
+      miss : (o : Option ℕ) (a : Bool) → a ≡ false → maybe (if a then Some m otherwise None) Some o ≡ o
+      miss None a e = unfold maybe if◌then◌otherwise◌ in rw e
+      miss (Some k) a e = unfold maybe in refl
 
   pub count_past : (m : ℕ) → n ≤ m → ((k : ℕ) → n ≤ k → k < m → p k ≡ false) → count_below p m ≡ count_below p n
   unfolding count_below

@@ -1,10 +1,9 @@
 -- Tests and cases: the words in which definitions choose, and the laws by which proofs follow them. Rests on the kit's library.
 -- `if◌then◌otherwise◌` and `maybe` are shut, so that a proof opens one function at a time and finds the test by unification.
-use Rattle.std.specs.Prelude.{ℕ, ◌≡◌, ◌⊎◌, Bool, ◌&&◌, ◌||◌}
+use Rattle.std.specs.Prelude.{ℕ, ◌≡◌, ◌⊎◌, Bool, ◌&&◌, ◌||◌, Option, None, Some}
 use Rattle.std.proofs.Common.{arith, inl, inr}
 use Rattle.std.proofs.Math.Path.{refl}
 use Rattle.std.proofs.Math.Bool.{true, false}
-use Rattle.std.proofs.Math.Option.{Option, none, some}
 
 module _ {A : Type 0} where
   infixr 10 if◌then◌otherwise◌
@@ -15,18 +14,18 @@ module _ {A : Type 0} where
 module _ {A B : Type 0} where
   -- what `f` makes of the value, or `b` where there is none
   unfoldable pub maybe : B → (A → B) → Option A → B
-  maybe b f none = b
-  maybe b f (some a) = f a
+  maybe b f None = b
+  maybe b f (Some a) = f a
 
 module _ {A : Type 0} where
   abbrev pub is_some : Option A → Bool
-  is_some none = false
-  is_some (some a) = true
+  is_some None = false
+  is_some (Some a) = true
 
   -- there is a value, and it passes the test
   abbrev pub some_and : (A → Bool) → Option A → Bool
-  some_and p none = false
-  some_and p (some a) = p a
+  some_and p None = false
+  some_and p (Some a) = p a
 
 -- ---- a test that is known
 
@@ -40,11 +39,11 @@ module _ {A : Type 0} where
   if_false b x y e = rw e
 
 module _ {A B : Type 0} where
-  pub maybe_none : (o : Option A) (b : B) (f : A → B) → o ≡ none → maybe b f o ≡ b
+  pub maybe_none : (o : Option A) (b : B) (f : A → B) → o ≡ None → maybe b f o ≡ b
   unfolding maybe
   maybe_none o b f e = rw e
 
-  pub maybe_some : (o : Option A) (a : A) (b : B) (f : A → B) → o ≡ some a → maybe b f o ≡ f a
+  pub maybe_some : (o : Option A) (a : A) (b : B) (f : A → B) → o ≡ Some a → maybe b f o ≡ f a
   unfolding maybe
   maybe_some o a b f e = rw e
 
@@ -56,10 +55,10 @@ module _ {A : Type 0} (P : A → Type 0) where
   split_if true f g = f refl
   split_if false f g = g refl
 
-  pub split_maybe : {B : Type 0} (o : Option B) {x : A} {f : B → A} → (o ≡ none → P x) → ((b : B) → o ≡ some b → P (f b)) → P (maybe x f o)
+  pub split_maybe : {B : Type 0} (o : Option B) {x : A} {f : B → A} → (o ≡ None → P x) → ((b : B) → o ≡ Some b → P (f b)) → P (maybe x f o)
   unfolding maybe
-  split_maybe none h k = h refl
-  split_maybe (some b) h k = k b refl
+  split_maybe None h k = h refl
+  split_maybe (Some b) h k = k b refl
 
 -- ---- tests joined
 
@@ -102,8 +101,8 @@ test_same false false f g = refl
 
 -- ---- options
 
-pub none_some : {A B : Type 0} {x : Option A} {a : A} → x ≡ none → x ≡ some a → B
+pub none_some : {A B : Type 0} {x : Option A} {a : A} → x ≡ None → x ≡ Some a → B
 none_some p q = let z : ◌≡◌ {A = ℕ} 0 1 = cc in absurd (omega arith)
 
-pub same_some : {A : Type 0} {x : Option A} {a b : A} → x ≡ some a → x ≡ some b → a ≡ b
+pub same_some : {A : Type 0} {x : Option A} {a b : A} → x ≡ Some a → x ≡ Some b → a ≡ b
 same_some p q = cc

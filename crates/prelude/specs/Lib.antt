@@ -1,6 +1,8 @@
 pub mod Cases
 pub mod Below
 pub mod Lists
+pub mod Chains
+pub mod Refusal
 pub mod Totals
 pub mod Span
 pub mod Number

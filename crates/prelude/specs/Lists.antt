@@ -1,8 +1,7 @@
 -- The values of a function below n as a list: how a table of records meets a list of them. Rests on Below.
-use Rattle.std.specs.Prelude.{◌≡◌, Bool, set}
+use Rattle.std.specs.Prelude.{◌≡◌, Bool, set, Option}
 use Rattle.std.proofs.Math.Path.{refl, subst}
 use Rattle.std.proofs.Common.{sym, ap, ◌∙◌, not-suc-le-zero, eq-or-lt_of_le, le_of_suc-le-suc, arith, below_more, length-set, ext_get_or, get_or-set_same, get_or-set_other}
-use Rattle.std.proofs.Math.Option.{Option}
 use Rattle.std.proofs.Math.Logic.{⊎_elim}
 use mathlib.Core.List.{List, [], ◌∷◌, ◌++◌}
 use Prim.Native.Nat.{ℕ, zero, suc, ◌+◌, ◌≤◌, ◌<◌}

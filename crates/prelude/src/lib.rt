@@ -1,9 +1,12 @@
-// The words of the definitions: specs and laws that every crate cites, and the two types that
-// records and book share. Rests on the kit's library alone.
+// The words of the definitions: specs and laws that every crate cites, the types that records
+// and book share, and why a call is refused. Rests on the kit's library alone.
 #![tactic(auto)]
 
-// A text of at most 32 bytes: the bytes, zeros after the text, and its length.
-#[derive(Clone, Copy)]
+ghost use Rattle.std.specs.Prelude.{◌≡◌};
+ghost use Rattle.prelude.specs.Refusal.{number_of};
+
+// A text of at most 32 bytes: the bytes, zeros after the text, and its length, the form of docs/SCOPE.md.
+#[derive(Clone, Copy, Debug, PartialEq, Eq)]
 pub struct Text {
     pub bytes: [u8; 32],
     pub len: u8,
@@ -11,11 +14,40 @@ pub struct Text {
 
 // What is ordered. A limit order has a price; a market order's is 0. A time in force that is not
 // given is 0. In a replace event a type that is not given is 0.
-#[derive(Clone, Copy)]
+#[derive(Clone, Copy, Debug, PartialEq, Eq)]
 pub struct Terms {
     pub side: u8,
     pub ordtype: u8,
     pub timeinforce: u8,
     pub qty: u64,
     pub price: u64,
+}
+
+// Why a call is refused (docs/SCOPE.md). The C functions return its number.
+#[derive(Clone, Copy, Debug, PartialEq, Eq)]
+pub enum Refusal {
+    BadBook = 1, // the book has another length or does not keep its rules
+    ShortAnswer = 2, // the answer buffer is too short
+    BadRecord = 3, // the record does not read whole
+    OutOfRange = 4, // a field is out of its range, or a code is not listed
+    InUse = 5, // a booking's order name or ClOrdID is in use
+    WrongPrice = 6, // a price without a limit, or a limit without a price
+    FullBook = 7, // no free order or request record
+    ShortPage = 8, // the page's buffer is too short
+    BadText = 9, // a text of a FIX message is empty or has a byte below 32
+    NoRoom = 10, // the buffer cannot hold the FIX message
+    ShortNet = 11, // the net position's buffers are too short
+    ShortList = 12, // the list cannot hold the chain
+    BadName = 13, // a mark's name is malformed
+    NoMark = 14, // no mark of that name
+    NoPlace = 15, // no place is free for a mark
+}
+
+impl Refusal {
+    pub fn number(self) -> u32
+        ensures { result ≡ number_of self }
+    {
+        // By `as`: std has nothing else that gives the number of a variant.
+        self as u32
+    }
 }

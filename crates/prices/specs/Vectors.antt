@@ -1,11 +1,11 @@
 -- Stored fill prices: what their bytes say, and what `wide` makes of them. Rests on prelude's Number and on wide.
-use Rattle.std.specs.Prelude.{ℕ, List, ◌≡◌}
+use Rattle.std.specs.Prelude.{ℕ, List, [], ◌∷◌, ◌≡◌}
 use Rattle.prelude.specs.Number.{word64}
 use Rattle.wide.specs.declared.Priced.{Priced}
 use Rattle.wide.specs.Wide.{fill_price}
 use Rattle.prices.specs.declared.Vector.{Vector}
 
--- nine numbers of 8 bytes
+-- ten numbers of 8 bytes
 pub record IsVector (s : List ℕ) (v : Vector) : Type 0 where
   pub lastqty : v.lastqty ≡ word64 s 0
   pub lastpx : v.lastpx ≡ word64 s 8
@@ -14,8 +14,8 @@ pub record IsVector (s : List ℕ) (v : Vector) : Type 0 where
   pub oldcum : v.oldcum ≡ word64 s 32
   pub oldavg : v.oldavg ≡ word64 s 40
   pub rise : v.rise ≡ word64 s 48
-  pub low : v.low ≡ word64 s 56
-  pub high : v.high ≡ word64 s 64
+  pub price : v.price ≡ word64 s 56 ∷ word64 s 64 ∷ []
+  pub rule : v.rule ≡ word64 s 72
 
 -- the price by the definition, with its source
 abbrev pub priced_of : Vector → Priced

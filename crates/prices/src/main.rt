@@ -1,19 +1,19 @@
 // Compares `wide::fill_price` with stored answers, which it reads from standard input, 80 bytes
 // each: the Rust's, and at an exact half the rule's. It prints how many there were, how many differ,
-// how many each way of finding a price told, and how many are at a half. Rests on wide and on
+// how many each way of finding a price told, and how many are at a half. Rests on wide, input and
 // specs/Vectors.antt.
 #![tactic(auto)]
 
-ghost use Rattle.std.specs.Prelude.{◌≡◌, ◌+◌, ◌≤◌, eqb, length};
+ghost use Rattle.std.specs.Prelude.{◌≡◌, ◌≤◌};
 ghost use Rattle.prelude.specs.Number.{word64};
-ghost use Rattle.wide.specs.Wide.{value};
 ghost use Rattle.prices.specs.Vectors.{IsVector, priced_of};
 
-use std::io;
 use std::io::Read;
+use std::{fmt, io};
 use wide::Priced;
 
-// A question to `fill_price`, and the words of the stored answer.
+// A question to `fill_price`, the two words of the stored answer, and the rule that this follows at a
+// half: the Rust's own, or HALF_UP.
 #[derive(Clone, Copy)]
 struct Vector {
     lastqty: u64,
@@ -23,172 +23,115 @@ struct Vector {
     oldcum: u64,
     oldavg: u64,
     rise: u64,
-    low: u64,
-    high: u64,
+    price: [u64; 2],
+    rule: u64,
 }
 
-// The rule that a stored answer follows, behind it: 0 is the Rust's own, 1 a half that goes up.
 const HALF_UP: u64 = 1;
 
-// What came of a vector: where its price came from, 0 where there was no vector, and whether it is
-// the stored one.
-#[derive(Clone, Copy)]
-struct Verdict {
-    source: u8,
-    same: bool,
-    half: bool,
+// The number of 8 bytes at an index, the lowest first.
+fn word(bytes: &[u8; 80], at: usize) -> u64
+    requires { at ≤ 72 }
+    ensures { result ≡ word64 bytes.now at }
+{
+    let mut word = [0u8; 8];
+    word.copy_from_slice(&bytes[at..at + 8]);
+    u64::from_le_bytes(word)
 }
 
-#[derive(Clone, Copy)]
+impl Vector {
+    fn of(bytes: &[u8; 80]) -> Vector
+        ensures { IsVector bytes.now result }
+    {
+        Vector {
+            lastqty: word(bytes, 0),
+            lastpx: word(bytes, 8),
+            cumqty: word(bytes, 16),
+            avgpx: word(bytes, 24),
+            oldcum: word(bytes, 32),
+            oldavg: word(bytes, 40),
+            rise: word(bytes, 48),
+            price: [word(bytes, 56), word(bytes, 64)],
+            rule: word(bytes, 72),
+        }
+    }
+
+    // What `wide` makes of the question.
+    fn priced(&self) -> Priced
+        ensures { result ≡ priced_of self.now }
+    {
+        wide::fill_price(
+            self.lastqty,
+            self.lastpx,
+            self.cumqty,
+            self.avgpx,
+            self.oldcum,
+            self.oldavg,
+            self.rise,
+        )
+    }
+}
+
+// What was counted; a count stays at the most that it can be.
+#[derive(Clone, Copy, Default)]
 struct Tally {
     vectors: u64,
     differ: u64,
-    bylastpx: u64,
-    implied: u64,
-    average: u64,
+    by_last_px: u64,
+    by_quotient: u64,
+    by_average: u64,
     halves: u64,
 }
 
-fn byte(x: u8) -> u64
-    ensures { (result ≡ x) × (result ≤ 255) }
-{
-    x as u64
-}
-
-// The number of 8 bytes at an index, the lowest first.
-fn word(s: &[u8], at: usize) -> u64
-    requires { at + 8 ≤ length s.now }
-    ensures { result ≡ word64 s.now at }
-{
-    let high = byte(s[at + 4])
-        + 256 * (byte(s[at + 5]) + 256 * (byte(s[at + 6]) + 256 * byte(s[at + 7])));
-    byte(s[at])
-        + 256 * (byte(s[at + 1]) + 256 * (byte(s[at + 2]) + 256 * (byte(s[at + 3]) + 256 * high)))
-}
-
-// Do two pairs of words stand for one number?
-fn same(a: [u64; 2], b: [u64; 2]) -> bool
-    ensures { result ≡ eqb (value a) (value b) }
-{
-    if wide::less(a, b) {
-        return false;
-    }
-    if wide::less(b, a) {
-        return false;
-    }
-    true
-}
-
-fn vector_of(s: &[u8]) -> Vector
-    requires { 72 ≤ length s.now }
-    ensures { IsVector s.now result }
-{
-    Vector {
-        lastqty: word(s, 0),
-        lastpx: word(s, 8),
-        cumqty: word(s, 16),
-        avgpx: word(s, 24),
-        oldcum: word(s, 32),
-        oldavg: word(s, 40),
-        rise: word(s, 48),
-        low: word(s, 56),
-        high: word(s, 64),
-    }
-}
-
-// Does the vector follow the rule for a half?
-fn at_half(s: &[u8]) -> bool {
-    if s.len() < 80 {
-        return false;
-    }
-    word(s, 72) == HALF_UP
-}
-
-// The price of a vector, with its source.
-fn priced(v: Vector) -> Priced
-    ensures { result ≡ priced_of v }
-{
-    wide::fill_price(
-        v.lastqty, v.lastpx, v.cumqty, v.avgpx, v.oldcum, v.oldavg, v.rise,
-    )
-}
-
-// Reads one vector and judges it.
-fn next<R: Read>(input: &mut R) -> io::Result<Verdict> {
-    let mut bytes = [0u8; 80];
-    let n = input::read_full(input, &mut bytes)?;
-    if n < 80 {
-        return Ok(Verdict {
-            source: 0,
-            same: true,
-            half: false,
-        });
-    }
-    let v = vector_of(&bytes[..n]);
-    let p = priced(v);
-    let price = p.price;
-    Ok(Verdict {
-        source: p.source,
-        same: same(price, [v.low, v.high]),
-        half: at_half(&bytes[..n]),
-    })
-}
-
-// One more where `yes`; a count stays at the most that it can be.
-fn more(count: u64, yes: bool) -> u64 {
-    if !yes {
-        return count;
-    }
-    if count == u64::MAX {
-        return count;
-    }
-    count + 1
-}
-
-fn counted(t: Tally, v: Verdict) -> Tally {
-    Tally {
-        vectors: more(t.vectors, true),
-        differ: more(t.differ, !v.same),
-        bylastpx: more(t.bylastpx, v.source == wide::FROM_LAST_PX),
-        implied: more(t.implied, v.source == wide::FROM_QUOTIENT),
-        average: more(t.average, v.source == wide::FROM_AVERAGE),
-        halves: more(t.halves, v.half),
-    }
-}
-
-// A proved loop has to end, and nothing says that the input does: it counts its turns down from a
-// number that no run uses up.
-fn judged<R: Read>(input: &mut R) -> io::Result<Tally> {
-    let mut t = Tally {
-        vectors: 0,
-        differ: 0,
-        bylastpx: 0,
-        implied: 0,
-        average: 0,
-        halves: 0,
-    };
-    let mut turns = u64::MAX;
-    while turns > 0 {
-        let v = next(input)?;
-        if v.source == 0 {
-            return Ok(t);
+impl Tally {
+    fn count(&mut self, vector: &Vector) {
+        let priced = vector.priced();
+        self.vectors = self.vectors.saturating_add(1);
+        if priced.price != vector.price {
+            self.differ = self.differ.saturating_add(1);
         }
-        t = counted(t, v);
-        turns -= 1;
+        match priced.source {
+            wide::FROM_LAST_PX => self.by_last_px = self.by_last_px.saturating_add(1),
+            wide::FROM_QUOTIENT => self.by_quotient = self.by_quotient.saturating_add(1),
+            _ => self.by_average = self.by_average.saturating_add(1),
+        }
+        if vector.rule == HALF_UP {
+            self.halves = self.halves.saturating_add(1);
+        }
     }
-    Ok(t)
 }
 
-fn line(rt: &impl Print, name: &str, n: u64) -> io::Result<()> {
-    println!(rt; "{name} {n}")
+impl fmt::Display for Tally {
+    fn fmt<W: fmt::Write>(&self, f: &mut fmt::Formatter<W>) -> fmt::Result {
+        let Tally {
+            vectors,
+            differ,
+            by_last_px,
+            by_quotient,
+            by_average,
+            halves,
+        } = *self;
+        writeln!(f, "vectors {vectors}")?;
+        writeln!(f, "differ {differ}")?;
+        writeln!(f, "by LastPx {by_last_px}")?;
+        writeln!(f, "by the quotient {by_quotient}")?;
+        writeln!(f, "by the average {by_average}")?;
+        write!(f, "at a half {halves}")
+    }
+}
+
+// Nothing says that the input ends, and a proved loop has to: no run uses up its turns.
+fn judged<R: Read>(input: &mut R) -> io::Result<Tally> {
+    let mut tally = Tally::default();
+    for _ in 0..u64::MAX {
+        let Some(bytes) = input::read_array(input)? else {
+            break;
+        };
+        tally.count(&Vector::of(&bytes));
+    }
+    Ok(tally)
 }
 
 fn main(rt: HostRuntime) -> io::Result<()> {
-    let t = judged(&mut rt.reader())?;
-    line(&rt, "vectors", t.vectors)?;
-    line(&rt, "differ", t.differ)?;
-    line(&rt, "by LastPx", t.bylastpx)?;
-    line(&rt, "by the quotient", t.implied)?;
-    line(&rt, "by the average", t.average)?;
-    line(&rt, "at a half", t.halves)
+    rt.println(judged(&mut rt.reader())?)
 }

@@ -5,8 +5,9 @@ use Rattle.prelude.specs.Span.{span}
 use Rattle.prelude.specs.Number.{bytes_of, word16}
 use Rattle.format.specs.Places.{end_of}
 use Rattle.records.specs.declared.Record.{Record}
-use Rattle.records.specs.declared.AnswerRead.{AnswerRead}
-use Rattle.records.specs.Fields.{blank}
+use Rattle.records.specs.declared.Answer.{Answer}
+use Rattle.records.specs.declared.Messages.{Messages}
+use Rattle.records.specs.declared.Messages.TheVariants.{Nothing, One, Two}
 use Rattle.records.specs.Record.{record_bytes, record_at, is_message}
 use Rattle.format.specs.Refusal.{ranged, refusal_by, message_shaped}
 
@@ -93,14 +94,14 @@ answer_alarm2 s = if eqb (answer_refusal s) 0 then alarm2_in s otherwise 0
 
 -- ---- what code reads
 
--- an answer's messages: the first and the second, blank where there is none
-pub record Holds (ms : List Record) (r : AnswerRead) : Type 0 where
-  pub count : r.count ≡ length ms
-  pub first : r.first ≡ get_or ms 0 blank
-  pub second : r.second ≡ get_or ms 1 blank
+abbrev pub messages_of : Messages → List Record
+messages_of Nothing = []
+messages_of (One first) = first ∷ []
+messages_of (Two first second) = first ∷ second ∷ []
 
-pub record ReadsAnswer (s : List ℕ) (r : AnswerRead) : Type 0 where
-  pub refusal : r.refusal ≡ answer_refusal s
+-- an answer that is taken; why another is not has the number answer_refusal
+pub record ReadsAnswer (s : List ℕ) (r : Answer) : Type 0 where
+  pub taken : answer_refusal s ≡ 0
   pub alarm : r.alarm ≡ answer_alarm s
   pub alarm2 : r.alarm2 ≡ answer_alarm2 s
-  pub messages : Holds (answer_messages s) r
+  pub messages : messages_of r.messages ≡ answer_messages s

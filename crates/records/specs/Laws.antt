@@ -9,3 +9,4 @@ pub mod ReadingAnswer
 pub mod Accepted
 pub mod Ranges
 pub mod RoundTrip
+pub mod Refused

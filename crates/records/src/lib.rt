@@ -2,17 +2,20 @@
 // `scan`, `take` and `put` do the work, and `parts` gives a message in place.
 #![tactic(auto)]
 
-ghost use Rattle.std.specs.Prelude.{◌≡◌, [], ◌<◌, ◌+◌, ◌≤◌, leb, length};
+ghost use Rattle.std.specs.Prelude.{◌≡◌, [], true, false, ◌<◌, ◌+◌, ◌≤◌, leb, length, IfOk, IfErr};
 ghost use Rattle.prelude.specs.Span.{splice};
 ghost use Rattle.prelude.specs.Cases.{if◌then◌otherwise◌};
-ghost use Rattle.records.specs.Fields.{blank};
-ghost use Rattle.records.specs.Record.{record_bytes, event_in};
-ghost use Rattle.format.specs.Refusal.{name_in, event_refusal};
-ghost use Rattle.records.specs.Laws.Seen.{Shapes, Reads, ReadsMessage, ReadsFrom};
-ghost use Rattle.records.specs.Answer.{head_size, head_bytes, answer_bytes, chosen, ReadsAnswer, Holds};
+ghost use Rattle.prelude.specs.Refusal.{number_of};
+ghost use Rattle.prelude.specs.declared.Refusal.TheVariants.{BadRecord, OutOfRange};
+ghost use Rattle.format.specs.Places.{shaped};
+ghost use Rattle.format.specs.Refusal.{name_in, ranged, message_shaped, event_refusal};
+ghost use Rattle.format.specs.Laws.Seen.{Rising, between};
+ghost use Rattle.records.specs.Record.{record_bytes, record_at, event_in};
+ghost use Rattle.records.specs.Laws.Seen.{Shapes, Numbered, MessagesIn, refusal_from};
+ghost use Rattle.records.specs.Answer.{head_size, head_bytes, answer_bytes, chosen, count_in, answer_refusal, messages_of, ReadsAnswer};
 
 use format::codes;
-use prelude::{Terms, Text};
+use prelude::{Refusal, Terms, Text};
 
 mod fields;
 pub mod parts;
@@ -29,21 +32,7 @@ const ALARM: usize = 3;
 
 const ALARM2: usize = 4;
 
-// A field's number and whether it is in range.
-#[derive(Clone, Copy)]
-struct Seen {
-    right: bool,
-    value: u64,
-}
-
-// The numbers of all fields, of a text its length, and whether all are in range.
-#[derive(Clone, Copy)]
-struct Numbers {
-    right: bool,
-    numbers: [u64; 32],
-}
-
-// A text of at most 64 bytes: the bytes, zeros after the text, and its length.
+// A text of at most 64 bytes: the bytes, zeros after the text, and its length, in the form of `Text`.
 #[derive(Clone, Copy)]
 pub struct LongText {
     pub bytes: [u8; 64],
@@ -102,177 +91,160 @@ pub struct Record {
     pub text: LongText,
 }
 
-// The shape of a record: whether it has one, its map, and where its fields start.
+// The messages of an answer, at most two.
+#[derive(Clone, Copy)]
+pub enum Messages {
+    Nothing,
+    One(Record),
+    Two(Record, Record),
+}
+
+impl Messages {
+    // How many they are.
+    pub fn count(&self) -> u32
+        ensures { result ≡ length (messages_of self.now) }
+    {
+        match self {
+            Messages::Nothing => 0,
+            Messages::One(_) => 1,
+            Messages::Two(_, _) => 2,
+        }
+    }
+}
+
+// An answer that was read.
+#[derive(Clone, Copy)]
+pub struct Answer {
+    pub alarm: u8,
+    pub alarm2: u8,
+    pub messages: Messages,
+}
+
+// The shape of a record: where it starts, its map, and where its fields start (and at 32 where it ends).
 #[derive(Clone, Copy)]
 struct Shape {
-    whole: bool,
+    start: usize,
     map: u32,
     at: [usize; 33],
 }
 
-// An answer that was read: no messages and no alarms where it is refused, all zero where there is no message.
-#[derive(Clone, Copy)]
-pub struct AnswerRead {
-    pub refusal: u32,
-    pub count: u8,
-    pub alarm: u8,
-    pub alarm2: u8,
-    pub first: Record,
-    pub second: Record,
-}
-
-// A record that was read, or why there is none, and where it ends.
-#[derive(Clone, Copy)]
-struct Got {
-    refusal: u32,
-    end: usize,
-    taken: Record,
-}
-
-// An event that was read: all zero where it is refused.
-#[derive(Clone, Copy)]
-pub struct EventRead {
-    pub refusal: u32,
-    pub event: Record,
-}
-
-// The shape of the record that starts at o.
-fn shape_at(s: &[u8], o: usize) -> Shape
-    requires { o < 65536 }
-    ensures { Shapes s.now o result }
-{
-    let none = [0usize; 33];
-    let no = Shape {
-        whole: false,
-        map: 0,
-        at: none,
-    };
-    if places::left_at(s, o) < 5 {
-        return no;
+impl Shape {
+    // The bytes of field b, none where its bit does not stand.
+    fn field<'a>(&self, s: &'a [u8], b: usize) -> &'a [u8]
+        requires { (b < 32) × Rising s.now self.now.at }
+        ensures { result.now ≡ between s.now self.now.at b }
+    {
+        &s[self.at[b]..self.at[b + 1]]
     }
-    let map = fields::word(s, o + 1);
+}
+
+// The shape of the record that starts at o, if it has one.
+fn shape_at(s: &[u8], o: usize) -> Result<Shape, Refusal>
+    requires { o < 65536 }
+    ensures ok { IfOk result (λ shape. (shape.start ≡ o) × Shapes s.now shape) }
+    ensures err { IfErr result (λ r. (shaped s.now o ≡ false) × (r ≡ BadRecord)) }
+{
+    if places::left_at(s, o) < 5 {
+        return Err(Refusal::BadRecord);
+    }
+    let p = o + 1;
+    let map = words::get32(&s[p..p + 4]);
     if !format::bits_right(s[o], map) {
-        return no;
+        return Err(Refusal::BadRecord);
     }
     let at = places::starts(s, map, o);
     if s.len() < at[32] {
-        return no;
+        return Err(Refusal::BadRecord);
     }
-    Shape {
-        whole: true,
-        map,
-        at,
-    }
+    Ok(Shape { start: o, map, at })
 }
 
-fn refused(refusal: u32, end: usize) -> Got
-    ensures { (result.refusal ≡ refusal) × (result.end ≡ end) × (result.taken ≡ blank) }
+// The same of a message.
+fn message_shape(s: &[u8], o: usize) -> Result<Shape, Refusal>
+    requires { o < 65536 }
+    ensures ok { IfOk result (λ shape. (shape.start ≡ o) × (message_shaped s.now o ≡ true) × Shapes s.now shape) }
+    ensures err { IfErr result (λ r. (message_shaped s.now o ≡ false) × (r ≡ BadRecord)) }
 {
-    Got {
-        refusal,
-        end,
-        taken: take::no_record(),
+    let shape = shape_at(s, o)?;
+    if s[o] < codes::REPORT {
+        return Err(Refusal::BadRecord);
     }
+    Ok(shape)
 }
 
 fn name_in_map(map: u32, name: Text) -> bool
     ensures { result ≡ name_in map name }
 {
-    if bits::has(map, 2) {
-        return format::name_ok(name);
-    }
-    true
+    !bits::has(map, 2) || format::name_ok(name)
 }
 
-// The record that starts at o.
-fn read_record(s: &[u8], o: usize) -> Got
-    requires { o < 65536 }
-    ensures { Reads s.now o result }
+// The numbers in the fields of a record that has shape, if each field is in its range.
+fn numbers_in(s: &[u8], shape: &Shape) -> Result<[u64; 32], Refusal>
+    requires { Shapes s.now shape.now }
+    ensures ok { IfOk result (Numbered s.now shape.now) }
+    ensures err { IfErr result (λ r. (ranged s.now shape.now.start ≡ false) × (r ≡ OutOfRange)) }
 {
-    let shape = shape_at(s, o);
-    if !shape.whole {
-        return refused(3, 0);
+    let numbers = scan::values(s, shape)?;
+    let name = take::text_in(shape.field(s, 2));
+    if name_in_map(shape.map, name) {
+        Ok(numbers)
+    } else {
+        Err(Refusal::OutOfRange)
     }
-    let map = shape.map;
-    let at = shape.at;
-    let end = at[32];
-    let v = scan::values(s, map, &at);
-    if !v.right {
-        return refused(4, end);
-    }
-    let numbers = v.numbers;
-    let taken = take::built(s, s[o], map, &at, numbers);
-    let ids = taken.ids;
-    let name = ids.name;
-    if !name_in_map(map, name) {
-        return refused(4, end);
-    }
-    Got {
-        refusal: 0,
-        end,
-        taken,
-    }
+}
+
+// The record that has this shape, if each of its fields is in its range.
+fn record_in(s: &[u8], shape: &Shape) -> Result<Record, Refusal>
+    requires { Shapes s.now shape.now }
+    ensures ok { IfOk result (λ r. (ranged s.now shape.now.start ≡ true) × (r ≡ record_at s.now shape.now.start)) }
+    ensures err { IfErr result (λ r. (ranged s.now shape.now.start ≡ false) × (r ≡ OutOfRange)) }
+{
+    let numbers = numbers_in(s, shape)?;
+    Ok(take::built(s, s[shape.start], shape, &numbers))
 }
 
 // An event, from a slice that is one whole record.
-pub fn read_event(s: &[u8]) -> EventRead
-    ensures { (result.refusal ≡ event_refusal s.now) × (result.event ≡ event_in s.now) }
+pub fn read_event(s: &[u8]) -> Result<Record, Refusal>
+    ensures ok { IfOk result (λ e. (event_refusal s.now ≡ 0) × (e ≡ event_in s.now)) }
+    ensures err { IfErr result (λ r. number_of r ≡ event_refusal s.now) }
 {
-    let got = read_record(s, 0);
-    if got.refusal == 3 {
-        return EventRead {
-            refusal: 3,
-            event: take::no_record(),
-        };
+    let shape = shape_at(s, 0)?;
+    if codes::EVENT_GATEWAY_CANCEL < s[0] || shape.at[32] != s.len() {
+        return Err(Refusal::BadRecord);
     }
-    if codes::EVENT_GATEWAY_CANCEL < s[0] {
-        return EventRead {
-            refusal: 3,
-            event: take::no_record(),
-        };
-    }
-    if got.end != s.len() {
-        return EventRead {
-            refusal: 3,
-            event: take::no_record(),
-        };
-    }
-    let event = got.taken;
-    EventRead {
-        refusal: got.refusal,
-        event,
-    }
+    record_in(s, &shape)
 }
 
 // Writes a record at o, and returns the position after it.
-fn put_record(dst: &mut [u8], o: usize, r: Record) -> usize
-    requires { o + length (record_bytes r) ≤ length dst.old }
-    ensures { (result ≡ o + length (record_bytes r)) × (dst.new ≡ splice dst.old o (record_bytes r)) }
+fn put_record(dst: &mut [u8], o: usize, r: &Record) -> usize
+    requires { o + length (record_bytes r.now) ≤ length dst.old }
+    ensures { (result ≡ o + length (record_bytes r.now)) × (dst.new ≡ splice dst.old o (record_bytes r.now)) }
 {
-    let map = r.map;
-    let told = r.told;
-    let price = told.fillprice;
-    let high = price[1];
-    let ids = r.ids;
-    let text = r.text;
-    let numbers = put::numbers_of(r);
     dst[o] = r.kind;
-    let p = o + 1;
-    let q = fields::put_number(dst, p, map as u64, 4);
-    put::put_fields(dst, q, map, &numbers, high, ids, text)
+    let p = fields::put_number(dst, o + 1, u64::from(r.map), 4);
+    put::put_fields(dst, p, r)
 }
 
 fn put_head(dst: &mut [u8], n: usize, count: u8, alarm: u8, alarm2: u8)
     requires { head_size ≤ length dst.old }
     ensures { dst.new ≡ splice dst.old 0 (head_bytes n count alarm alarm2) }
 {
-    let marks = [count, alarm, alarm2];
-    let p = fields::put_number(dst, 0, n as u64, COUNT);
-    fields::copy(dst, p, &marks, 0, HEAD - COUNT);
+    // By `as`: std has no `From<usize>` for u64.
+    fields::put_number(dst, 0, n as u64, COUNT);
+    dst[COUNT..HEAD].copy_from_slice(&[count, alarm, alarm2]);
+}
+
+fn write_none(answer: &mut [u8], alarm: u8, alarm2: u8) -> u32
+    requires { 1024 ≤ length answer.old }
+    ensures { (result ≡ length (answer_bytes alarm alarm2 [])) × (answer.new ≡ splice answer.old 0 (answer_bytes alarm alarm2 [])) }
+{
+    put_head(answer, HEAD, 0, alarm, alarm2);
+    HEAD as u32
 }
 
 // Writes an answer of at most two messages, and returns its length; nothing, and 0, where the
-// buffer has not 1,024 bytes.
+// buffer has not 1,024 bytes. Kept as a count with two records: any byte may stand in the count. Lengths
+// of answers are at most 1,024, so by `as`: `try_from` would have branches that nothing takes.
 pub fn write_answer(
     answer: &mut [u8],
     alarm: u8,
@@ -287,149 +259,88 @@ pub fn write_answer(
         return 0;
     }
     if count == 0 {
-        put_head(answer, HEAD, 0, alarm, alarm2);
-        return HEAD as u32;
+        return write_none(answer, alarm, alarm2);
     }
-    let p = put_record(answer, HEAD, first);
+    let p = put_record(answer, HEAD, &first);
     if count == 1 {
         put_head(answer, p, 1, alarm, alarm2);
         return p as u32;
     }
-    let q = put_record(answer, p, second);
+    let q = put_record(answer, p, &second);
     put_head(answer, q, 2, alarm, alarm2);
     q as u32
 }
 
-// The message that starts at o.
-fn read_message(s: &[u8], o: usize) -> Got
-    requires { o < 65536 }
-    ensures { ReadsMessage s.now o result }
+// Writes an answer that was read, as `write_answer` does.
+pub fn write(answer: &mut [u8], read: &Answer) -> u32
+    ensures { (result ≡ (if leb 1024 (length answer.old) then length (answer_bytes read.now.alarm read.now.alarm2 (messages_of read.now.messages)) otherwise 0)) × (answer.new ≡ (if leb 1024 (length answer.old) then splice answer.old 0 (answer_bytes read.now.alarm read.now.alarm2 (messages_of read.now.messages)) otherwise answer.old)) }
 {
-    let got = read_record(s, o);
-    if got.refusal == 3 {
-        return refused(3, 0);
+    if answer.len() < 1024 {
+        return 0;
     }
-    if s[o] < codes::REPORT {
-        return refused(3, 0);
-    }
-    got
-}
-
-fn no_answer(refusal: u32) -> AnswerRead
-    ensures { (result.refusal ≡ refusal) × (result.alarm ≡ 0) × (result.alarm2 ≡ 0) × Holds [] result }
-{
-    let none = take::no_record();
-    AnswerRead {
-        refusal,
-        count: 0,
-        alarm: 0,
-        alarm2: 0,
-        first: none,
-        second: none,
+    match read.messages {
+        Messages::Nothing => write_none(answer, read.alarm, read.alarm2),
+        Messages::One(a) => write_answer(answer, read.alarm, read.alarm2, 1, a, a),
+        Messages::Two(a, b) => write_answer(answer, read.alarm, read.alarm2, 2, a, b),
     }
 }
 
-fn read_none(s: &[u8], alarm: u8, alarm2: u8) -> AnswerRead
-    ensures { ReadsFrom s.now 0 alarm alarm2 result }
+// The one message behind the head of an answer.
+fn read_one(a: &[u8]) -> Result<Messages, Refusal>
+    ensures ok { IfOk result (MessagesIn a.now 1) }
+    ensures err { IfErr result (λ r. number_of r ≡ refusal_from a.now 1) }
 {
-    if s.len() != HEAD {
-        return no_answer(3);
+    let first = message_shape(a, HEAD)?;
+    if first.at[32] != a.len() {
+        return Err(Refusal::BadRecord);
     }
-    let none = take::no_record();
-    AnswerRead {
-        refusal: 0,
-        count: 0,
-        alarm,
-        alarm2,
-        first: none,
-        second: none,
-    }
+    Ok(Messages::One(record_in(a, &first)?))
 }
 
-fn read_one(s: &[u8], alarm: u8, alarm2: u8) -> AnswerRead
-    ensures { ReadsFrom s.now 1 alarm alarm2 result }
+// The two messages behind the head of an answer. The shapes of both come before a range of one.
+fn read_two(a: &[u8]) -> Result<Messages, Refusal>
+    requires { length a.now < 65536 }
+    ensures ok { IfOk result (MessagesIn a.now 2) }
+    ensures err { IfErr result (λ r. number_of r ≡ refusal_from a.now 2) }
 {
-    let got = read_message(s, HEAD);
-    if got.refusal == 3 {
-        return no_answer(3);
+    let first = message_shape(a, HEAD)?;
+    let second = message_shape(a, first.at[32])?;
+    if second.at[32] != a.len() {
+        return Err(Refusal::BadRecord);
     }
-    if got.end != s.len() {
-        return no_answer(3);
-    }
-    if got.refusal == 4 {
-        return no_answer(4);
-    }
-    let first = got.taken;
-    let second = take::no_record();
-    AnswerRead {
-        refusal: 0,
-        count: 1,
-        alarm,
-        alarm2,
-        first,
-        second,
-    }
+    Ok(Messages::Two(record_in(a, &first)?, record_in(a, &second)?))
 }
 
-fn read_two(s: &[u8], alarm: u8, alarm2: u8) -> AnswerRead
-    requires { length s.now < 65536 }
-    ensures { ReadsFrom s.now 2 alarm alarm2 result }
+// The messages behind the head of an answer that says how many they are.
+fn read_messages(a: &[u8], count: u8) -> Result<Messages, Refusal>
+    requires { length a.now < 65536 }
+    ensures ok { IfOk result (λ ms. (count ≤ 2) × MessagesIn a.now count ms) }
+    ensures err { IfErr result (λ r. number_of r ≡ (if leb count 2 then refusal_from a.now count otherwise 3)) }
 {
-    let one = read_message(s, HEAD);
-    if one.refusal == 3 {
-        return no_answer(3);
-    }
-    let two = read_message(s, one.end);
-    if two.refusal == 3 {
-        return no_answer(3);
-    }
-    if two.end != s.len() {
-        return no_answer(3);
-    }
-    if one.refusal == 4 {
-        return no_answer(4);
-    }
-    if two.refusal == 4 {
-        return no_answer(4);
-    }
-    let first = one.taken;
-    let second = two.taken;
-    AnswerRead {
-        refusal: 0,
-        count: 2,
-        alarm,
-        alarm2,
-        first,
-        second,
+    match count {
+        0 if a.len() == HEAD => Ok(Messages::Nothing),
+        1 => read_one(a),
+        2 => read_two(a),
+        _ => Err(Refusal::BadRecord),
     }
 }
 
 // An answer, from the front of a slice: bytes past its length are not looked at.
-pub fn read_answer(s: &[u8]) -> AnswerRead
-    ensures { ReadsAnswer s.now result }
+pub fn read_answer(s: &[u8]) -> Result<Answer, Refusal>
+    ensures ok { IfOk result (ReadsAnswer s.now) }
+    ensures err { IfErr result (λ r. number_of r ≡ answer_refusal s.now) }
 {
     if s.len() < HEAD {
-        return no_answer(3);
+        return Err(Refusal::BadRecord);
     }
-    let n = fields::half(s, 0) as usize;
-    if n < HEAD {
-        return no_answer(3);
+    let n = usize::from(words::get16(&s[..2]));
+    if n < HEAD || s.len() < n {
+        return Err(Refusal::BadRecord);
     }
-    if s.len() < n {
-        return no_answer(3);
-    }
-    let count = s[COUNT];
-    let alarm = s[ALARM];
-    let alarm2 = s[ALARM2];
-    let a = &s[0..n];
-    if count == 0 {
-        return read_none(a, alarm, alarm2);
-    }
-    if count == 1 {
-        return read_one(a, alarm, alarm2);
-    }
-    if count == 2 {
-        return read_two(a, alarm, alarm2);
-    }
-    no_answer(3)
+    let messages = read_messages(&s[..n], s[COUNT])?;
+    Ok(Answer {
+        alarm: s[ALARM],
+        alarm2: s[ALARM2],
+        messages,
+    })
 }

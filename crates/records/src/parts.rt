@@ -1,68 +1,38 @@
 // A message in place: where its fields stand, and the numbers in them, with no copy of its texts. Rests
-// on `scan` and `take`.
-ghost use Rattle.records.specs.Parts.{PartsOf, no_parts};
-ghost use Rattle.std.specs.Prelude.{◌≡◌};
+// on `take`.
+ghost use Rattle.records.specs.Parts.{PartsOf, parts_refusal};
+ghost use Rattle.prelude.specs.Refusal.{number_of};
+ghost use Rattle.std.specs.Prelude.{◌≡◌, IfOk, IfErr};
 
-use crate::{scan, take};
-use format::codes;
+use crate::take;
+use prelude::Refusal;
 
-// Why a slice is no message, or its map, where its fields start (and at 32 where it ends), the number of
-// each field (of a text its length), and the upper word of the fill price. With a refusal all else is 0.
+// A message's map, where its fields start (and at 32 where it ends), the number of each field (of a
+// text its length), and the upper word of the fill price. Two arrays by field, not one of structs: `at`
+// has one entry more, and is the record's shape as it was found.
 #[derive(Clone, Copy)]
 pub struct Parts {
-    pub refusal: u32,
     pub map: u32,
     pub at: [usize; 33],
     pub numbers: [u64; 32],
     pub high: u64,
 }
 
-fn no_parts(refusal: u32) -> Parts
-    ensures { result ≡ no_parts refusal }
-{
-    let at = [0usize; 33];
-    let numbers = [0u64; 32];
-    Parts {
-        refusal,
-        map: 0,
-        at,
-        numbers,
-        high: 0,
-    }
-}
-
 // A message, from a slice that is one whole record.
-pub fn message_parts(s: &[u8]) -> Parts
-    ensures { PartsOf s.now result }
+pub fn message_parts(s: &[u8]) -> Result<Parts, Refusal>
+    ensures ok { IfOk result (PartsOf s.now) }
+    ensures err { IfErr result (λ r. number_of r ≡ parts_refusal s.now) }
 {
-    let shape = crate::shape_at(s, 0);
-    if !shape.whole {
-        return no_parts(3);
+    let shape = crate::message_shape(s, 0)?;
+    if shape.at[32] != s.len() {
+        return Err(Refusal::BadRecord);
     }
-    let map = shape.map;
-    let at = shape.at;
-    let end = at[32];
-    if s[0] < codes::REPORT {
-        return no_parts(3);
-    }
-    if end != s.len() {
-        return no_parts(3);
-    }
-    let v = scan::values(s, map, &at);
-    if !v.right {
-        return no_parts(4);
-    }
-    let numbers = v.numbers;
-    let name = take::text_between(s, at[2], at[3]);
-    if !crate::name_in_map(map, name) {
-        return no_parts(4);
-    }
-    let high = take::high_between(s, at[26], at[27]);
-    Parts {
-        refusal: 0,
-        map,
-        at,
+    let numbers = crate::numbers_in(s, &shape)?;
+    let high = take::high_in(shape.field(s, 26));
+    Ok(Parts {
+        map: shape.map,
+        at: shape.at,
         numbers,
         high,
-    }
+    })
 }

@@ -2,156 +2,117 @@
 ghost use Rattle.std.specs.Prelude.{◌≡◌, ◌∷◌, ◌<◌, ◌+◌, ◌≤◌, length};
 ghost use Rattle.prelude.specs.Span.{splice};
 ghost use Rattle.format.specs.Wire.{field_bytes, body};
-ghost use Rattle.records.specs.Fields.{numbers_of, text_by, short_bytes, long_bytes, held_by};
+ghost use Rattle.records.specs.Fields.{numbers_of, text_by, short_bytes, long_bytes, held};
 
+use crate::fields::{put_number, put_text};
 use crate::{Ids, LongText, Record};
 use prelude::Text;
 
 // The number of each bit.
-pub(crate) fn numbers_of(r: Record) -> [u64; 32]
-    ensures { result ≡ numbers_of r }
+fn numbers_of(r: &Record) -> [u64; 32]
+    ensures { result ≡ numbers_of r.now }
 {
-    let ids = r.ids;
-    let terms = r.terms;
-    let exec = r.exec;
-    let told = r.told;
-    let text = r.text;
-    let price = told.fillprice;
     [
-        r.client as u64,
-        r.venue as u64,
-        ids.name.len as u64,
-        ids.clordid.len as u64,
-        ids.origclordid.len as u64,
-        ids.downstream.len as u64,
-        ids.symbol.len as u64,
-        terms.side as u64,
-        terms.ordtype as u64,
-        terms.qty,
-        terms.price,
-        terms.timeinforce as u64,
-        exec.exectype as u64,
-        exec.status as u64,
-        exec.lastqty,
-        exec.lastpx,
-        exec.cumqty,
-        exec.avgpx,
-        ids.venueorderid.len as u64,
-        r.reason as u64,
-        text.len as u64,
+        u64::from(r.client),
+        u64::from(r.venue),
+        u64::from(r.ids.name.len),
+        u64::from(r.ids.clordid.len),
+        u64::from(r.ids.origclordid.len),
+        u64::from(r.ids.downstream.len),
+        u64::from(r.ids.symbol.len),
+        u64::from(r.terms.side),
+        u64::from(r.terms.ordtype),
+        r.terms.qty,
+        r.terms.price,
+        u64::from(r.terms.timeinforce),
+        u64::from(r.exec.exectype),
+        u64::from(r.exec.status),
+        r.exec.lastqty,
+        r.exec.lastpx,
+        r.exec.cumqty,
+        r.exec.avgpx,
+        u64::from(r.ids.venueorderid.len),
+        u64::from(r.reason),
+        u64::from(r.text.len),
         0,
         0,
-        r.verdict as u64,
-        told.leavesqty,
-        told.execseq,
-        price[0],
-        told.fixedtext as u64,
-        told.origin as u64,
-        told.responseto as u64,
-        ids.origdownstream.len as u64,
-        told.source as u64,
+        u64::from(r.verdict),
+        r.told.leavesqty,
+        r.told.execseq,
+        r.told.fillprice[0],
+        u64::from(r.told.fixedtext),
+        u64::from(r.told.origin),
+        u64::from(r.told.responseto),
+        u64::from(r.ids.origdownstream.len),
+        u64::from(r.told.source),
     ]
 }
 
 // The text of a bit.
-pub(crate) fn text_of(ids: Ids, b: usize) -> Text
-    ensures { result ≡ text_by ids b }
+fn text_of(ids: &Ids, b: usize) -> &Text
+    ensures { result.now ≡ text_by ids.now b }
 {
-    if b == 2 {
-        return ids.name;
+    match b {
+        2 => &ids.name,
+        3 => &ids.clordid,
+        4 => &ids.origclordid,
+        5 => &ids.downstream,
+        6 => &ids.symbol,
+        18 => &ids.venueorderid,
+        _ => &ids.origdownstream,
     }
-    if b == 3 {
-        return ids.clordid;
-    }
-    if b == 4 {
-        return ids.origclordid;
-    }
-    if b == 5 {
-        return ids.downstream;
-    }
-    if b == 6 {
-        return ids.symbol;
-    }
-    if b == 18 {
-        return ids.venueorderid;
-    }
-    ids.origdownstream
 }
 
-pub(crate) fn put_short(dst: &mut [u8], at: usize, t: Text) -> usize
-    requires { at + 1 + length (short_bytes t) ≤ length dst.old }
-    ensures { (result ≡ at + 1 + length (short_bytes t)) × (dst.new ≡ splice dst.old at (length (short_bytes t) ∷ short_bytes t)) }
+// For `Text`, and below for `LongText`: the definitions have both types, and theorems stand on them.
+fn put_short(dst: &mut [u8], at: usize, t: &Text) -> usize
+    requires { at + 1 + length (short_bytes t.now) ≤ length dst.old }
+    ensures { (result ≡ at + 1 + length (short_bytes t.now)) × (dst.new ≡ splice dst.old at (length (short_bytes t.now) ∷ short_bytes t.now)) }
 {
-    let bytes = t.bytes;
-    let n = t.len as usize;
-    if n <= 32 {
-        return crate::fields::put_text(dst, at, &bytes, n);
-    }
-    crate::fields::put_text(dst, at, &bytes, 32)
+    let n = usize::from(t.len).min(32);
+    put_text(dst, at, &t.bytes[..n])
 }
 
-pub(crate) fn put_long(dst: &mut [u8], at: usize, t: LongText) -> usize
-    requires { at + 1 + length (long_bytes t) ≤ length dst.old }
-    ensures { (result ≡ at + 1 + length (long_bytes t)) × (dst.new ≡ splice dst.old at (length (long_bytes t) ∷ long_bytes t)) }
+fn put_long(dst: &mut [u8], at: usize, t: &LongText) -> usize
+    requires { at + 1 + length (long_bytes t.now) ≤ length dst.old }
+    ensures { (result ≡ at + 1 + length (long_bytes t.now)) × (dst.new ≡ splice dst.old at (length (long_bytes t.now) ∷ long_bytes t.now)) }
 {
-    let bytes = t.bytes;
-    let n = t.len as usize;
-    if n <= 64 {
-        return crate::fields::put_text(dst, at, &bytes, n);
-    }
-    crate::fields::put_text(dst, at, &bytes, 64)
+    let n = usize::from(t.len).min(64);
+    put_text(dst, at, &t.bytes[..n])
 }
 
-// Writes field b, if its bit stands, and returns the position after it.
-pub(crate) fn put_field(
-    dst: &mut [u8],
-    at: usize,
-    map: u32,
-    b: usize,
-    numbers: &[u64],
-    high: u64,
-    ids: Ids,
-    text: LongText,
-) -> usize
-    requires { (b < 32) × (at + length (field_bytes map (held_by numbers.now high ids text) b) ≤ length dst.old) × (32 ≤ length numbers.now) }
-    ensures { (result ≡ at + length (field_bytes map (held_by numbers.now high ids text) b)) × (dst.new ≡ splice dst.old at (field_bytes map (held_by numbers.now high ids text) b)) }
+// Writes field b, if its bit stands, and returns the position after it. The bit is below 32: `try_from`
+// would have a branch that nothing takes.
+fn put_field(dst: &mut [u8], at: usize, r: &Record, numbers: &[u64; 32], b: usize) -> usize
+    requires { (b < 32) × (numbers.now ≡ numbers_of r.now) × (at + length (field_bytes r.now.map (held r.now) b) ≤ length dst.old) }
+    ensures { (result ≡ at + length (field_bytes r.now.map (held r.now) b)) × (dst.new ≡ splice dst.old at (field_bytes r.now.map (held r.now) b)) }
 {
-    if !bits::has(map, b as u32) {
+    if !bits::has(r.map, b as u32) {
         return at;
     }
     let n = places::size_of(b);
     if n == 255 {
         if b == 20 {
-            return put_long(dst, at, text);
+            return put_long(dst, at, &r.text);
         }
-        return put_short(dst, at, text_of(ids, b));
+        return put_short(dst, at, text_of(&r.ids, b));
     }
     let v = numbers[b];
     if n <= 8 {
-        return crate::fields::put_number(dst, at, v, n);
+        return put_number(dst, at, v, n);
     }
-    let p = crate::fields::put_number(dst, at, v, 8);
-    crate::fields::put_number(dst, p, high, n - 8)
+    let p = put_number(dst, at, v, 8);
+    put_number(dst, p, r.told.fillprice[1], n - 8)
 }
 
 // Writes the fields whose bit stands, and returns the position after them.
-pub(crate) fn put_fields(
-    dst: &mut [u8],
-    start: usize,
-    map: u32,
-    numbers: &[u64],
-    high: u64,
-    ids: Ids,
-    text: LongText,
-) -> usize
-    requires { (start + length (body map (held_by numbers.now high ids text) 32) ≤ length dst.old) × (32 ≤ length numbers.now) }
-    ensures { (result ≡ start + length (body map (held_by numbers.now high ids text) 32)) × (dst.new ≡ splice dst.old start (body map (held_by numbers.now high ids text) 32)) }
+pub(crate) fn put_fields(dst: &mut [u8], start: usize, r: &Record) -> usize
+    requires { start + length (body r.now.map (held r.now) 32) ≤ length dst.old }
+    ensures { (result ≡ start + length (body r.now.map (held r.now) 32)) × (dst.new ≡ splice dst.old start (body r.now.map (held r.now) 32)) }
 {
+    let numbers = numbers_of(r);
     let mut at = start;
-    let mut b = 0;
-    while b < 32 {
-        at = put_field(dst, at, map, b, numbers, high, ids, text);
-        b += 1;
+    for b in 0..32 {
+        at = put_field(dst, at, r, &numbers, b);
     }
     at
 }

@@ -1,73 +1,55 @@
 // The numbers in a record's fields, and whether they are in range. Rests on places and fields.
-ghost use Rattle.std.specs.Prelude.{◌≡◌, true, ℕ, ◌<◌, ◌+◌, ◌-◌, ◌≤◌, length, get_or};
+ghost use Rattle.std.specs.Prelude.{◌≡◌, true, false, ℕ, ◌<◌, length, get_or, Ok, Err, IfOk, IfErr};
 ghost use Rattle.prelude.specs.Below.{all_below};
-ghost use Rattle.prelude.specs.Span.{span};
+ghost use Rattle.prelude.specs.declared.Refusal.TheVariants.{OutOfRange};
 ghost use Rattle.format.specs.Places.{strip, value};
 ghost use Rattle.format.specs.Laws.Seen.{Rising, held_at, right_in};
-ghost use Rattle.records.specs.Laws.Seen.{held_in, right_of, Scanned};
+ghost use Rattle.records.specs.Laws.Seen.{Scanned, held_field, right_field};
 
-use crate::fields::number_at;
-use crate::{Numbers, Seen};
+use crate::Shape;
+use crate::fields::number_in;
 use places::{may_hold, size_of};
+use prelude::Refusal;
 
-// The number of field b, which stands from one place to another; of a text its length.
-pub(crate) fn value_at(s: &[u8], b: usize, from: usize, to: usize) -> u64
-    requires { (b < 32) × (from ≤ to) × (to ≤ length s.now) }
-    ensures { result ≡ value b (strip b (span s.now from (to - from))) }
+// The number in the bytes of field b; of a text its length.
+fn value_of(b: usize, field: &[u8]) -> u64
+    requires { b < 32 }
+    ensures { result ≡ value b (strip b field.now) }
 {
-    let n = to - from;
     if size_of(b) == 255 {
-        if n == 0 {
-            return 0;
-        }
-        return (n - 1) as u64;
+        // By `as`: std has no `From<usize>` for u64.
+        return field.len().saturating_sub(1) as u64;
     }
-    if n <= 8 {
-        return number_at(s, from, n);
-    }
-    number_at(s, from, 8)
+    number_in(&field[..field.len().min(8)])
 }
 
-// Field b, checked.
-fn checked(s: &[u8], map: u32, b: usize, from: usize, to: usize) -> Seen
-    requires { (b < 32) × (from ≤ to) × (to ≤ length s.now) }
-    ensures { (result.right ≡ right_of s.now map b from to) × (result.value ≡ held_in s.now map b from to) }
+// The number in field b, 0 where its bit does not stand, if it is in range.
+fn checked(map: u32, b: usize, field: &[u8]) -> Result<u64, Refusal>
+    requires { b < 32 }
+    ensures ok { IfOk result (λ v. (right_field map b field.now ≡ true) × (v ≡ held_field map b field.now)) }
+    ensures err { IfErr result (λ r. (right_field map b field.now ≡ false) × (r ≡ OutOfRange)) }
 {
+    // Below 32: `try_from` would have a branch that nothing takes.
     if !bits::has(map, b as u32) {
-        return Seen {
-            right: true,
-            value: 0,
-        };
+        return Ok(0);
     }
-    let v = value_at(s, b, from, to);
-    Seen {
-        right: may_hold(b, v),
-        value: v,
+    let v = value_of(b, field);
+    if may_hold(b, v) {
+        Ok(v)
+    } else {
+        Err(Refusal::OutOfRange)
     }
 }
 
-// All fields, checked in their order.
-pub(crate) fn values(s: &[u8], map: u32, at: &[usize; 33]) -> Numbers
-    requires { Rising s.now at.now }
-    ensures { Scanned s.now map at.now result }
+// The numbers of all fields, of a text its length, if all are in range.
+pub(crate) fn values(s: &[u8], shape: &Shape) -> Result<[u64; 32], Refusal>
+    requires { Rising s.now shape.now.at }
+    ensures ok { IfOk result (Scanned s.now shape.now) }
+    ensures err { IfErr result (λ r. (all_below (right_in s.now shape.now.map shape.now.at) 32 ≡ false) × (r ≡ OutOfRange)) }
 {
     let mut numbers = [0u64; 32];
-    let mut b = 0;
-    while b < 32 {
-        let from = at[b];
-        let to = at[b + 1];
-        let c = checked(s, map, b, from, to);
-        if !c.right {
-            return Numbers {
-                right: false,
-                numbers,
-            };
-        }
-        numbers[b] = c.value;
-        b += 1;
+    for b in 0..32 {
+        numbers[b] = checked(shape.map, b, shape.field(s, b))?;
     }
-    Numbers {
-        right: true,
-        numbers,
-    }
+    Ok(numbers)
 }

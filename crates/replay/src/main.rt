@@ -1,18 +1,17 @@
 // Replays stored days from standard input (tests/replay/README.md has the format) and holds every
-// refusal and every byte of every answer buffer to what is stored. Rests on gateway and words.
+// refusal and every byte of every answer buffer to what is stored. Rests on gateway and input.
 #![tactic(auto)]
 
 ghost use Rattle.std.specs.Prelude.{◌≤◌, IfOk, length};
 
-use std::io;
 use std::io::Read;
-use std::num::wrapping_add_u32;
+use std::{fmt, io};
 
 // What an answer buffer holds before the call.
 const FILL: u8 = 165;
 
-// What was counted.
-#[derive(Clone, Copy)]
+// What was counted. A refusal is the number that the call gives, and that is stored: 0 for none.
+#[derive(Clone, Copy, Default)]
 struct Tally {
     days: u32,
     taken: u32,
@@ -20,185 +19,98 @@ struct Tally {
     wrong: u32,
 }
 
-// The tally after one item, and whether there was one.
-#[derive(Clone, Copy)]
-struct Step {
-    more: bool,
-    tally: Tally,
-}
-
-fn fill(s: &mut [u8]) {
-    let mut i = 0;
-    while i < s.len() {
-        s[i] = FILL;
-        i += 1;
-    }
-}
-
-// What byte i of an answer buffer must be: the first n are those that are wanted, the others filled.
-fn expected(wanted: &[u8], n: usize, i: usize) -> u8 {
-    if n <= i {
-        return FILL;
-    }
-    if wanted.len() <= i {
-        return FILL;
-    }
-    wanted[i]
-}
-
-// Whether the buffer begins with the n bytes that are wanted, and is filled after them.
-fn right_answer(buffer: &[u8], wanted: &[u8], n: usize) -> bool {
-    let mut i = 0;
-    while i < buffer.len() {
-        let byte = expected(wanted, n, i);
-        if buffer[i] != byte {
-            return false;
+impl Tally {
+    fn count(&mut self, refusal: u32, right: bool) {
+        if refusal == 0 {
+            self.taken = self.taken.wrapping_add(1);
+        } else {
+            self.refused = self.refused.wrapping_add(1);
         }
-        i += 1;
+        if !right {
+            self.wrong = self.wrong.wrapping_add(1);
+        }
     }
-    n <= buffer.len()
 }
 
-fn counted(t: Tally, refusal: u32, right: bool) -> Tally {
-    let mut r = t;
-    if refusal == 0 {
-        r.taken = wrapping_add_u32(t.taken, 1);
-    } else {
-        r.refused = wrapping_add_u32(t.refused, 1);
+impl fmt::Display for Tally {
+    fn fmt<W: fmt::Write>(&self, f: &mut fmt::Formatter<W>) -> fmt::Result {
+        let Tally {
+            days,
+            taken,
+            refused,
+            wrong,
+        } = *self;
+        write!(
+            f,
+            "days {days} taken {taken} refused {refused} wrong {wrong}"
+        )
     }
-    if !right {
-        r.wrong = wrapping_add_u32(t.wrong, 1);
-    }
-    r
 }
 
-// A number of two bytes from standard input; 0 where the input ends.
-fn read16<R: Read>(input: &mut R) -> io::Result<usize>
+// Whether the buffer begins with the bytes that are wanted, and is filled after them.
+fn right_answer(buffer: &[u8], wanted: &[u8]) -> bool {
+    match buffer.strip_prefix(wanted) {
+        Some(rest) => rest.iter().all(|byte| *byte == FILL),
+        None => false,
+    }
+}
+
+// Reads a length of two bytes, and that many bytes into the space's start; gives the length.
+fn read_sized<R: Read>(input: &mut R, space: &mut [u8; 65536]) -> io::Result<usize>
     ensures { IfOk result (λ n. n ≤ 65535) }
 {
-    let mut head = [0u8; 2];
-    let _ = input::read_full(input, &mut head)?;
-    Ok(words::number(head[0], head[1]))
+    let size = usize::from(u16::from_le_bytes(input::read_padded(input)?));
+    input::read_full(input, &mut space[..size])?;
+    Ok(size)
 }
 
-fn read8<R: Read>(input: &mut R) -> io::Result<u8> {
-    let mut one = [0u8; 1];
-    let _ = input::read_full(input, &mut one)?;
-    Ok(one[0])
-}
-
-// Reads n bytes into the space's start.
-fn read_into<R: Read>(input: &mut R, space: &mut [u8], n: usize) -> io::Result<()>
-    requires { n ≤ length space.old }
-{
-    let _ = input::read_full(input, &mut space[..n])?;
+// An event: its record, the length of the answer buffer, and what is stored of the call: the refusal,
+// and with none the answer.
+fn event<R: Read>(input: &mut R, tally: &mut Tally, book: &mut [u8]) -> io::Result<()> {
+    let mut record = [0u8; 65536];
+    let size = read_sized(input, &mut record)?;
+    // By `as`: std has no `From<u32>` for usize.
+    let room = u32::from_le_bytes(input::read_padded(input)?).min(65536) as usize;
+    let mut space = [FILL; 65536];
+    let answer = &mut space[..room];
+    let refusal = gateway::event(book, &record[..size], answer);
+    let [stored] = input::read_padded::<_, 1>(input)?;
+    let mut wanted = [0u8; 65536];
+    let long = if stored == 0 {
+        read_sized(input, &mut wanted)?
+    } else {
+        0
+    };
+    let right = refusal == u32::from(stored) && right_answer(&space[..room], &wanted[..long]);
+    tally.count(refusal, right);
     Ok(())
 }
 
-// Reads the answer that is stored with a refusal, and gives its length.
-fn stored_answer<R: Read>(input: &mut R, wanted: &mut [u8], refusal: u8) -> io::Result<usize>
-    requires { 65535 ≤ length wanted.old }
-{
-    if refusal != 0 {
-        return Ok(0);
-    }
-    let n = read16(input)?;
-    read_into(input, wanted, n)?;
-    Ok(n)
-}
-
-// The call, and whether refusal and answer buffer are those that are stored.
-fn call<R: Read>(
-    input: &mut R,
-    t: Tally,
-    book: &mut [u8],
-    record: &[u8],
-    answer: &mut [u8],
-) -> io::Result<Tally> {
-    fill(answer);
-    let refusal = gateway::event(book, record, answer);
-    let stored = read8(input)?;
-    let mut wanted = [0u8; 65536];
-    let n = stored_answer(input, &mut wanted, stored)?;
-    let right = (refusal == stored as u32) & right_answer(answer, &wanted, n);
-    Ok(counted(t, refusal, right))
-}
-
-// The length of an answer buffer, from its two halves.
-fn room(low: usize, high: usize) -> usize
-    requires { low ≤ 65535 }
-    ensures { result ≤ 65536 }
-{
-    if high == 0 {
-        return low;
-    }
-    65536
-}
-
-// An event: its record, the length of the answer buffer, and what is stored of the call.
-fn event<R: Read>(input: &mut R, t: Tally, book: &mut [u8]) -> io::Result<Tally> {
-    let size = read16(input)?;
-    let mut record = [0u8; 65536];
-    read_into(input, &mut record, size)?;
-    let low = read16(input)?;
-    let high = read16(input)?;
-    let room = room(low, high);
-    let mut answer = [0u8; 65536];
-    call(input, t, book, &record[..size], &mut answer[..room])
-}
-
 // A day begins.
-fn start<R: Read>(input: &mut R, t: Tally, book: &mut [u8]) -> io::Result<Tally> {
-    let low = read16(input)? as u32;
-    let high = read16(input)? as u32;
-    let _ = gateway::start(book, low + 65536 * high);
-    let mut r = t;
-    r.days = wrapping_add_u32(t.days, 1);
-    Ok(r)
+fn start<R: Read>(input: &mut R, tally: &mut Tally, book: &mut [u8]) -> io::Result<()> {
+    let setting = u32::from_le_bytes(input::read_padded(input)?);
+    let _ = gateway::start(book, setting);
+    tally.days = tally.days.wrapping_add(1);
+    Ok(())
 }
 
-fn item<R: Read>(input: &mut R, t: Tally, book: &mut [u8]) -> io::Result<Step> {
-    let mut tag = [0u8; 1];
-    let got = input::read_full(input, &mut tag)?;
-    if got == 0 {
-        return Ok(Step {
-            more: false,
-            tally: t,
-        });
-    }
-    let tally = if tag[0] == 0 {
-        start(input, t, book)?
-    } else {
-        event(input, t, book)?
-    };
-    Ok(Step { more: true, tally })
-}
-
+// Nothing says that the input ends, and a proved loop has to.
 fn all<R: Read>(input: &mut R) -> io::Result<Tally> {
     let mut book = [0u8; 65536];
-    let mut t = Tally {
-        days: 0,
-        taken: 0,
-        refused: 0,
-        wrong: 0,
-    };
-    let mut turns: usize = 0;
-    while turns < 1000000 {
-        let s = item(input, t, &mut book)?;
-        t = s.tally;
-        if !s.more {
+    let mut tally = Tally::default();
+    for _ in 0..1000000 {
+        let Some(tag) = input::read_array::<_, 1>(input)? else {
             break;
+        };
+        if tag[0] == 0 {
+            start(input, &mut tally, &mut book)?;
+        } else {
+            event(input, &mut tally, &mut book)?;
         }
-        turns += 1;
     }
-    Ok(t)
+    Ok(tally)
 }
 
 fn main(rt: HostRuntime) -> io::Result<()> {
-    let t = all(&mut rt.reader())?;
-    let days = t.days;
-    let taken = t.taken;
-    let refused = t.refused;
-    let wrong = t.wrong;
-    println!(rt; "days {days} taken {taken} refused {refused} wrong {wrong}")
+    rt.println(all(&mut rt.reader())?)
 }

@@ -1,47 +1,45 @@
 // The rules of the book that a buffer is and what stands beside its requests, decided in place: one
 // function, which is total and writes nothing. With the open quantities behind the tables, `opens::keeps`
 // has all the book's rules. Rests on machine's and outcomes' definitions of the rules, on store's layout,
-// and on text and format. Its cost grows with the records in use.
+// and on text and format. Its cost grows with the records in use. A test of a few fields joins its parts
+// by `&` and `|`, which no branch goes with; `&&` and `||` stand where a part costs more than a branch.
+// That an index is of a record, or a number below 1,000, stands in the contracts: a type for it would be
+// made at each turn of a loop and taken apart for each byte.
 #![tactic(auto)]
 
-ghost use Rattle.std.specs.Prelude.{◌≡◌, ◌≤◌, ◌&&◌, length};
-ghost use Rattle.store.specs.Layout.{book_size, most_orders, most_requests};
+ghost use Rattle.std.specs.Prelude.{◌≡◌, ◌&&◌};
 ghost use Rattle.outcomes.specs.Outcomes.{outcomes_right};
 ghost use Rattle.rules.specs.Ruled.{ruled_of};
 ghost use Rattle.rules.specs.Laws.Ruled.{decided};
 
-use cells::get16;
+use book::Book;
+use distinct::{Keys, Names};
 use store::layout;
+use words::u16_at;
 
 mod beside; // what stands beside a request
+mod book; // the bytes, and the counts of what is in use
 mod distinct; // names and ClOrdIDs are distinct
 mod links; // an order's links and counts
-mod marks; // a status and a gateway cancel's marks
 mod numbered; // a name with a number
 mod numbers; // requests
-mod cells; // numbers and texts at an index
+mod cells; // words and texts at an index
 mod ranges; // fields in their ranges
+mod status; // a done status
 
-// The rules of n orders and m requests, one after the other.
-fn decide(book: &[u8], n: usize, m: usize) -> bool
-    requires { (length book.now ≡ book_size) × (n ≤ most_orders) × (m ≤ most_requests) }
-    ensures { result ≡ decided book.now n m }
+// The rules of the orders and requests in use, one after the other.
+fn decide(book: &Book<'_>) -> bool
+    ensures { result ≡ decided book.now.bytes.now book.now.orders book.now.requests }
 {
-    if !ranges::ranges_ok(book, n, m) {
+    if !ranges::ranges_ok(book) {
         return false;
     }
-    let pass = numbers::requests_ok(book, n, m);
-    if !pass.ok {
+    let Some(next) = numbers::requests_ok(book) else {
         return false;
-    }
-    let next = pass.next;
-    if !links::links_ok(book, n, m, &next) {
-        return false;
-    }
-    if !distinct::distinct(book, false, n) {
-        return false;
-    }
-    distinct::distinct(book, true, m)
+    };
+    links::links_ok(book, &next)
+        && distinct::distinct::<Names>(book.bytes, book.orders)
+        && distinct::distinct::<Keys>(book.bytes, book.requests)
 }
 
 // Whether the book that the bytes are keeps its rules, the length and the counts included, and what
@@ -49,16 +47,17 @@ fn decide(book: &[u8], n: usize, m: usize) -> bool
 pub fn ruled(book: &[u8]) -> bool
     ensures { result ≡ ruled_of book.now && outcomes_right book.now }
 {
-    if book.len() != layout::BOOK {
+    let Some(bytes) = book.as_array::<{ layout::BOOK }>() else {
+        return false;
+    };
+    let orders = usize::from(u16_at(bytes, layout::ORDER_COUNT));
+    let requests = usize::from(u16_at(bytes, layout::REQUEST_COUNT));
+    if orders > layout::MOST_ORDERS || requests > layout::MOST_REQUESTS {
         return false;
     }
-    let n = get16(book, layout::ORDER_COUNT) as usize;
-    if n > layout::MOST_ORDERS {
-        return false;
-    }
-    let m = get16(book, layout::REQUEST_COUNT) as usize;
-    if m > layout::MOST_REQUESTS {
-        return false;
-    }
-    decide(book, n, m)
+    decide(&Book {
+        bytes,
+        orders,
+        requests,
+    })
 }

@@ -1,13 +1,21 @@
 // Whether a text is a name with a number, in place: the name by words that overlap, the dash and the
-// digits as one word, and zeros after them. Rests on cells.
-ghost use Rattle.std.specs.Prelude.{◌≡◌, ◌+◌, ◌<◌, ◌≤◌, true, length};
+// digits as one word, and zeros after them. Rests on words and cells.
+ghost use Rattle.std.specs.Prelude.{◌≡◌, ◌+◌, ◌<◌, ◌≤◌, true};
 ghost use Rattle.prelude.specs.Below.{all_below};
 ghost use Rattle.prelude.specs.Texts.{text_at, same_text};
+ghost use Rattle.store.specs.Layout.{book_size};
 ghost use Rattle.text.specs.Numbered.{numbered_text};
 ghost use Rattle.machine.specs.Ranges.{name_range};
 ghost use Rattle.rules.specs.Laws.Suffix.{IsSuffix, alike_at};
 
-use crate::cells::{filled, get64, same_word};
+use crate::book::Bytes;
+use crate::cells::{filled, same_word};
+use words::u64_at;
+
+// By `as`, since `From` is no constant function.
+const DASH: u64 = b'-' as u64;
+
+const ZERO: u64 = b'0' as u64;
 
 // The dash and the digits as a word, and how many they are.
 #[derive(Clone, Copy)]
@@ -21,73 +29,55 @@ fn suffix_of(k: u16) -> Suffix
     requires { k < 1000 }
     ensures { IsSuffix k result.word result.len }
 {
-    let n = k as u64;
-    if k < 10 {
-        return Suffix {
-            word: 45 + 256 * (48 + n),
+    let n = u64::from(k);
+    match k {
+        0..=9 => Suffix {
+            word: DASH + 256 * (ZERO + n),
             len: 2,
-        };
-    }
-    if k < 100 {
-        return Suffix {
-            word: 45 + 256 * ((48 + n / 10) + 256 * (48 + n % 10)),
+        },
+        10..=99 => Suffix {
+            word: DASH + 256 * ((ZERO + n / 10) + 256 * (ZERO + n % 10)),
             len: 3,
-        };
-    }
-    let high = n / 10;
-    Suffix {
-        word: 45 + 256 * ((48 + high / 10) + 256 * ((48 + high % 10) + 256 * (48 + n % 10))),
-        len: 4,
+        },
+        _ => Suffix {
+            word: DASH
+                + 256
+                    * ((ZERO + n / 10 / 10) + 256 * ((ZERO + n / 10 % 10) + 256 * (ZERO + n % 10))),
+            len: 4,
+        },
     }
 }
 
 // Whether the first n bytes at x and y are the same.
-fn same_few(s: &[u8], x: usize, y: usize, n: usize) -> bool
-    requires { (x + 33 ≤ length s.now) × (y + 33 ≤ length s.now) × (n ≤ 20) }
-    ensures { result ≡ all_below (alike_at s.now x y) n }
+fn same_few(book: &Bytes, x: usize, y: usize, n: usize) -> bool
+    requires { (x + 33 ≤ book_size) × (y + 33 ≤ book_size) × (n ≤ 20) }
+    ensures { result ≡ all_below (alike_at book.now x y) n }
 {
-    let mut p: usize = 0;
-    while p < n {
-        if s[x + p] != s[y + p] {
-            return false;
-        }
-        p += 1;
-    }
-    true
+    (0..n).all(|p| book[x + p] == book[y + p])
 }
 
 // The same, from 8 bytes on by three places that overlap.
-fn same_start(s: &[u8], x: usize, y: usize, n: usize) -> bool
-    requires { (x + 33 ≤ length s.now) × (y + 33 ≤ length s.now) × (n ≤ 20) }
-    ensures { result ≡ all_below (alike_at s.now x y) n }
+fn same_start(book: &Bytes, x: usize, y: usize, n: usize) -> bool
+    requires { (x + 33 ≤ book_size) × (y + 33 ≤ book_size) × (n ≤ 20) }
+    ensures { result ≡ all_below (alike_at book.now x y) n }
 {
     if n < 8 {
-        return same_few(s, x, y, n);
+        return same_few(book, x, y, n);
     }
     let last = n - 8;
     let mid = last / 2;
-    let a = same_word(s, x, y);
-    let b = same_word(s, x + mid, y + mid);
-    let c = same_word(s, x + last, y + last);
-    a & b & c
+    same_word(book, x, y) & same_word(book, x + mid, y + mid) & same_word(book, x + last, y + last)
 }
 
 // Whether the text at an index is the name at another, a dash and k.
-pub(crate) fn numbered(s: &[u8], at: usize, from: usize, k: u16) -> bool
-    requires { (at + 33 ≤ length s.now) × (from + 33 ≤ length s.now) × (name_range (text_at s.now from) ≡ true) × (k < 1000) }
-    ensures { result ≡ same_text (text_at s.now at) (numbered_text (text_at s.now from) k) }
+pub(crate) fn numbered(book: &Bytes, at: usize, from: usize, k: u16) -> bool
+    requires { (at + 33 ≤ book_size) × (from + 33 ≤ book_size) × (name_range (text_at book.now from) ≡ true) × (k < 1000) }
+    ensures { result ≡ same_text (text_at book.now at) (numbered_text (text_at book.now from) k) }
 {
-    let n = s[from + 32] as usize;
+    let n = usize::from(book[from + 32]);
     let tail = suffix_of(k);
-    if (s[at + 32] as usize) != n + tail.len {
+    if usize::from(book[at + 32]) != n + tail.len {
         return false;
     }
-    if !same_start(s, at, from, n) {
-        return false;
-    }
-    let end = get64(s, at + n);
-    if end != tail.word {
-        return false;
-    }
-    filled(s, at)
+    same_start(book, at, from, n) && u64_at(book, at + n) == tail.word && filled(book, at)
 }

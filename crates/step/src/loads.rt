@@ -7,59 +7,63 @@ ghost use Rattle.step.specs.Steps.{request_at_link, findings_at, is_full};
 
 use machine::Findings;
 use prelude::Text;
-use store::{Found, Order, Request};
+use store::{Order, Request};
 
 // Order i, or the order of zeros where it is not in use.
 pub(crate) fn order_in(book: &[u8], i: usize) -> Order
     ensures { result ≡ order_in (book_of book.now) i }
 {
     if i < store::order_count(book) {
-        return store::load_order(book, i);
+        store::load_order(book, i)
+    } else {
+        store::no_order()
     }
-    store::no_order()
 }
 
-// Request k, or the request of zeros where it is not in use.
+// Request k, or the request of zeros where it is not in use. As for orders: a trait of the two tables, with
+// count, record and zeros of each, would be longer than what it joins, here and for links.
 pub(crate) fn request_in(book: &[u8], k: usize) -> Request
     ensures { result ≡ request_in (book_of book.now) k }
 {
     if k < store::request_count(book) {
-        return store::load_request(book, k);
+        store::load_request(book, k)
+    } else {
+        store::no_request()
     }
-    store::no_request()
 }
 
 // The order of a link, or the order of zeros.
+#[tactic(auto, unfolding(machine::specs::Machine::order_at_link), using(orders::specs::Laws::Choices::choices))]
 pub(crate) fn order_at_link(book: &[u8], place: u16) -> Order
     ensures { result ≡ order_at_link (book_of book.now) place }
 {
-    if place == 0 {
-        return store::no_order();
+    match place {
+        0 => store::no_order(),
+        _ => order_in(book, (place - 1) as usize),
     }
-    order_in(book, (place - 1) as usize)
 }
 
 // The request of a link, or the request of zeros.
+#[tactic(auto, unfolding(crate::specs::Steps::request_at_link), using(orders::specs::Laws::Choices::choices))]
 fn request_at_link(book: &[u8], link: u16) -> Request
     ensures { result ≡ request_at_link (book_of book.now) link }
 {
-    if link == 0 {
-        return store::no_request();
+    match link {
+        0 => store::no_request(),
+        _ => request_in(book, (link - 1) as usize),
     }
-    request_in(book, (link - 1) as usize)
 }
 
 // What the handling of an event needs beside the order o of link `place`.
+#[tactic(auto, unfolding(crate::specs::Steps::findings_at))]
 pub(crate) fn findings_at(book: &[u8], place: u16, o: Order) -> Findings
     ensures { result ≡ findings_at (book_of book.now) place o }
 {
-    let requests = store::request_count(book) as u16;
-    let links = o.links;
-    let cancel = request_at_link(book, links.cancel);
     Findings {
         place,
-        requests,
-        cancel,
+        // At most 256: `try_from` would have a branch that nothing takes.
+        requests: store::request_count(book) as u16,
+        cancel: request_at_link(book, o.links.cancel),
     }
 }
 
@@ -67,25 +71,27 @@ fn order_link(book: &[u8], k: usize) -> u16
     requires { keeps_of book.now ≡ true }
     ensures { result ≡ order_link (book_of book.now) k }
 {
-    let q = request_in(book, k);
-    q.order + 1
+    request_in(book, k).order + 1
 }
 
 // The link of the order in which the client used the ClOrdID, or 0.
+#[tactic(auto, unfolding(machine::specs::Machine::order_of))]
 pub(crate) fn order_of(book: &[u8], client: u16, t: Text) -> u16
     requires { keeps_of book.now ≡ true }
     ensures { result ≡ order_of (book_of book.now) client t }
 {
     match store::find_clordid(book, client, t) {
-        Found::At(k) => order_link(book, k),
-        Found::Nothing => 0,
+        Some(k) => order_link(book, k),
+        None => 0,
     }
 }
 
 // Whether the client has used as many ClOrdIDs as it may.
+#[tactic(auto, unfolding(crate::specs::Steps::is_full))]
 pub(crate) fn is_full(book: &[u8], client: u16) -> bool
     ensures { result ≡ is_full (book_of book.now) client }
 {
+    // By `as`: std has no `From<u32>` for usize.
     let most = store::setting(book) as usize;
     most <= store::count_clordids(book, client)
 }

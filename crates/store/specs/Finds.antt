@@ -1,21 +1,13 @@
 -- Lookups: what each means on the book. Rests on Book.
-use Rattle.std.specs.Prelude.{Bool, not, ◌&&◌, List, ℕ, eqb, ltb, length, get_or}
-use Rattle.std.proofs.Math.Option.{Option, none, some}
+use Rattle.std.specs.Prelude.{Bool, not, ◌&&◌, List, ℕ, eqb, ltb, length, get_or, Option}
 use Rattle.prelude.specs.Lists.{first_in, count_in}
 use Rattle.prelude.specs.Texts.{same_text}
 use Rattle.prelude.specs.declared.Text.{Text}
 use Rattle.store.specs.declared.Order.{Order}
 use Rattle.store.specs.declared.Request.{Request}
-use Rattle.store.specs.declared.Found.{Found}
-use Rattle.store.specs.declared.Found.TheVariants.{At, Nothing}
 use Rattle.store.specs.Orders.{no_order}
 use Rattle.store.specs.Requests.{no_request}
 use Rattle.store.specs.Book.{Book}
-
--- an index, as the code gives it
-abbrev pub found_of : Option ℕ → Found
-found_of none = Nothing
-found_of (some k) = At k
 
 -- ---- on the book
 

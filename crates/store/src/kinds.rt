@@ -1,5 +1,5 @@
 // The kinds of requests: an order's first, a client's cancel and replace, and the gateway's own cancel,
-// which is the last. Rests on nothing.
+// which is the last. Numbers and no enum, since any byte may stand in a book. Rests on nothing.
 
 pub const FIRST: u8 = 0;
 

@@ -3,15 +3,17 @@
 // an empty book that nothing changes, and an index past a table has the answer that is stated.
 #![tactic(auto)]
 
-ghost use Rattle.std.specs.Prelude.{◌≡◌, ◌+◌, ◌≤◌};
-ghost use Rattle.store.specs.Layout.{orders_at};
-ghost use Rattle.store.specs.Orders.{no_pending, no_gateway, no_names, no_order};
+ghost use Rattle.std.specs.Prelude.{◌≡◌, ◌+◌, ◌*◌, ◌≤◌, ◌<◌, ◌&&◌, true, false, ltb, length, MatchOption};
+ghost use Rattle.prelude.specs.Span.{span};
+ghost use Rattle.store.specs.Layout.{book_size, orders_at, most_orders, most_requests, request_size, request_base};
+ghost use Rattle.store.specs.Orders.{no_gateway, no_pending, no_order};
 ghost use Rattle.store.specs.Requests.{no_request};
-ghost use Rattle.store.specs.Book.{count_at, order_count, request_count, setting_of, load_order, store_order, add_order, load_request, add_request, mark_answered, load_outcome, load_origin, load_open, store_open, clear_book};
+ghost use Rattle.store.specs.Book.{is_book, put_order, count_at, order_count, request_count, setting_of, load_order, store_order, add_order, load_request, add_request, mark_answered, load_outcome, load_origin, load_open, store_open, clear_book};
 
 use prelude::{Terms, Text};
+use words::{u16_at, u32_at};
 
-mod cells; // numbers and texts at an index
+mod cells; // texts and numbers at an index
 mod finds; // lookups
 pub mod kinds; // the kinds of requests
 pub mod layout; // where everything stands
@@ -19,10 +21,11 @@ mod orders; // the record of an order
 mod requests; // the record of a request
 
 pub use finds::{count_clordids, find_client, find_clordid, find_downstream, find_name};
+pub use orders::{stuck_of, unsent_of};
 
 // An order's texts. `clordid` is the client's current one, `downstream` the one that the venue
 // knows the order by now; `venueorderid` is empty until the venue gives one.
-#[derive(Clone, Copy)]
+#[derive(Clone, Copy, Debug, PartialEq, Eq)]
 pub struct Names {
     pub name: Text,
     pub clordid: Text,
@@ -32,7 +35,7 @@ pub struct Names {
 }
 
 // How far the order is.
-#[derive(Clone, Copy)]
+#[derive(Clone, Copy, Debug, PartialEq, Eq)]
 pub struct State {
     pub status: u8,
     pub cumqty: u64,
@@ -42,7 +45,7 @@ pub struct State {
 
 // Requests sent beside the first, and which requests are the current one and the latest cancel.
 // A link is 0 for none, else one more than the request's index.
-#[derive(Clone, Copy)]
+#[derive(Clone, Copy, Debug, PartialEq, Eq)]
 pub struct Links {
     pub amendments: u16,
     pub current: u16,
@@ -51,7 +54,7 @@ pub struct Links {
 
 // A replace that waits for the venue's answer: the link of its request and its terms. All zero
 // where there is none.
-#[derive(Clone, Copy)]
+#[derive(Clone, Copy, Debug, PartialEq, Eq)]
 pub struct Pending {
     pub request: u16,
     pub qty: u64,
@@ -62,7 +65,7 @@ pub struct Pending {
 
 // The gateway's own cancel of the order. All zero where there is none; where there is one,
 // `origdownstream` is the link of the request that its latest cancel named.
-#[derive(Clone, Copy)]
+#[derive(Clone, Copy, Debug, PartialEq, Eq)]
 pub struct GatewayCancel {
     pub tries: u8,
     pub unsent: bool,
@@ -71,7 +74,7 @@ pub struct GatewayCancel {
     pub refusedsends: u32,
 }
 
-#[derive(Clone, Copy)]
+#[derive(Clone, Copy, Debug, PartialEq, Eq)]
 pub struct Order {
     pub client: u16,
     pub venue: u16,
@@ -86,7 +89,7 @@ pub struct Order {
 // A request sent to a venue (the Rust's `Sent`), by the index of its order. `kind` is one of `kinds`:
 // a gateway's cancel has no ClOrdID, a client's cancel or replace has an OrigClOrdID. `answered` is 0
 // or 1.
-#[derive(Clone, Copy)]
+#[derive(Clone, Copy, Debug, PartialEq, Eq)]
 pub struct Request {
     pub order: u16,
     pub kind: u8,
@@ -96,113 +99,132 @@ pub struct Request {
     pub downstream: Text,
 }
 
-// What a lookup gives: an index, or nothing.
-#[derive(Clone, Copy)]
-pub enum Found {
-    At(usize),
-    Nothing,
-}
-
 // No replace waits.
+pub const NO_PENDING: Pending = Pending {
+    request: 0,
+    qty: 0,
+    price: 0,
+    ordtype: 0,
+    timeinforce: 0,
+};
+
+// No gateway cancel stands.
+pub const NO_GATEWAY: GatewayCancel = GatewayCancel {
+    tries: 0,
+    unsent: false,
+    stuck: false,
+    origdownstream: 0,
+    refusedsends: 0,
+};
+
+const NO_TEXT: Text = Text {
+    bytes: [0; 32],
+    len: 0,
+};
+
+// The order of zeros.
+pub const NO_ORDER: Order = Order {
+    client: 0,
+    venue: 0,
+    names: Names {
+        name: NO_TEXT,
+        clordid: NO_TEXT,
+        downstream: NO_TEXT,
+        symbol: NO_TEXT,
+        venueorderid: NO_TEXT,
+    },
+    terms: Terms {
+        side: 0,
+        ordtype: 0,
+        timeinforce: 0,
+        qty: 0,
+        price: 0,
+    },
+    state: State {
+        status: 0,
+        cumqty: 0,
+        avgpx: 0,
+        execseq: 0,
+    },
+    links: Links {
+        amendments: 0,
+        current: 0,
+        cancel: 0,
+    },
+    pending: NO_PENDING,
+    gateway: NO_GATEWAY,
+};
+
+// The request of zeros.
+pub const NO_REQUEST: Request = Request {
+    order: 0,
+    kind: 0,
+    answered: 0,
+    clordid: NO_TEXT,
+    origclordid: NO_TEXT,
+    downstream: NO_TEXT,
+};
+
 pub fn no_pending() -> Pending
     ensures { result ≡ no_pending }
 {
-    Pending {
-        request: 0,
-        qty: 0,
-        price: 0,
-        ordtype: 0,
-        timeinforce: 0,
-    }
+    NO_PENDING
 }
 
-// No gateway cancel stands.
 pub fn no_gateway() -> GatewayCancel
     ensures { result ≡ no_gateway }
 {
-    GatewayCancel {
-        tries: 0,
-        unsent: false,
-        stuck: false,
-        origdownstream: 0,
-        refusedsends: 0,
-    }
+    NO_GATEWAY
 }
 
-fn no_names() -> Names
-    ensures { result ≡ no_names }
-{
-    let t = text::no_text();
-    Names {
-        name: t,
-        clordid: t,
-        downstream: t,
-        symbol: t,
-        venueorderid: t,
-    }
-}
-
-// The order of zeros.
 pub fn no_order() -> Order
     ensures { result ≡ no_order }
 {
-    let names = no_names();
-    let pending = no_pending();
-    let gateway = no_gateway();
-    Order {
-        client: 0,
-        venue: 0,
-        names,
-        terms: Terms {
-            side: 0,
-            ordtype: 0,
-            timeinforce: 0,
-            qty: 0,
-            price: 0,
-        },
-        state: State {
-            status: 0,
-            cumqty: 0,
-            avgpx: 0,
-            execseq: 0,
-        },
-        links: Links {
-            amendments: 0,
-            current: 0,
-            cancel: 0,
-        },
-        pending,
-        gateway,
-    }
+    NO_ORDER
 }
 
-// The request of zeros.
 pub fn no_request() -> Request
     ensures { result ≡ no_request }
 {
-    let t = text::no_text();
-    Request {
-        order: 0,
-        kind: 0,
-        answered: 0,
-        clordid: t,
-        origclordid: t,
-        downstream: t,
+    NO_REQUEST
+}
+
+// The book, where the buffer has its length.
+fn whole(buffer: &[u8]) -> Option<&[u8; layout::BOOK]>
+    ensures { MatchOption result (is_book buffer.now ≡ false) (λ book. (is_book buffer.now ≡ true) × (book.now ≡ buffer.now)) }
+{
+    cells::array(buffer)
+}
+
+// Whether the buffer is a book, and i is the index of one of `most` records.
+fn has_record(book: &[u8], most: usize, i: usize) -> bool
+    ensures { result ≡ is_book book.now && ltb i most }
+{
+    book.len() == layout::BOOK && i < most
+}
+
+// The bytes of record i of the table at an index, where there is one.
+fn record<const N: usize>(book: &[u8], table: usize, most: usize, i: usize) -> Option<&[u8; N]>
+    requires { table + most * N ≤ book_size }
+    ensures { MatchOption result (is_book book.now && ltb i most ≡ false) (λ bytes. (is_book book.now && ltb i most ≡ true) × (bytes.now ≡ span book.now (table + i * N) N)) }
+{
+    if !has_record(book, most, i) {
+        return None;
     }
+    cells::part(book, table + i * N)
+}
+
+fn request_record(book: &[u8], i: usize) -> Option<&[u8; layout::REQUEST]>
+    ensures { MatchOption result (is_book book.now && ltb i most_requests ≡ false) (λ bytes. (is_book book.now && ltb i most_requests ≡ true) × (bytes.now ≡ span book.now (request_base i) request_size)) }
+{
+    record(book, layout::REQUESTS, layout::MOST_REQUESTS, i)
 }
 
 fn count_at(book: &[u8], at: usize, most: usize) -> usize
     requires { at + 2 ≤ orders_at }
     ensures { result ≡ count_at at most book.now }
 {
-    if book.len() != layout::BOOK {
-        return 0;
-    }
-    let n = cells::get16(book, at) as usize;
-    if n > most {
-        return most;
-    }
-    n
+    whole(book).map_or(0, |book| most.min(usize::from(u16_at(book, at))))
 }
 
 // Orders in use.
@@ -223,108 +245,78 @@ pub fn request_count(book: &[u8]) -> usize
 pub fn setting(book: &[u8]) -> u32
     ensures { result ≡ setting_of book.now }
 {
-    if book.len() != layout::BOOK {
-        return 0;
-    }
-    cells::get32(book, layout::SETTING)
+    whole(book).map_or(0, |book| u32_at(book, layout::SETTING))
+}
+
+// Writes record i of the orders.
+fn write_order(book: &mut [u8], i: usize, o: Order)
+    requires { (length book.old ≡ book_size) × (i < most_orders) }
+    ensures { book.new ≡ put_order book.old i o }
+{
+    let at = layout::ORDERS + i * layout::ORDER;
+    cells::put(book, at, &orders::encode(o));
 }
 
 // The order in record i, or the order of zeros where there is no such record.
 pub fn load_order(book: &[u8], i: usize) -> Order
     ensures { result ≡ load_order book.now i }
 {
-    if book.len() != layout::BOOK {
-        return no_order();
-    }
-    if i >= layout::MOST_ORDERS {
-        return no_order();
-    }
-    orders::read(book, i)
+    record(book, layout::ORDERS, layout::MOST_ORDERS, i).map_or(NO_ORDER, orders::decode)
 }
 
 // Writes record i, or nothing where there is no such record.
 pub fn store_order(book: &mut [u8], i: usize, o: Order)
     ensures { book.new ≡ store_order book.old i o }
 {
-    if book.len() != layout::BOOK {
-        return;
+    if has_record(book, layout::MOST_ORDERS, i) {
+        write_order(book, i, o);
     }
-    if i >= layout::MOST_ORDERS {
-        return;
-    }
-    orders::write(book, i, o);
 }
 
 // Writes an order behind those in use, or nothing where the table is full.
 pub fn add_order(book: &mut [u8], o: Order)
     ensures { book.new ≡ add_order book.old o }
 {
-    if book.len() != layout::BOOK {
-        return;
-    }
     let n = order_count(book);
-    if n >= layout::MOST_ORDERS {
-        return;
+    if has_record(book, layout::MOST_ORDERS, n) {
+        write_order(book, n, o);
+        // At most 64: `try_from` would have a branch that nothing takes.
+        cells::put16(book, layout::ORDER_COUNT, (n + 1) as u16);
     }
-    orders::write(book, n, o);
-    cells::put16(book, layout::ORDER_COUNT, (n + 1) as u16);
 }
 
 // The request in record i, or the request of zeros where there is no such record.
 pub fn load_request(book: &[u8], i: usize) -> Request
     ensures { result ≡ load_request book.now i }
 {
-    if book.len() != layout::BOOK {
-        return no_request();
-    }
-    if i >= layout::MOST_REQUESTS {
-        return no_request();
-    }
-    requests::read(book, i)
+    request_record(book, i).map_or(NO_REQUEST, requests::decode)
 }
 
 // Writes a request behind those in use, with its origin, or nothing where the table is full.
 pub fn add_request(book: &mut [u8], origin: u16, r: Request)
     ensures { book.new ≡ add_request book.old origin r }
 {
-    if book.len() != layout::BOOK {
-        return;
-    }
     let n = request_count(book);
-    if n >= layout::MOST_REQUESTS {
-        return;
+    if has_record(book, layout::MOST_REQUESTS, n) {
+        let at = layout::REQUESTS + n * layout::REQUEST;
+        cells::put(book, at, &requests::encode(origin, r));
+        // At most 256, likewise.
+        cells::put16(book, layout::REQUEST_COUNT, (n + 1) as u16);
     }
-    requests::write(book, n, origin, r);
-    cells::put16(book, layout::REQUEST_COUNT, (n + 1) as u16);
 }
 
 // What came of request i, or 0 where there is no such record.
 pub fn load_outcome(book: &[u8], i: usize) -> u8
     ensures { result ≡ load_outcome book.now i }
 {
-    if book.len() != layout::BOOK {
-        return 0;
-    }
-    if i >= layout::MOST_REQUESTS {
-        return 0;
-    }
-    book[layout::REQUESTS + i * layout::REQUEST + layout::REQUEST_OUTCOME]
+    request_record(book, i).map_or(0, |bytes| bytes[layout::REQUEST_OUTCOME])
 }
 
 // The origin of request i, or 0 where there is no such record.
 pub fn load_origin(book: &[u8], i: usize) -> u16
     ensures { result ≡ load_origin book.now i }
 {
-    if book.len() != layout::BOOK {
-        return 0;
-    }
-    if i >= layout::MOST_REQUESTS {
-        return 0;
-    }
-    cells::get16(
-        book,
-        layout::REQUESTS + i * layout::REQUEST + layout::REQUEST_ORIGIN,
-    )
+    request_record(book, i).map_or(0, |bytes| u16_at(bytes, layout::REQUEST_ORIGIN))
 }
 
 // Sets the answered byte of request i, and the outcome where that was not set; or nothing where
@@ -332,48 +324,37 @@ pub fn load_origin(book: &[u8], i: usize) -> u16
 pub fn mark_answered(book: &mut [u8], i: usize, outcome: u8)
     ensures { book.new ≡ mark_answered book.old i outcome }
 {
-    if book.len() != layout::BOOK {
-        return;
+    if let Some(bytes) = request_record(book, i) {
+        let settled = requests::settled_as(bytes, outcome);
+        let at = layout::REQUESTS + i * layout::REQUEST;
+        cells::put(book, at + layout::REQUEST_ANSWERED, &[1]);
+        cells::put(book, at + layout::REQUEST_OUTCOME, &[settled]);
     }
-    if i >= layout::MOST_REQUESTS {
-        return;
-    }
-    requests::mark(book, i, outcome);
 }
 
 // The word of order i's place behind the tables, or 0 where there is no such place.
 pub fn load_open(book: &[u8], i: usize) -> u64
     ensures { result ≡ load_open book.now i }
 {
-    if book.len() != layout::BOOK {
-        return 0;
-    }
-    if i >= layout::MOST_ORDERS {
-        return 0;
-    }
-    cells::get64(book, layout::OPENS + i * layout::OPEN)
+    record(book, layout::OPENS, layout::MOST_ORDERS, i).map_or(0, |word| u64::from_le_bytes(*word))
 }
 
 // Writes the word of order i's place behind the tables, or nothing where there is no such place.
 pub fn store_open(book: &mut [u8], i: usize, quantity: u64)
     ensures { book.new ≡ store_open book.old i quantity }
 {
-    if book.len() != layout::BOOK {
-        return;
+    if has_record(book, layout::MOST_ORDERS, i) {
+        let at = layout::OPENS + i * layout::OPEN;
+        cells::put64(book, at, quantity);
     }
-    if i >= layout::MOST_ORDERS {
-        return;
-    }
-    cells::put64(book, layout::OPENS + i * layout::OPEN, quantity);
 }
 
 // Makes the book empty, with its setting, or nothing where the length is another.
 pub fn clear(book: &mut [u8], setting: u32)
     ensures { book.new ≡ clear_book book.old setting }
 {
-    if book.len() != layout::BOOK {
-        return;
+    if book.len() == layout::BOOK {
+        book.fill(0);
+        cells::put32(book, layout::SETTING, setting);
     }
-    cells::zero(book);
-    cells::put32(book, layout::SETTING, setting);
 }

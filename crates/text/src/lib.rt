@@ -2,11 +2,9 @@
 // public function is total: an index past the end of a slice has a stated answer.
 #![tactic(auto)]
 
-ghost use Rattle.std.specs.Prelude.{◌≡◌, ◌+◌, ◌≤◌, eqb, length};
-ghost use Rattle.prelude.specs.Below.{all_below};
-ghost use Rattle.prelude.specs.Number.{word64};
-ghost use Rattle.prelude.specs.Texts.{text_at, agree_at, same_text, is_text, contents, text_of};
-ghost use Rattle.text.specs.Words.{no_text, text_is, text_fine, push_text, push_all};
+ghost use Rattle.std.specs.Prelude.{◌≡◌, ◌+◌, ◌≤◌, length};
+ghost use Rattle.prelude.specs.Texts.{text_at, same_text, is_text, contents, text_of};
+ghost use Rattle.text.specs.Words.{no_text, holds, text_is, text_fine, push_text, push_all};
 ghost use Rattle.text.specs.Numbered.{decimal, numbered_text};
 
 use prelude::Text;
@@ -21,185 +19,126 @@ pub fn no_text() -> Text
     }
 }
 
-fn same_bytes(a: [u8; 32], b: [u8; 32]) -> bool
-    ensures { result ≡ all_below (agree_at a b) 32 }
-{
-    let mut i: usize = 0;
-    while i < 32 {
-        if a[i] != b[i] {
-            return false;
-        }
-        i += 1;
-    }
-    true
-}
-
 // Whether a and b are the same text.
+#[tactic(auto, using(crate::specs::Laws::ByWords::bytes_agree), unfolding(prelude::specs::Texts::same_text))]
 pub fn same_text(a: Text, b: Text) -> bool
     ensures { result ≡ same_text a b }
 {
-    let x = a.bytes;
-    let y = b.bytes;
-    if a.len != b.len {
-        return false;
-    }
-    same_bytes(x, y)
+    a == b
 }
 
-// Whether a word stands in s at x and in b at y.
-fn same_word(s: &[u8], x: usize, b: &[u8], y: usize) -> bool
-    requires { (x + 8 ≤ length s.now) × (y + 8 ≤ length b.now) }
-    ensures { result ≡ eqb (word64 s.now x) (word64 b.now y) }
+// Whether a text stands at an index: the slice does not end before it.
+fn holds(s: &[u8], at: usize) -> bool
+    ensures { result ≡ holds s.now at }
 {
-    let v = words::get64(&s[x..x + 8]);
-    let w = words::get64(&b[y..y + 8]);
-    v == w
+    s.len() >= 33 && at <= s.len() - 33
 }
 
-// Its length and its four words: short enough to be compiled into the loop of a lookup.
+// Its length and its four words, by `&` so that there is no branch: short enough to be compiled into the
+// loop of a lookup. `==` of slices was tried: texts that begin alike take three times as long.
 fn same_here(s: &[u8], at: usize, t: Text) -> bool
     requires { at + 33 ≤ length s.now }
     ensures { result ≡ same_text (text_at s.now at) t }
 {
     let b = t.bytes;
-    let w0 = same_word(s, at, &b, 0);
-    let w1 = same_word(s, at + 8, &b, 8);
-    let w2 = same_word(s, at + 16, &b, 16);
-    let w3 = same_word(s, at + 24, &b, 24);
+    let w0 = words::u64_at(s, at) == words::u64_at(&b, 0);
+    let w1 = words::u64_at(s, at + 8) == words::u64_at(&b, 8);
+    let w2 = words::u64_at(s, at + 16) == words::u64_at(&b, 16);
+    let w3 = words::u64_at(s, at + 24) == words::u64_at(&b, 24);
     (s[at + 32] == t.len) & (w0 & w1 & w2 & w3)
 }
 
 // Whether the text at an index is t; false where the slice ends before it.
+#[tactic(auto, unfolding(crate::specs::Words::text_is))]
 pub fn text_is(s: &[u8], at: usize, t: Text) -> bool
     ensures { result ≡ text_is s.now at t }
 {
-    if s.len() < 33 {
-        return false;
-    }
-    if at > s.len() - 33 {
-        return false;
-    }
-    same_here(s, at, t)
+    holds(s, at) && same_here(s, at, t)
 }
 
-// Whether a text is as it is stored: at most 32 long, zeros after it.
+// Whether 32 bytes and a length are a text as it is stored: at most 32 long, zeros after it. The bytes
+// after it are gathered by OR: `all(|x| *x == 0)` was tried, and takes three times as long.
+fn stored(bytes: &[u8], len: u8) -> bool
+    requires { length bytes.now ≡ 32 }
+    ensures { result ≡ is_text (record { bytes = bytes.now; len = len }) }
+{
+    let n = usize::from(len);
+    n <= 32 && bytes[n..].iter().fold(0, |all, x| all | *x) == 0
+}
+
+// Whether a text is as it is stored.
 pub fn text_ok(t: Text) -> bool
     ensures { result ≡ is_text t }
 {
-    let b = t.bytes;
-    let n = t.len as usize;
-    if n > 32 {
-        return false;
-    }
-    let mut acc: u8 = 0;
-    let mut k = n;
-    while k < 32 {
-        acc = acc | b[k];
-        k += 1;
-    }
-    acc == 0
-}
-
-fn fine_here(s: &[u8], at: usize) -> bool
-    requires { at + 33 ≤ length s.now }
-    ensures { result ≡ is_text (text_at s.now at) }
-{
-    let n = s[at + 32] as usize;
-    if n > 32 {
-        return false;
-    }
-    let mut acc: u8 = 0;
-    let mut k = n;
-    while k < 32 {
-        acc = acc | s[at + k];
-        k += 1;
-    }
-    acc == 0
+    stored(&t.bytes, t.len)
 }
 
 // Whether a text as it is stored stands at an index; false where the slice ends before it.
+#[tactic(auto, using(prelude::specs::Span::part_span), unfolding(crate::specs::Words::text_fine))]
 pub fn text_fine(s: &[u8], at: usize) -> bool
     ensures { result ≡ text_fine s.now at }
 {
-    if s.len() < 33 {
-        return false;
-    }
-    if at > s.len() - 33 {
-        return false;
-    }
-    fine_here(s, at)
+    holds(s, at) && stored(&s[at..at + 32], s[at + 32])
 }
 
 // A text with one byte more, or as it is where it is full.
-fn push(t: Text, x: u8) -> Text
+#[tactic(auto, using(prelude::specs::Cases::if_true, prelude::specs::Cases::if_false), unfolding(crate::specs::Words::push_text))]
+fn push(mut t: Text, x: u8) -> Text
     ensures { result ≡ push_text t x }
 {
-    if t.len >= 32 {
-        return t;
+    let n = usize::from(t.len);
+    if n < 32 {
+        t.bytes[n] = x;
+        t.len += 1;
     }
-    let n = t.len as usize;
-    let mut bytes = t.bytes;
-    bytes[n] = x;
-    let len = t.len + 1;
-    Text { bytes, len }
+    t
 }
 
 // A text with zeros behind it, whatever stood there.
+#[tactic(auto, using(crate::specs::Laws::InPlace::trimmed_text))]
 fn trimmed(t: Text) -> Text
     requires { t.len ≤ 32 }
     ensures { result ≡ text_of (contents t) }
 {
-    let bytes = t.bytes;
-    let n = t.len as usize;
-    let mut out = no_text();
-    let mut i: usize = 0;
-    while i < n {
-        out = push(out, bytes[i]);
-        i += 1;
-    }
-    out
+    let n = usize::from(t.len);
+    let mut bytes = [0u8; 32];
+    bytes[..n].copy_from_slice(&t.bytes[..n]);
+    Text { bytes, len: t.len }
 }
 
 // How many digits k has.
+#[tactic(auto, using(crate::specs::Laws::Numbered::length_decimal, prelude::specs::Cases::if_true, prelude::specs::Cases::if_false))]
 fn decimal_len(k: u16) -> usize
     ensures { (result ≡ length (decimal k)) × (result ≤ 5) }
 {
-    if k < 10 {
-        return 1;
+    match k {
+        0..=9 => 1,
+        10..=99 => 2,
+        100..=999 => 3,
+        1000..=9999 => 4,
+        _ => 5,
     }
-    if k < 100 {
-        return 2;
-    }
-    if k < 1000 {
-        return 3;
-    }
-    if k < 10000 {
-        return 4;
-    }
-    5
 }
 
-// A text with k in decimal behind it.
+// A text with k in decimal behind it: by recursion, since the highest digit comes first.
 fn push_decimal(t: Text, k: u16) -> Text
     ensures { result ≡ push_all t (decimal k) }
 {
+    // A digit, here and below: `try_from` would have a branch that nothing takes.
     if k < 10 {
-        return push(t, (48 + k) as u8);
+        return push(t, b'0' + k as u8);
     }
     let high = push_decimal(t, k / 10);
-    push(high, (48 + k % 10) as u8)
+    push(high, b'0' + (k % 10) as u8)
 }
 
 // The name, a dash and k in decimal, or the empty text where that does not fit.
 pub fn numbered(name: Text, k: u16) -> Text
     ensures { result ≡ numbered_text name k }
 {
-    let n = name.len as usize;
-    let d = decimal_len(k);
-    if n + 1 + d > 32 {
+    if usize::from(name.len) + 1 + decimal_len(k) > 32 {
         return no_text();
     }
-    let start = trimmed(name);
-    let dash = push(start, b'-');
+    let dash = push(trimmed(name), b'-');
     push_decimal(dash, k)
 }

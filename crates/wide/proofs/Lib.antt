@@ -1,4 +1,3 @@
 -- Laws of plain numbers that the functions' proofs cite.
-mod Halves
 mod Digits
 mod Shifts

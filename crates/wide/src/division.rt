@@ -4,7 +4,7 @@ ghost use Rattle.std.specs.Prelude.{◌+◌, ◌*◌, ◌^◌, ◌≤◌, ◌<�
 ghost use Rattle.wide.specs.Division.{Divides, Scales};
 
 // One more than the largest half of a word.
-pub const HALF: u64 = 0x1_0000_0000;
+const HALF: u64 = 0x1_0000_0000;
 
 #[derive(Clone, Copy)]
 pub struct Divided {
@@ -30,14 +30,15 @@ fn digit(n: u64, next: u64, d: u64) -> Divided
     }
     let lack = want - have;
     if lack <= d {
-        return Divided {
+        Divided {
             quotient: guess - 1,
             rest: d - lack,
-        };
-    }
-    Divided {
-        quotient: guess - 2,
-        rest: d - (lack - d),
+        }
+    } else {
+        Divided {
+            quotient: guess - 2,
+            rest: d - (lack - d),
+        }
     }
 }
 
@@ -46,7 +47,7 @@ fn scale(d: u64) -> u32
     requires { 0 < d }
     ensures { Scales d result }
 {
-    u64::leading_zeros(d)
+    d.leading_zeros()
 }
 
 // `hi * 2^64 + lo` divided by `d`: both are shifted until the highest bit of `d` is set, which

@@ -6,7 +6,8 @@
 ghost use Rattle.std.specs.Prelude.{◌≡◌, ◌-◌, ◌*◌, ◌/◌, ◌%◌, ◌<◌, ltb};
 ghost use Rattle.wide.specs.Wide.{value, words, up, nearest, by_last_px, implied, fill_price};
 
-use division::{HALF, divide};
+use division::divide;
+use std::cmp::Ordering;
 
 mod division;
 
@@ -17,49 +18,51 @@ pub struct Priced {
     pub source: u8,
 }
 
-// The sources of a price: the venue's LastPx, the implied quotient, the average.
+// The sources of a price: the venue's LastPx, the implied quotient, the average. A byte of messages, 0 for
+// none, in which any may stand: numbers, no enum.
 pub const FROM_LAST_PX: u8 = 1;
 
 pub const FROM_QUOTIENT: u8 = 2;
 
 pub const FROM_AVERAGE: u8 = 3;
 
-// The product of two words. Each is two halves of 32 bits; the four products of halves are added
-// from the lowest, with their carries.
+// The numbers above one word.
+const WORD: u128 = 1 << 64;
+
+// The number that two words stand for.
+fn joined(w: [u64; 2]) -> u128
+    ensures { result ≡ value w }
+{
+    u128::from(w[0]) + WORD * u128::from(w[1])
+}
+
+// The two words of a number.
+fn split(n: u128) -> [u64; 2]
+    ensures { result ≡ words n }
+{
+    // Both are below 2^64: `try_from` would have branches that nothing takes.
+    [(n % WORD) as u64, (n / WORD) as u64]
+}
+
+// The product of two words.
 pub fn product(a: u64, b: u64) -> [u64; 2]
     ensures { result ≡ words (a * b) }
 {
-    let low = (a % HALF) * (b % HALF);
-    let mid = (a / HALF) * (b % HALF) + low / HALF;
-    let sum = (a % HALF) * (b / HALF) + mid % HALF;
-    let high = (a / HALF) * (b / HALF) + mid / HALF + sum / HALF;
-    [(sum % HALF) * HALF + low % HALF, high]
+    split(u128::from(a) * u128::from(b))
 }
 
 // Is `a` below `b`?
 pub fn less(a: [u64; 2], b: [u64; 2]) -> bool
     ensures { result ≡ ltb (value a) (value b) }
 {
-    if a[1] < b[1] {
-        return true;
-    }
-    if b[1] < a[1] {
-        return false;
-    }
-    a[0] < b[0]
+    joined(a) < joined(b)
 }
 
 // `a` less `b`, and 0 where `b` is above `a`.
 pub fn minus(a: [u64; 2], b: [u64; 2]) -> [u64; 2]
     ensures { result ≡ words (value a - value b) }
 {
-    if less(a, b) {
-        return [0, 0];
-    }
-    if b[0] <= a[0] {
-        return [a[0] - b[0], a[1] - b[1]];
-    }
-    [u64::MAX - b[0] + 1 + a[0], a[1] - b[1] - 1]
+    split(joined(a).saturating_sub(joined(b)))
 }
 
 // What rounding adds to a quotient, 0 or 1, where `rest` is left of the division by `d`: the rest is
@@ -68,14 +71,11 @@ fn round(quotient: u64, rest: u64, d: u64) -> u64
     requires { rest < d }
     ensures { result ≡ up quotient rest d }
 {
-    let back = d - rest;
-    if back < rest {
-        return 1;
+    match rest.cmp(&(d - rest)) {
+        Ordering::Less => 0,
+        Ordering::Equal => 1, // a half goes up
+        Ordering::Greater => 1,
     }
-    if rest == back {
-        return 1; // a half goes up
-    }
-    0
 }
 
 // `n / d` rounded to the nearest, and 0 where `d` is 0: long division, a word at a time.
@@ -85,16 +85,9 @@ pub fn long(n: [u64; 2], d: u64) -> [u64; 2]
     if d == 0 {
         return [0, 0];
     }
-    let high = n[1] / d;
     let low = divide(n[1] % d, n[0], d);
     let add = round(low.quotient, low.rest, d);
-    if add == 0 {
-        return [low.quotient, high];
-    }
-    if low.quotient < u64::MAX {
-        return [low.quotient + 1, high];
-    }
-    [0, high + 1]
+    split(joined([low.quotient, n[1] / d]) + u128::from(add))
 }
 
 // The same of a single word, by the machine's own division.
@@ -114,9 +107,10 @@ pub fn quotient(n: [u64; 2], d: u64) -> [u64; 2]
     ensures { result ≡ words (nearest (value n) d) }
 {
     if n[1] == 0 {
-        return [plain(n[0], d), 0];
+        [plain(n[0], d), 0]
+    } else {
+        long(n, d)
     }
-    long(n, d)
 }
 
 // A tenth, truncated, and the digit that it leaves.
@@ -142,13 +136,7 @@ pub fn by_ten(n: [u64; 2]) -> Tenth
 pub fn by_last_px(lastqty: u64, lastpx: u64, rise: u64) -> bool
     ensures { result ≡ by_last_px lastqty lastpx rise }
 {
-    if lastpx == 0 {
-        return false;
-    }
-    if rise == 0 {
-        return true;
-    }
-    rise == lastqty
+    0 < lastpx && (rise == 0 || rise == lastqty)
 }
 
 // The price that the change of the average implies for the rise; 0 where it is not positive.
@@ -181,14 +169,15 @@ pub fn fill_price(
         };
     }
     let price = implied(cumqty, avgpx, oldcum, oldavg, rise);
-    if less([0, 0], price) {
-        return Priced {
+    if 0 < joined(price) {
+        Priced {
             price,
             source: FROM_QUOTIENT,
-        };
-    }
-    Priced {
-        price: [avgpx, 0],
-        source: FROM_AVERAGE,
+        }
+    } else {
+        Priced {
+            price: [avgpx, 0],
+            source: FROM_AVERAGE,
+        }
     }
 }

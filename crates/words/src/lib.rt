@@ -1,98 +1,80 @@
-// Little-endian numbers, read in place from the start of a slice, and a byte made wider. Each read is
-// total: a byte behind the end of the slice counts as 0, as in prelude's words. A reader lends the bytes
-// of the number alone, `get64(&s[at..at + 8])`: the tests of the end then cost nothing. Rests on prelude.
+// Little-endian numbers, read in place, and a byte made wider. A read from the start of a slice is total:
+// a byte behind the end counts as 0, as in prelude's words. Rests on prelude.
 #![tactic(auto)]
 
-ghost use Rattle.std.specs.Prelude.{◌≡◌, ◌+◌, ◌*◌, ◌<◌, ◌≤◌, get_or};
+ghost use Rattle.std.specs.Prelude.{ℕ, ◌≡◌, ◌+◌, ◌*◌, ◌<◌, ◌≤◌, get_or, length};
 ghost use Rattle.prelude.specs.Number.{word16, word32, word64};
 
-// A byte as a number of 8 bytes, with its range.
+// A byte as a number of 8 bytes: `u64::from` with the range that sums over it need.
 pub fn wide(x: u8) -> u64
     ensures { (result ≡ x) × (result < 256) }
 {
-    x as u64
+    u64::from(x)
 }
 
-// A byte as a size, with its range.
+// A byte as a size, likewise with its range.
 pub fn small(x: u8) -> usize
     ensures { (result ≡ x) × (result < 256) }
 {
-    x as usize
+    usize::from(x)
 }
 
-// Byte i, or 0 behind the end.
-fn byte(s: &[u8], i: usize) -> u64
-    ensures { (result ≡ get_or s.now i 0) × (result < 256) }
+// The first N bytes, zeros in place of those behind the end. Where the length is known, as in
+// `get64(&s[at..at + 8])`, this and the number become one load.
+fn padded<const N: usize>(s: &[u8]) -> [u8; N]
+    ensures { (k : ℕ) → k < N → get_or result k 0 ≡ get_or s.now k 0 }
 {
-    if i >= s.len() {
-        return 0;
-    }
-    wide(s[i])
+    let mut bytes = [0u8; N];
+    let n = s.len().min(N);
+    bytes[..n].copy_from_slice(&s[..n]);
+    bytes
 }
 
-// The number of the first 2 bytes.
+// The numbers of the first 2, 4 and 8 bytes, a line each: std has no trait for `from_le_bytes`, and one of
+// our own would be longer than they are.
 pub fn get16(s: &[u8]) -> u16
     ensures { result ≡ word16 s.now 0 }
 {
-    let b0 = byte(s, 0);
-    let b1 = byte(s, 1);
-    (b0 + 256 * b1) as u16
+    u16::from_le_bytes(padded(s))
 }
 
-// The number of the first 4 bytes.
 pub fn get32(s: &[u8]) -> u32
     ensures { result ≡ word32 s.now 0 }
 {
-    let b0 = byte(s, 0);
-    let b1 = byte(s, 1);
-    let b2 = byte(s, 2);
-    let b3 = byte(s, 3);
-    (b0 + 256 * (b1 + 256 * (b2 + 256 * b3))) as u32
+    u32::from_le_bytes(padded(s))
 }
 
-// The number of the first 8 bytes, some of which may be behind the end.
-fn short64(s: &[u8]) -> u64
-    ensures { result ≡ word64 s.now 0 }
-{
-    let b0 = byte(s, 0);
-    let b1 = byte(s, 1);
-    let b2 = byte(s, 2);
-    let b3 = byte(s, 3);
-    let b4 = byte(s, 4);
-    let b5 = byte(s, 5);
-    let b6 = byte(s, 6);
-    let b7 = byte(s, 7);
-    b0 + 256 * (b1 + 256 * (b2 + 256 * (b3 + 256 * (b4 + 256 * (b5 + 256 * (b6 + 256 * b7))))))
-}
-
-// The number of the first 8 bytes. Where all are there they are added up in one sum, which becomes one
-// load.
 pub fn get64(s: &[u8]) -> u64
     ensures { result ≡ word64 s.now 0 }
 {
-    if s.len() < 8 {
-        return short64(s);
-    }
-    let b0 = wide(s[0]);
-    let b1 = wide(s[1]);
-    let b2 = wide(s[2]);
-    let b3 = wide(s[3]);
-    let b4 = wide(s[4]);
-    let b5 = wide(s[5]);
-    let b6 = wide(s[6]);
-    let b7 = wide(s[7]);
-    b0 + 256 * b1
-        + 65536 * b2
-        + 16777216 * b3
-        + 4294967296 * b4
-        + 1099511627776 * b5
-        + 281474976710656 * b6
-        + 72057594037927936 * b7
+    u64::from_le_bytes(padded(s))
+}
+
+// The numbers of 2, 4 and 8 bytes at an index: their own bytes are lent, and nothing behind them is read.
+pub fn u16_at(s: &[u8], at: usize) -> u16
+    requires { at + 2 ≤ length s.now }
+    ensures { result ≡ word16 s.now at }
+{
+    get16(&s[at..at + 2])
+}
+
+pub fn u32_at(s: &[u8], at: usize) -> u32
+    requires { at + 4 ≤ length s.now }
+    ensures { result ≡ word32 s.now at }
+{
+    get32(&s[at..at + 4])
+}
+
+pub fn u64_at(s: &[u8], at: usize) -> u64
+    requires { at + 8 ≤ length s.now }
+    ensures { result ≡ word64 s.now at }
+{
+    get64(&s[at..at + 8])
 }
 
 // The number of two bytes, the low one first, as programs read a length.
 pub fn number(low: u8, high: u8) -> usize
     ensures { (result ≡ low + 256 * high) × (result ≤ 65535) }
 {
-    small(low) + 256 * small(high)
+    usize::from(u16::from_le_bytes([low, high]))
 }

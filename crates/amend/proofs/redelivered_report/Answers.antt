@@ -4,7 +4,4 @@ use Rattle.amend.proofs.redelivered_report.Goals as goal
 
 pub returns : goal.returns
 unfolding redelivered_report
-returns c =
-    let c1 = c in
-    let c2 = c in
-    rw (← c2.next_exec-order.ensures, ← c1.report-m.ensures, ← c.saying.ensures)
+returns c = rw (← c.next_exec-order.ensures, ← c.report-m.ensures, ← c.saying.ensures)

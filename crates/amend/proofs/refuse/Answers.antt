@@ -1,10 +1,14 @@
 -- `amend::refuse` is `refuse`. Assumes nothing.
+use Rattle.prelude.specs.Cases.{if◌then◌otherwise◌}
+use borrow.Author.Tests.{eq-eqb, ne_eqb}
 use Rattle.machine.specs.Amend.{refuse}
+use Rattle.amend.proofs.refuse.Goals.{then-place-eq0, else-place-eq0}
 use Rattle.amend.proofs.refuse.Goals as goal
 
 pub returns : goal.returns
-unfolding refuse
+unfolding refuse if◌then◌otherwise◌
 returns c =
-    let c1 = c in
-    let c2 = c in
-    rw (← c2.pick_8-status.ensures, ← c1.cancel_reject-m.ensures, ← c.saying.ensures)
+    elim c.if-place-eq0.branch [
+      | then-place-eq0 w ↦ rw (c.saying.ensures, c.cancel_reject-m.ensures, c.reject-reject.ensures, w.status-is, eq-eqb _ _ w.if-place-eq0.true)
+      | else-place-eq0 w ↦ rw (c.saying.ensures, c.cancel_reject-m.ensures, c.reject-reject.ensures, w.status-is, ne_eqb _ _ w.if-place-eq0.false)
+    ]

@@ -1,7 +1,6 @@
 -- The call as the code comes to it. Rests on Walk and Sound.
-use Rattle.std.specs.Prelude.{ℕ, ◌*◌, ◌≤◌, ◌<◌, ◌≡◌, true, List, [], length}
+use Rattle.std.specs.Prelude.{ℕ, ◌*◌, ◌≤◌, ◌<◌, ◌≡◌, true, List, [], length, None, Some}
 use Rattle.std.proofs.Common.{arith, sym, ap, ap₂, ◌∙◌}
-use Rattle.std.proofs.Math.Option.{none, some}
 use Rattle.prelude.specs.Span.{splice, splice_nil}
 use Rattle.counted.specs.declared.Counted.{Counted}
 use Rattle.counted.specs.Counted.{refusing, counting}
@@ -16,7 +15,7 @@ module _ (b : List ℕ) (client : ℕ) (name list : List ℕ) (keeps : keeps_of 
   ks = chain_of (book_of b) client name
 
   -- a request is called, and its walk has n entries
-  module _ (k n : ℕ) (e : called_by (book_of b) client name ≡ some k) (count : n ≡ length (walk b k)) where
+  module _ (k n : ℕ) (e : called_by (book_of b) client name ≡ Some k) (count : n ≡ length (walk b k)) where
     is_walk : ks ≡ walk b k
     is_walk = (chain_walk b keeps client name k e).1
 
@@ -32,7 +31,7 @@ module _ (b : List ℕ) (client : ℕ) (name list : List ℕ) (keeps : keeps_of 
         ap₂ chained (s ∙ ap counting is_count) (w ∙ ap (λ (l : List ℕ). splice list 0 (entries_of b l)) (sym is_walk))
         ∙ sym (call_written b client name list keeps (omega (arith, is_count)))
 
-  pub as_none : (r : Counted) → called_by (book_of b) client name ≡ none → r ≡ counting 0 → chained r list ≡ chain_call b client name list
+  pub as_none : (r : Counted) → called_by (book_of b) client name ≡ None → r ≡ counting 0 → chained r list ≡ chain_call b client name list
   as_none r e s =
       let z : ks ≡ [] = chain_empty b keeps client name e in
       let n : length ks ≡ 0 = ap length z in

@@ -1,9 +1,8 @@
 -- Entries: 34 bytes each, a stored ClOrdID being its length and its 32 bytes; written one behind the other. Rests on Chain.
-use Rattle.std.specs.Prelude.{ℕ, suc, ◌+◌, ◌*◌, ◌≤◌, ◌<◌, ◌≡◌, Bool, ◌&&◌, length, get_or}
+use Rattle.std.specs.Prelude.{ℕ, suc, ◌+◌, ◌*◌, ◌≤◌, ◌<◌, ◌≡◌, Bool, ◌&&◌, length, get_or, None, Some}
 use Rattle.std.proofs.Common.{arith, ◌∙◌, length-take}
 use Rattle.std.proofs.Math.Path.{refl, sym, ap, ap₂}
 use Rattle.std.proofs.Math.Bool.{true}
-use Rattle.std.proofs.Math.Option.{none, some}
 use mathlib.Core.List.{List, [], ◌∷◌, map, append-nil}
 use Rattle.std.proofs.Math.Dec.{leb}
 use Rattle.std.proofs.Math.ListN.{length-append}
@@ -120,10 +119,10 @@ module _ (b : List ℕ) (keeps : keeps_of b ≡ true) (k : ℕ) (h : k < request
     pub length_one : length one ≡ length s
     length_one = ap length written ∙ length_splice s at (entry_of b k) (omega (arith, first_room, length_entry b k))
 
-    pub put_end : earlier b k ≡ none → one ≡ splice s at (entries_of b (walk b k))
+    pub put_end : earlier b k ≡ None → one ≡ splice s at (entries_of b (walk b k))
     put_end e = written ∙ ap (splice s at) (sym (ap (entries_of b) (walk_end b keeps k h e) ∙ entries_one b k))
 
-    module _ (j : ℕ) (e : earlier b k ≡ some j) where
+    module _ (j : ℕ) (e : earlier b k ≡ Some j) where
       pub rest_room : at + entry_size + entry_size * length (walk b j) ≤ length one
       rest_room =
           let n : length (walk b k) ≡ suc (length (walk b j)) = ap length (walk_more b keeps k h j e) in

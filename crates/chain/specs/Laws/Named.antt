@@ -1,10 +1,9 @@
 -- Names found: a ClOrdID of a client names one request, and an empty one none. Rests on store's Finds and machine's rules.
-use Rattle.std.specs.Prelude.{ℕ, ◌<◌, ◌≡◌, refl, Bool, eqb, ltb, length}
+use Rattle.std.specs.Prelude.{ℕ, ◌<◌, ◌≡◌, refl, Bool, eqb, ltb, length, Option, None, Some}
 use Rattle.std.proofs.Math.Decide.{dec_lt}
 use Rattle.std.proofs.Common.{arith, ap, ◌∙◌}
 use Rattle.std.proofs.Math.Path.{sym}
 use Rattle.std.proofs.Math.Bool.{true}
-use Rattle.std.proofs.Math.Option.{Option, none, some}
 use borrow.Author.Tests.{eqb-true, eq-eqb, ltb-true, lt-ltb}
 use Rattle.prelude.specs.Below.{First, first_some, first_elim}
 use Rattle.prelude.specs.Cases.{clash, both_true}
@@ -41,19 +40,19 @@ module _ (x : Book) (client : ℕ) (t : Text) where
   unfolding of_client
   bears_whole k h = rw (h.named, h.same, lt-ltb _ _ h.booked, eq-eqb _ _ h.whose)
 
-  pub found_bears : (k : ℕ) → find_clordid x client t ≡ some k → Bears x client t k
+  pub found_bears : (k : ℕ) → find_clordid x client t ≡ Some k → Bears x client t k
   unfolding find_clordid
   found_bears k e =
       let f : First bears (length x.requests) k = first_some bears (length x.requests) k e in
       bears_parts k f.below f.passes
 
   -- an empty name finds nothing, though a gateway cancel has an empty ClOrdID
-  pub empty_none : is_empty t ≡ true → find_clordid x client t ≡ none
+  pub empty_none : is_empty t ≡ true → find_clordid x client t ≡ None
   empty_none e = go (find_clordid x client t) refl
     where
-      go : (v : Option ℕ) → find_clordid x client t ≡ v → find_clordid x client t ≡ none
-      go none f = f
-      go (some k) f =
+      go : (v : Option ℕ) → find_clordid x client t ≡ v → find_clordid x client t ≡ None
+      go None f = f
+      go (Some k) f =
           let h : Bears x client t k = found_bears k f in
           clash (has_clordid (request_in x k)) h.named (no_clordid (request_in x k) t h.same (eqb-true _ _ e))
 
@@ -79,9 +78,9 @@ module _ (x : Book) (client : ℕ) (t : Text) where
         go (no l) (yes m) = absurd (never i j m p q)
         go (no l) (no m) = omega arith
 
-    pub bears_found : (j : ℕ) → Bears x client t j → find_clordid x client t ≡ some j
+    pub bears_found : (j : ℕ) → Bears x client t j → find_clordid x client t ≡ Some j
     bears_found j q = go (find_clordid x client t) refl
       where
-        go : (v : Option ℕ) → find_clordid x client t ≡ v → find_clordid x client t ≡ some j
-        go (some i) e = e ∙ ap some (bears_one i j (found_bears i e) q)
-        go none e = clash (bears j) (bears_whole j q) (first_elim bears (length x.requests) (unfold find_clordid in e) j q.used)
+        go : (v : Option ℕ) → find_clordid x client t ≡ v → find_clordid x client t ≡ Some j
+        go (Some i) e = e ∙ ap Some (bears_one i j (found_bears i e) q)
+        go None e = clash (bears j) (bears_whole j q) (first_elim bears (length x.requests) (unfold find_clordid in e) j q.used)

@@ -3,10 +3,9 @@ use Prim.Native.Nat.{ℕ, zero, suc, ◌+◌, ◌-◌, ◌*◌, ◌≤◌, ◌<�
 use Rattle.std.proofs.Common.{not-suc-le-zero, add-zero, zero-add, sym, ap, ◌∙◌, length-append, length-take, take_at, get_or-take, get_or-append-add}
 use Rattle.std.proofs.Math.Decide.{dec_le, dec_lt}
 use native.Mathlib.Omega.{arith}
-use Rattle.std.specs.Prelude.{◌≡◌, ◌&&◌, ◌||◌, eqb, leb, get_or, take, drop, replicate}
+use Rattle.std.specs.Prelude.{◌≡◌, ◌&&◌, ◌||◌, eqb, leb, get_or, take, drop, replicate, Option, None, Some}
 use Rattle.std.proofs.Math.Path.{refl, subst}
 use Rattle.std.proofs.Math.Bool.{Bool, true, false, not}
-use Rattle.std.proofs.Math.Option.{Option, none, some}
 use mathlib.Core.List.{List, [], ◌∷◌, ◌++◌, map}
 use Rattle.std.proofs.Math.ListN.{length, get_or-append, get_or-eq_default}
 use Rattle.std.proofs.lemmas.List.{length-replicate, get_or-replicate}
@@ -151,10 +150,10 @@ module _ (b : List ℕ) (keeps : keeps_of b ≡ true) where
   back_some (suc n) k h = omega arith
 
   -- a request without an OrigClOrdID that has a ClOrdID is its order's first
-  is_first_lem : (k : ℕ) → k < request_count b → has_clordid (request_in x k) ≡ true → earlier b k ≡ none → is_first (request_in x k) ≡ true
+  is_first_lem : (k : ℕ) → k < request_count b → has_clordid (request_in x k) ≡ true → earlier b k ≡ None → is_first (request_in x k) ≡ true
   is_first_lem k h c e = first_request (request_in x k) (range_kept (request_in x k) (good.request k (here_used k h)).range) c (blank (is_empty (request_in x k).origclordid) refl (unfold earlier in e))
     where
-      blank : (t : Bool) → is_empty (request_in x k).origclordid ≡ t → (if is_empty (request_in x k).origclordid then none otherwise some (origin_at b k - 1)) ≡ none
+      blank : (t : Bool) → is_empty (request_in x k).origclordid ≡ t → (if is_empty (request_in x k).origclordid then None otherwise Some (origin_at b k - 1)) ≡ None
           → is_empty (request_in x k).origclordid ≡ true
       blank true s z = s
       blank false s z = none_some z (if_false _ _ _ s)
@@ -167,10 +166,10 @@ module _ (b : List ℕ) (keeps : keeps_of b ≡ true) where
   back_steps (suc n) k l h = go (λ j p q. back_steps n j p q) (earlier b k) refl
     where
       go : ((j : ℕ) → j < n → j < request_count b → Stepped x (back b n j)) → (v : Option ℕ) → earlier b k ≡ v → Stepped x (k ∷ maybe [] (back b n) v)
-      go again none e = rw (maybe_none none [] (back b n) refl) (stepped_more x k [] (λ z. absurd (omega arith)) (λ i z. absurd (omega arith)))
-      go again (some j) e =
+      go again None e = rw (maybe_none None [] (back b n) refl) (stepped_more x k [] (λ z. absurd (omega arith)) (λ i z. absurd (omega arith)))
+      go again (Some j) e =
           let s : Step x k j = step_back b keeps k j h e in
-          rw (maybe_some (some j) j [] (back b n) refl)
+          rw (maybe_some (Some j) j [] (back b n) refl)
           (stepped_more x k (back b n j) (λ z. subst (IsStep x k) (sym (back_head n j (omega (arith, s.lower)))) (is_step k j h s))
           (again j (omega (arith, s.lower)) (omega (arith, s.lower))))
 
@@ -181,10 +180,10 @@ module _ (b : List ℕ) (keeps : keeps_of b ≡ true) where
     where
       go : ((j : ℕ) → j < n → j < request_count b → has_clordid (request_in x j) ≡ true → is_first (request_in x (last_of (back b n j))) ≡ true)
           → (v : Option ℕ) → earlier b k ≡ v → is_first (request_in x (last_of (k ∷ maybe [] (back b n) v))) ≡ true
-      go again none e = rw (maybe_none none [] (back b n) refl) (is_first_lem k h c e)
-      go again (some j) e =
+      go again None e = rw (maybe_none None [] (back b n) refl) (is_first_lem k h c e)
+      go again (Some j) e =
           let s : Step x k j = step_back b keeps k j h e in
-          rw (maybe_some (some j) j [] (back b n) refl, last_more k (back b n j) (back_some n j (omega (arith, s.lower))))
+          rw (maybe_some (Some j) j [] (back b n) refl, last_more k (back b n j) (back_some n j (omega (arith, s.lower))))
           (again j (omega (arith, s.lower)) (omega (arith, s.lower)) s.named)
 
   back_few : (n k : ℕ) → k < n → k < request_count b → length (back b n k) ≤ number_in x.requests k + 1
@@ -194,10 +193,10 @@ module _ (b : List ℕ) (keeps : keeps_of b ≡ true) where
     where
       go : ((j : ℕ) → j < n → j < request_count b → length (back b n j) ≤ number_in x.requests j + 1)
           → (v : Option ℕ) → earlier b k ≡ v → suc (length (maybe [] (back b n) v)) ≤ number_in x.requests k + 1
-      go again none e = rw (maybe_none none [] (back b n) refl) (omega arith)
-      go again (some j) e =
+      go again None e = rw (maybe_none None [] (back b n) refl) (omega arith)
+      go again (Some j) e =
           let s : Step x k j = step_back b keeps k j h e in
-          rw (maybe_some (some j) j [] (back b n) refl)
+          rw (maybe_some (Some j) j [] (back b n) refl)
           (omega (arith, again j (omega (arith, s.lower)) (omega (arith, s.lower)), numbers_rise x good j k s.lower s.order))
 
   -- an order's requests are its amendments and one
@@ -235,13 +234,13 @@ module _ (b : List ℕ) (keeps : keeps_of b ≡ true) where
       let e : length (contents (request_in x k).clordid) ≡ length name = ap length u.called in
       omega (arith, contents_fit (request_in x k).clordid (clordid_long k (used_here k u.used)))
 
-  called_at : (client : ℕ) (name : List ℕ) (k : ℕ) → 0 < length name → Uses x client name k → called_by x client name ≡ some k
+  called_at : (client : ℕ) (name : List ℕ) (k : ℕ) → 0 < length name → Uses x client name k → called_by x client name ≡ Some k
   unfolding called_by
   called_at client name k l u =
       if_true _ _ _ (both_hold _ _ (le-leb 1 (length name) (omega arith)) (le-leb (length name) 32 (short_name client name k u)))
       ∙ bears_found x client (text_of name) good k (uses_bears client name k l u)
 
-  called_uses : (client : ℕ) (name : List ℕ) (k : ℕ) → called_by x client name ≡ some k → Uses x client name k
+  called_uses : (client : ℕ) (name : List ℕ) (k : ℕ) → called_by x client name ≡ Some k → Uses x client name k
   called_uses client name k e =
       let (short, f) = called_found b keeps client name k e in
       let h : Bears x client (text_of name) k = found_bears x client (text_of name) k f in
@@ -273,10 +272,10 @@ module _ (b : List ℕ) (keeps : keeps_of b ≡ true) where
   chain_unused client name never = go (called_by x client name) refl
     where
       go : (v : Option ℕ) → called_by x client name ≡ v → chain_of x client name ≡ []
-      go none e = chain_empty b keeps client name e
-      go (some k) e = absurd (never k (called_uses client name k e))
+      go None e = chain_empty b keeps client name e
+      go (Some k) e = absurd (never k (called_uses client name k e))
 
-  called_blank : (client : ℕ) → called_by x client [] ≡ none
+  called_blank : (client : ℕ) → called_by x client [] ≡ None
   unfolding called_by
   called_blank client = if_false _ _ _ refl
 
@@ -284,30 +283,30 @@ module _ (b : List ℕ) (keeps : keeps_of b ≡ true) where
   chain_blank client = chain_empty b keeps client [] (called_blank client)
 
   -- the second entry of a walk, and what is behind it
-  walk_rest : (i k j : ℕ) (ks : List ℕ) → i < request_count b → walk b i ≡ k ∷ j ∷ ks → (earlier b i ≡ some j) × (walk b j ≡ j ∷ ks)
+  walk_rest : (i k j : ℕ) (ks : List ℕ) → i < request_count b → walk b i ≡ k ∷ j ∷ ks → (earlier b i ≡ Some j) × (walk b j ≡ j ∷ ks)
   walk_rest i k j ks h e = go (earlier b i) refl
     where
       head : (n : ℕ) → walk b n ≡ n ∷ maybe [] (back b n) (earlier b n)
       head n = unfold walk back in refl
 
-      go : (v : Option ℕ) → earlier b i ≡ v → (earlier b i ≡ some j) × (walk b j ≡ j ∷ ks)
-      go none s =
+      go : (v : Option ℕ) → earlier b i ≡ v → (earlier b i ≡ Some j) × (walk b j ≡ j ∷ ks)
+      go None s =
           let z : ◌≡◌ {A = List ℕ} (i ∷ []) (k ∷ j ∷ ks) = sym (walk_end b keeps i h s) ∙ e in
           let n : 1 ≡ suc (suc (length ks)) = ap length z in
           absurd (omega arith)
-      go (some m) s =
+      go (Some m) s =
           let z : ◌≡◌ {A = List ℕ} (i ∷ walk b m) (k ∷ j ∷ ks) = sym (walk_more b keeps i h m s) ∙ e in
           let t : walk b m ≡ j ∷ ks = cc in
           let w : ◌≡◌ {A = List ℕ} (m ∷ maybe [] (back b m) (earlier b m)) (j ∷ ks) = sym (head m) ∙ t in
           let same : m ≡ j = cc in
-          (s ∙ ap some same, ap (walk b) (sym same) ∙ t)
+          (s ∙ ap Some same, ap (walk b) (sym same) ∙ t)
 
   chain_rest : (client : ℕ) (name : List ℕ) (k j : ℕ) (ks : List ℕ) → chain_of x client name ≡ k ∷ j ∷ ks → chain_of x client (contents (request_in x j).clordid) ≡ j ∷ ks
   chain_rest client name k j ks e = go (called_by x client name) refl
     where
       go : (v : Option ℕ) → called_by x client name ≡ v → chain_of x client (contents (request_in x j).clordid) ≡ j ∷ ks
-      go none c = let z : 0 ≡ suc (suc (length ks)) = ap length (sym (chain_empty b keeps client name c) ∙ e) in absurd (omega arith)
-      go (some i) c =
+      go None c = let z : 0 ≡ suc (suc (length ks)) = ap length (sym (chain_empty b keeps client name c) ∙ e) in absurd (omega arith)
+      go (Some i) c =
           let (h, w) = chain_walk b keeps client name i c in
           let (s, r) = walk_rest i k j ks h (sym w ∙ e) in
           let t : Step x i j = step_back b keeps i j h s in

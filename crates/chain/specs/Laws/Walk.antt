@@ -4,9 +4,8 @@ use Prim.Native.Nat.{ℕ, zero, suc, ◌+◌, ◌-◌, ◌≤◌, ◌<◌}
 use Rattle.std.proofs.Common.{not-suc-le-zero, ◌∙◌}
 use native.Mathlib.Omega.{arith}
 use Rattle.std.proofs.Math.Path.{◌≡◌, refl, sym, ap, subst}
-use Rattle.std.specs.Prelude.{Bool, ◌&&◌, get_or}
+use Rattle.std.specs.Prelude.{Bool, ◌&&◌, get_or, Option, None, Some}
 use Rattle.std.proofs.Math.Bool.{true, false, not}
-use Rattle.std.proofs.Math.Option.{Option, none, some}
 use mathlib.Core.List.{List, [], ◌∷◌}
 use Rattle.std.proofs.Math.Dec.{eqb, leb, ltb}
 use Rattle.std.proofs.Math.ListN.{length}
@@ -31,7 +30,7 @@ use Rattle.chain.specs.Laws.Named.{Bears, found_bears, empty_none, bears_found}
 
 -- the request that the OrigClOrdID of request k names, by its link
 unfoldable pub earlier : List ℕ → ℕ → Option ℕ
-earlier b k = if is_empty (request_in (book_of b) k).origclordid then none otherwise some (origin_at b k - 1)
+earlier b k = if is_empty (request_in (book_of b) k).origclordid then None otherwise Some (origin_at b k - 1)
 
 -- the walk back from request k, in at most so many entries
 unfoldable pub back : List ℕ → (most k : ℕ) → List ℕ
@@ -83,20 +82,20 @@ module _ (b : List ℕ) (keeps : keeps_of b ≡ true) where
   link_step : (k : ℕ) → k < request_count b → is_empty (request_in x k).origclordid ≡ false → Step x k (origin_at b k - 1)
   link_step k h e = (link_rule k h e).1
 
-  pub step_back : (k j : ℕ) → k < request_count b → earlier b k ≡ some j → Step x k j
+  pub step_back : (k j : ℕ) → k < request_count b → earlier b k ≡ Some j → Step x k j
   unfolding earlier
   step_back k j h = go (is_empty (request_in x k).origclordid) refl
     where
-      go : (t : Bool) → is_empty (request_in x k).origclordid ≡ t → (if is_empty (request_in x k).origclordid then none otherwise some (origin_at b k - 1)) ≡ some j → Step x k j
-      go true e s = let z : none ≡ some j = sym (if_true _ _ _ e) ∙ s in absurd (let w : ◌≡◌ {A = ℕ} 0 1 = cc in omega arith)
+      go : (t : Bool) → is_empty (request_in x k).origclordid ≡ t → (if is_empty (request_in x k).origclordid then None otherwise Some (origin_at b k - 1)) ≡ Some j → Step x k j
+      go true e s = let z : None ≡ Some j = sym (if_true _ _ _ e) ∙ s in absurd (let w : ◌≡◌ {A = ℕ} 0 1 = cc in omega arith)
       go false e s =
-          let z : some (origin_at b k - 1) ≡ some j = sym (if_false _ _ _ e) ∙ s in
+          let z : Some (origin_at b k - 1) ≡ Some j = sym (if_false _ _ _ e) ∙ s in
           let w : origin_at b k - 1 ≡ j = cc in
           subst (Step x k) w (link_step k h e)
 
   -- ---- the walk is the chain
 
-  chain_none : (client n : ℕ) → chain_from x client n none ≡ []
+  chain_none : (client n : ℕ) → chain_from x client n None ≡ []
   unfolding chain_from
   chain_none client zero = refl
   chain_none client (suc n) = refl
@@ -107,7 +106,7 @@ module _ (b : List ℕ) (keeps : keeps_of b ≡ true) where
   named_back client k h c = go (is_empty (request_in x k).origclordid) refl
     where
       go : (t : Bool) → is_empty (request_in x k).origclordid ≡ t
-          → find_clordid x client (request_in x k).origclordid ≡ (if is_empty (request_in x k).origclordid then none otherwise some (origin_at b k - 1))
+          → find_clordid x client (request_in x k).origclordid ≡ (if is_empty (request_in x k).origclordid then None otherwise Some (origin_at b k - 1))
       go true e = empty_none x client (request_in x k).origclordid e ∙ sym (if_true _ _ _ e)
       go false e =
           let s : Step x k (origin_at b k - 1) = link_step k h e in
@@ -122,16 +121,16 @@ module _ (b : List ℕ) (keeps : keeps_of b ≡ true) where
           })
           ∙ sym (if_false _ _ _ e)
 
-  pub chain_back : (client n k : ℕ) → k < request_count b → client_of x k ≡ client → chain_from x client n (some k) ≡ back b n k
+  pub chain_back : (client n k : ℕ) → k < request_count b → client_of x k ≡ client → chain_from x client n (Some k) ≡ back b n k
   unfolding chain_from back
   chain_back client zero k h c = refl
   chain_back client (suc n) k h c =
       ap (λ (l : List ℕ). k ∷ l) (ap (chain_from x client n) (named_back client k h c) ∙ go (λ j u d. chain_back client n j u d) (earlier b k) refl)
     where
-      go : ((j : ℕ) → j < request_count b → client_of x j ≡ client → chain_from x client n (some j) ≡ back b n j)
+      go : ((j : ℕ) → j < request_count b → client_of x j ≡ client → chain_from x client n (Some j) ≡ back b n j)
           → (v : Option ℕ) → earlier b k ≡ v → chain_from x client n v ≡ maybe [] (back b n) v
-      go again none e = chain_none client n ∙ sym (maybe_none _ _ _ refl)
-      go again (some j) e =
+      go again None e = chain_none client n ∙ sym (maybe_none _ _ _ refl)
+      go again (Some j) e =
           let s : Step x k j = step_back k j h e in
           again j (omega (arith, s.lower)) (ap (λ (i : ℕ). (order_in x i).client) s.order ∙ c) ∙ sym (maybe_some _ j [] (back b n) refl)
 
@@ -143,8 +142,8 @@ module _ (b : List ℕ) (keeps : keeps_of b ≡ true) where
   back_enough (suc n) (suc m) k h l u = ap (λ (r : List ℕ). k ∷ r) (go (λ j p q r. back_enough n m j p q r) (earlier b k) refl)
     where
       go : ((j : ℕ) → j < n → j < m → j < request_count b → back b n j ≡ back b m j) → (v : Option ℕ) → earlier b k ≡ v → maybe [] (back b n) v ≡ maybe [] (back b m) v
-      go again none e = maybe_none _ _ _ refl ∙ sym (maybe_none _ _ _ refl)
-      go again (some j) e =
+      go again None e = maybe_none _ _ _ refl ∙ sym (maybe_none _ _ _ refl)
+      go again (Some j) e =
           let s : Step x k j = step_back k j u e in
           maybe_some _ j [] (back b n) refl ∙ again j (omega (arith, s.lower)) (omega (arith, s.lower)) (omega (arith, s.lower)) ∙ sym (maybe_some _ j [] (back b m) refl)
 
@@ -154,7 +153,7 @@ module _ (b : List ℕ) (keeps : keeps_of b ≡ true) where
     empty_at : is_empty (request_in x k).origclordid ≡ eqb (get_or b (request_base k + request·origclordid + 32) 0) 0
     empty_at = ap (λ (q : Request). is_empty q.origclordid) (request_in_lem b k h) ∙ ap is_empty (request_origclordid b k)
 
-    pub earlier_none : get_or b (request_base k + request·origclordid + 32) 0 ≡ 0 → earlier b k ≡ none
+    pub earlier_none : get_or b (request_base k + request·origclordid + 32) 0 ≡ 0 → earlier b k ≡ None
     unfolding earlier
     earlier_none z = if_true _ _ _ (empty_at ∙ eq-eqb _ _ z)
 
@@ -162,15 +161,15 @@ module _ (b : List ℕ) (keeps : keeps_of b ≡ true) where
       pub link_above : 0 < origin_at b k
       link_above = (link_rule k h (empty_at ∙ ne_eqb _ _ n)).0
 
-      pub earlier_some : earlier b k ≡ some (origin_at b k - 1)
+      pub earlier_some : earlier b k ≡ Some (origin_at b k - 1)
       unfolding earlier
       earlier_some = if_false _ _ _ (empty_at ∙ ne_eqb _ _ n)
 
-    pub walk_end : earlier b k ≡ none → walk b k ≡ k ∷ []
+    pub walk_end : earlier b k ≡ None → walk b k ≡ k ∷ []
     unfolding walk back
     walk_end e = ap (λ (l : List ℕ). k ∷ l) (maybe_none (earlier b k) [] (back b k) e)
 
-    pub walk_more : (j : ℕ) → earlier b k ≡ some j → walk b k ≡ k ∷ walk b j
+    pub walk_more : (j : ℕ) → earlier b k ≡ Some j → walk b k ≡ k ∷ walk b j
     unfolding walk back
     walk_more j e =
         let s : Step x k j = step_back k j h e in
@@ -190,20 +189,20 @@ module _ (b : List ℕ) (keeps : keeps_of b ≡ true) where
   walk_most k = omega (arith, back_most (suc k) k)
 
   -- what a name calls is found under its text
-  pub called_found : (client : ℕ) (name : List ℕ) (k : ℕ) → called_by x client name ≡ some k → (length name ≤ 32) × (find_clordid x client (text_of name) ≡ some k)
+  pub called_found : (client : ℕ) (name : List ℕ) (k : ℕ) → called_by x client name ≡ Some k → (length name ≤ 32) × (find_clordid x client (text_of name) ≡ Some k)
   unfolding called_by
   called_found client name k =
-      split_if (λ (v : Option ℕ). v ≡ some k → (length name ≤ 32) × (find_clordid x client (text_of name) ≡ some k)) (leb 1 (length name) && leb (length name) 32)
+      split_if (λ (v : Option ℕ). v ≡ Some k → (length name ≤ 32) × (find_clordid x client (text_of name) ≡ Some k)) (leb 1 (length name) && leb (length name) 32)
       (λ t z. (leb-true _ _ (both_true (leb 1 (length name)) (leb (length name) 32) t).1, z)) (λ t z. none_some refl z)
 
   -- THE CHAIN is the walk from the request that is called
-  pub chain_walk : (client : ℕ) (name : List ℕ) (k : ℕ) → called_by x client name ≡ some k → (k < request_count b) × (chain_of x client name ≡ walk b k)
+  pub chain_walk : (client : ℕ) (name : List ℕ) (k : ℕ) → called_by x client name ≡ Some k → (k < request_count b) × (chain_of x client name ≡ walk b k)
   unfolding chain_of walk
   chain_walk client name k e =
       let h : Bears x client (text_of name) k = found_bears x client (text_of name) k (called_found client name k e).1 in
       let l : k < request_count b = omega (arith, h.used, length_requests b) in
       (l, ap (chain_from x client (length x.requests)) e ∙ chain_back client (length x.requests) k l h.whose ∙ back_enough (length x.requests) (suc k) k h.used (omega arith) l)
 
-  pub chain_empty : (client : ℕ) (name : List ℕ) → called_by x client name ≡ none → chain_of x client name ≡ []
+  pub chain_empty : (client : ℕ) (name : List ℕ) → called_by x client name ≡ None → chain_of x client name ≡ []
   unfolding chain_of
   chain_empty client name e = ap (chain_from x client (length x.requests)) e ∙ chain_none client (length x.requests)

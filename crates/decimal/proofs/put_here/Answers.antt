@@ -1,79 +1,49 @@
 -- `decimal::put_here` meets its contract: the whole part, a point, and the low digits. Assumes nothing.
-use mathlib.Core.Path.{◌≡◌, sym, ap, ◌∙◌}
-use mathlib.Core.List.{List}
-use Prim.Native.Nat.{ℕ, ◌+◌, ◌≤◌, ◌<◌}
-use native.Mathlib.Omega.{arith}
-use lib.ListN.{length, set, length-set}
+use Rattle.std.proofs.Common.{◌≡◌, List, ℕ, ◌+◌, ◌≤◌, ◌<◌, length, sym, ap, ◌∙◌, arith}
+use Rattle.std.proofs.Math.ListN.{set, length-set}
 use Rattle.prelude.specs.Span.{splice}
 use Rattle.decimal.specs.Decimal.{digits, low_digits, down}
 use Rattle.decimal.specs.Laws.Width.{low_all, decimal_long, decimal_put, decimal_zero, decimal_whole}
+use Rattle.decimal.proofs.put_here.Given.{Over}
 use Rattle.decimal.proofs.put_here.Goals as goal
-use Rattle.decimal.proofs.put_here.Goals.{After-put_low, After-width-w, Else-places-eq0}
+use Rattle.decimal.proofs.put_here.Goals.{After-put_low, After-width-width}
 
--- the whole part's digits
-at_width : (c : After-width-w) → let a = c.args in c.width-w.result ≡ length (digits (down a.places a.n))
-at_width c = c.width-w.ensures ∙ ap (λ (m : ℕ). length (digits m)) c.down-whole.ensures
+-- the whole part's digits, and after they were written
+at_width : (g : Over) (c : After-width-width g) → c.width-width.result ≡ length (digits (down c.args.places (g.N.Digits.number c.args.n)))
+at_width g c = c.width-width.ensures.all ∙ ap (λ (m : ℕ). length (digits m)) c.down-whole.ensures
 
--- they have room, and what follows them has
-room : (c : After-width-w) → let a = c.args in a.at + c.width-w.result ≤ length a.out.now
-room c = let a = c.args in omega (arith, at_width c, decimal_whole a.places a.n)
+first : (g : Over) (c : After-put_low g)
+    → c.put_low.new.out ≡ splice c.args.out.now c.args.at (low_digits c.width-width.result (down c.args.places (g.N.Digits.number c.args.n)))
+first g c = c.put_low.ensures ∙ ap (λ (m : ℕ). splice c.args.out.now c.args.at (low_digits c.width-width.result m)) c.down-whole.ensures
 
-room_more : (c : After-width-w) → let a = c.args in 0 < a.places → a.at + c.width-w.result + 1 + a.places ≤ length a.out.now
-room_more c h = let a = c.args in omega (arith, at_width c, decimal_long a.places a.n h)
-
--- after they were written
-some : (c : Else-places-eq0) → 0 < c.args.places
-some c = omega (arith, c.if-places-eq0.false)
-
-first : (c : After-put_low) → let s = c in
-    c.put_low.new.out ≡ splice s.args.out.now s.args.at (low_digits c.width-w.result (down s.args.places s.args.n))
-first c =
-    let s = c in
-    c.put_low.ensures ∙ ap (λ (m : ℕ). splice s.args.out.now s.args.at (low_digits c.width-w.result m)) c.down-whole.ensures
+-- so much room has all of it, where it has a point
+room : (g : Over) (c : After-width-width g) → 0 < c.args.places → c.args.at + c.width-width.result + 1 + c.args.places ≤ length c.args.out.now
+room g c h = omega (arith, at_width g c, decimal_long c.args.places (g.N.Digits.number c.args.n) h)
 
 pub put_low-requires : goal.put_low-requires
-put_low-requires c = room (goal.at.put_low-requires c).After-width-w
-
-pub returns-then-places-eq0 : goal.returns-then-places-eq0
-returns-then-places-eq0 c =
-    let w = c in
-    let a = c.args in
-    let z = decimal_zero a.places a.n c.if-places-eq0.true in
-    first (goal.at.returns-then-places-eq0 c).After-put_low
-    ∙ ap (λ (k : ℕ). splice a.out.now a.at (low_digits k (down a.places a.n))) (at_width (goal.at.returns-then-places-eq0 c).After-width-w)
-    ∙ ap (splice a.out.now a.at) (low_all (down a.places a.n) ∙ sym z)
-
-pub overflow_add-out : goal.overflow_add-out
-overflow_add-out c = omega (arith, room_more (goal.at.overflow_add-out c).After-width-w (some c))
+put_low-requires g c = omega (arith, at_width g (goal.at.put_low-requires g c).After-width-width, decimal_whole c.args.places (g.N.Digits.number c.args.n))
 
 pub bounds-out-at : goal.bounds-out-at
-bounds-out-at c = omega (arith, room_more (goal.at.bounds-out-at c).After-width-w (some c), c.put_low.auto.out)
+bounds-out-at g c = omega (arith, room g (goal.at.bounds-out-at g c).After-width-width c.if-places-gt0.true, c.put_low.auto.out)
 
-pub overflow_add-at : goal.overflow_add-at
-overflow_add-at c = omega (arith, room_more (goal.at.overflow_add-at c).After-width-w (some (goal.at.overflow_add-at c).Else-places-eq0))
+pub put_low-requires-then-places-gt0 : goal.put_low-requires-then-places-gt0
+put_low-requires-then-places-gt0 g c =
+    rw length-set (omega (arith, room g (goal.at.put_low-requires-then-places-gt0 g c).After-width-width c.if-places-gt0.true, c.put_low.auto.out))
 
-pub overflow_add-at-2 : goal.overflow_add-at-2
-overflow_add-at-2 c = omega (arith, room_more (goal.at.overflow_add-at-2 c).After-width-w (some (goal.at.overflow_add-at-2 c).Else-places-eq0))
-
-pub put_low-requires-2 : goal.put_low-requires-2
-put_low-requires-2 c =
-    let w = c in
+pub returns-then-places-gt0 : goal.returns-then-places-gt0
+returns-then-places-gt0 g c =
     let a = c.args in
-    let l = c.put_low in
-    omega (arith, room_more (goal.at.put_low-requires-2 c).After-width-w (some (goal.at.put_low-requires-2 c).Else-places-eq0), length-set l.new.out (a.at + w.width-w.result) 46, l.auto.out)
+    let w = c.width-width.result in
+    let n = g.N.Digits.number a.n in
+    c.put_low-then-places-gt0.ensures
+    ∙ ap (λ (p : ℕ). splice (set c.put_low.new.out (a.at + w) 46) (a.at + w + 1) (low_digits p n)) c.from.ensures
+    ∙ ap (λ (t : List ℕ). splice (set t (a.at + w) 46) (a.at + w + 1) (low_digits a.places n)) (first g (goal.at.returns-then-places-gt0 g c).After-put_low)
+    ∙ decimal_put a.out.now a.at a.places n w (at_width g (goal.at.returns-then-places-gt0 g c).After-width-width) c.if-places-gt0.true c.requires
 
-pub shape_of-out : goal.shape_of-out
-shape_of-out c =
-    let e = c in
-    let w = c in
-    let l = c.put_low in
-    c.put_low-2.auto.out ∙ length-set l.new.out (c.args.at + w.width-w.result) 46 ∙ l.auto.out
-
-pub returns : goal.returns
-returns c =
-    let e = c in
-    let w = c in
+pub returns-else-places-gt0 : goal.returns-else-places-gt0
+returns-else-places-gt0 g c =
     let a = c.args in
-    c.put_low-2.ensures
-    ∙ ap (λ (t : List ℕ). splice (set t (a.at + w.width-w.result) 46) (a.at + w.width-w.result + 1) (low_digits a.places a.n)) (first (goal.at.returns c).After-put_low)
-    ∙ decimal_put a.out.now a.at a.places a.n w.width-w.result (at_width (goal.at.returns c).After-width-w) (some (goal.at.returns c).Else-places-eq0) (omega arith)
+    let n = g.N.Digits.number a.n in
+    first g (goal.at.returns-else-places-gt0 g c).After-put_low
+    ∙ ap (λ (k : ℕ). splice a.out.now a.at (low_digits k (down a.places n))) (at_width g (goal.at.returns-else-places-gt0 g c).After-width-width)
+    ∙ ap (splice a.out.now a.at) (low_all (down a.places n) ∙ sym (decimal_zero a.places n (omega arith)))

@@ -1,43 +1,24 @@
 -- `decimal::put_right` meets its contract: blanks, then the decimal, where they have room. Assumes nothing.
-use mathlib.Core.Path.{◌≡◌, sym, ap, ◌∙◌}
-use mathlib.Core.List.{List}
-use Prim.Native.Nat.{ℕ, ◌+◌, ◌-◌}
-use native.Mathlib.Omega.{arith}
-use lib.ListN.{length}
-use Rattle.prelude.specs.Span.{splice}
-use Rattle.decimal.specs.Decimal.{decimal, right}
+use Rattle.std.proofs.Common.{◌≡◌, List, ℕ, ◌+◌, replicate, sym, ap, ◌∙◌, rules, arith, length-take, length-drop}
+use Rattle.prelude.specs.Span.{splice, part_splice}
+use Rattle.decimal.specs.Decimal.{blank, decimal, right}
 use Rattle.decimal.specs.Laws.Columns.{right_long, right_put, written_room, written_none}
 use Rattle.decimal.proofs.put_right.Goals as goal
-use Rattle.decimal.proofs.put_right.Goals.{After-less-blanks}
 
--- the blanks
-at_less : (c : After-less-blanks) → let a = c.args in c.less-blanks.result ≡ a.columns - length (decimal a.places a.n)
-at_less c = let a = c.args in c.less-blanks.ensures ∙ ap (λ (m : ℕ). a.columns - m) c.decimal_length-long.ensures.0
-
--- what is written
-whole_of : (c : After-less-blanks) → length (right c.args.columns (decimal c.args.places c.args.n)) ≡ c.less-blanks.result + c.decimal_length-long.result
-whole_of c =
+pub returns-then-saturating_add-out : goal.returns-then-saturating_add-out
+returns-then-saturating_add-out g c =
     let a = c.args in
-    omega (arith, right_long a.columns (decimal a.places a.n), at_less c, c.decimal_length-long.ensures.0)
-
-pub returns-then-out-all : goal.returns-then-out-all
-returns-then-out-all c =
-    let a = c.args in
-    written_none a.out.now a.at (right a.columns (decimal a.places a.n)) (omega (arith, whole_of (goal.at.returns-then-out-all c).After-less-blanks))
-
-pub returns-then-at-out : goal.returns-then-at-out
-returns-then-at-out c =
-    let a = c.args in
-    written_none a.out.now a.at (right a.columns (decimal a.places a.n)) (omega (arith, whole_of (goal.at.returns-then-at-out c).After-less-blanks))
-
-pub returns : goal.returns
-returns c =
-    let p = c in
-    let f = c in
-    let l = c in
-    let a = c.args in
-    let d : List ℕ = decimal a.places a.n in
+    let w = decimal a.places (g.N.Digits.number a.n) in
+    let k = c.saturating_sub-blanks.result in
+    let blanks : c.fill.new.self ≡ replicate k blank =
+    c.fill.ensures.after (λ y h. search rules) ∙ ap (λ (m : ℕ). replicate m blank) (simp (length-take, length-drop) (omega arith)) in
     c.put_here.ensures
-    ∙ ap (λ (t : List ℕ). splice t (a.at + l.less-blanks.result) d) p.put_blanks.ensures
-    ∙ right_put a.out.now a.at a.columns d l.less-blanks.result (at_less (goal.at.returns c).After-less-blanks) (omega (arith, c.decimal_length-long.ensures.0))
-    ∙ sym (written_room a.out.now a.at (right a.columns d) (omega (arith, whole_of (goal.at.returns c).After-less-blanks)))
+    ∙ ap (λ (t : List ℕ). splice t (a.at + k) w) (part_splice a.out.now c.fill.new.self a.at k (omega arith) ∙ ap (splice a.out.now a.at) blanks)
+    ∙ right_put a.out.now a.at a.columns w k (omega (arith, c.decimal_length-long.ensures.0)) (omega arith)
+    ∙ sym (written_room a.out.now a.at (right a.columns w) (omega (arith, right_long a.columns w, c.decimal_length-long.ensures.0)))
+
+pub returns-else-saturating_add-out : goal.returns-else-saturating_add-out
+returns-else-saturating_add-out g c =
+    let a = c.args in
+    let w = decimal a.places (g.N.Digits.number a.n) in
+    written_none a.out.now a.at (right a.columns w) (omega (arith, right_long a.columns w, c.decimal_length-long.ensures.0))

@@ -1,30 +1,19 @@
 -- Decimals in columns: how wide, how code writes them, that they are digits, blanks and one point, where they stand, and that
 -- a number is written one way. Rests on Back and Width.
 use Prim.Native.Nat.{ℕ, zero, suc, ◌+◌, ◌-◌, ◌*◌, ◌/◌, ◌≤◌, ◌<◌}
-use Rattle.std.specs.Prelude.{◌≡◌, refl, List, [], ◌∷◌, ◌++◌, true, leb, ltb, length, replicate, drop, get_or, set}
+use Rattle.std.specs.Prelude.{◌≡◌, refl, List, [], ◌∷◌, ◌++◌, true, leb, ltb, length, replicate, drop, get_or}
 use Rattle.std.proofs.Common.{sym, ap, ◌∙◌, append_assoc, arith, leb-true, le-leb, length-append, get_or-append-add}
 use Rattle.std.proofs.lemmas.Bool.{lt-leb}
-use Rattle.std.proofs.lemmas.List.{get_or-replicate, length-replicate, replicate-append-replicate}
+use Rattle.std.proofs.lemmas.List.{get_or-replicate, length-replicate}
 use Rattle.std.proofs.Math.ListN.{get_or-append}
 use Rattle.prelude.specs.Cases.{if◌then◌otherwise◌, split_if, if_true, if_false, both_true}
-use Rattle.prelude.specs.Span.{splice, length_splice, splice_append, set_splice}
+use Rattle.prelude.specs.Span.{splice, splice_append}
 use Rattle.decimal.specs.Decimal.{blank, point, lowest, digits_by, digits, low_digits, down, decimal, right, is_digit, read_from, number_in, written}
 use Rattle.decimal.specs.Laws.Back.{digit_is}
 
 pub length_right : (columns : ℕ) (s : List ℕ) → length s ≤ columns → length (right columns s) ≡ columns
 unfolding right
 length_right columns s h = simp (length-append, length-replicate) (omega arith)
-
--- one blank more behind the others
-pub blank_more : (s : List ℕ) (at i : ℕ) → at + suc i ≤ length s
-    → set (splice s at (replicate i blank)) (at + i) blank ≡ splice s at (replicate (i + 1) blank)
-blank_more s at i h =
-    let l : length (replicate i blank) ≡ i = length-replicate i blank in
-    let k : length (splice s at (replicate i blank)) ≡ length s = length_splice s at (replicate i blank) (omega arith) in
-    set_splice (splice s at (replicate i blank)) (at + i) blank (omega arith)
-    ∙ ap (λ (n : ℕ). splice (splice s at (replicate i blank)) (at + n) (blank ∷ [])) (sym l)
-    ∙ splice_append s at (replicate i blank) (blank ∷ []) (omega arith)
-    ∙ ap (splice s at) (replicate-append-replicate i 1 blank)
 
 pub right_long : (columns : ℕ) (s : List ℕ) → length (right columns s) ≡ (columns - length s) + length s
 unfolding right

@@ -3,6 +3,7 @@ use Rattle.std.specs.Prelude.{ℕ, zero, suc, ◌+◌, ◌*◌, ◌/◌, ◌^◌
 use Rattle.std.proofs.Common.{sym, ap, ◌∙◌, append_assoc, lt_of_lt_of_le, lt_of_le_of_lt, le_trans, mul-le-mul_left, arith, ltb-false, lt-ltb, le-ltb, lit≤, length-append}
 use Rattle.std.proofs.Math.Decide.{dec_lt}
 use Rattle.std.proofs.Math.ListN.{get_or-append}
+use Rattle.std.proofs.Math.Nat.{pow-succ', one-le-pow}
 use Rattle.prelude.specs.Cases.{if◌then◌otherwise◌, split_if, if_true, if_false}
 use Rattle.prelude.specs.Span.{splice, length_splice, splice_append, splice_before, set_splice}
 use Rattle.decimal.specs.Decimal.{point, lowest, digits_by, digits, low_digits, down, decimal}
@@ -97,10 +98,6 @@ pub width_some : (n : ℕ) → 1 ≤ length (digits n)
 unfolding digits
 width_some n = (width_by n n (omega arith)).0
 
-pub width_least : (n : ℕ) → 10 ≤ n → length (digits n) ≤ n
-unfolding digits
-width_least n h = let i : length (digits (n / 10)) ≤ suc (n / 10) = (width_by (n / 10) (n / 10) (omega arith)).1 in omega (arith, width_more n h)
-
 -- 10 ^ k
 abbrev pub tens : ℕ → ℕ
 tens zero = 1
@@ -114,6 +111,13 @@ width_bound (suc k) n h = go (dec_lt n 10) (width_bound k (n / 10))
     go : Dec (n < 10) → (n / 10 < tens (suc k) → length (digits (n / 10)) ≤ suc k) → length (digits n) ≤ suc (suc k)
     go (yes l) f = omega (arith, width_one n l)
     go (no l) f = let m : 10 ≤ n = omega arith in omega (arith, width_more n m, f (omega arith))
+
+-- and one from 10 ^ k on that many
+pub width_power : (k n : ℕ) → 10 ^ k ≤ n → n < 10 * 10 ^ k → length (digits n) ≡ suc k
+width_power zero n l h = width_one n (omega arith)
+width_power (suc k) n l h =
+    let e : 10 ^ suc k ≡ 10 * 10 ^ k = pow-succ' 10 k in
+    omega (arith, width_more n (omega (arith, one-le-pow k 10)), width_power k (n / 10) (omega arith) (omega arith))
 
 -- a number below 10 ^ (k + 1) needs no more than k steps
 small : (k n : ℕ) → n < 10 → digits_by k n ≡ lowest n ∷ []

@@ -1,24 +1,26 @@
 -- What the writer's functions promise each other: a value planned before it is written, its length, and the room that is left.
 -- No promise to others rests on this. Rests on Values and Record.
-use Rattle.std.specs.Prelude.{ℕ, ◌+◌, ◌-◌, ◌*◌, ◌^◌, ◌≤◌, ◌<◌, ◌≡◌, List, [], ◌∷◌, ◌++◌, Bool, true, false, not, eqb, leb, length, get_or, drop}
-use Rattle.std.proofs.Math.Option.{Option, none, some}
+use Rattle.std.specs.Prelude.{ℕ, ◌+◌, ◌-◌, ◌*◌, ◌^◌, ◌≤◌, ◌<◌, ◌≡◌, List, [], ◌∷◌, ◌++◌, Bool, true, false, not, eqb, leb, length, get_or, drop, Option, None, Some}
 use Rattle.prelude.specs.Cases.{if◌then◌otherwise◌}
 use Rattle.prelude.specs.Below.{all_below}
 use Rattle.prelude.specs.Number.{number}
 use Rattle.prelude.specs.Span.{span}
 use Rattle.bits.specs.Map.{bit}
+use Rattle.format.specs.Format.{is_text_bit}
 use Rattle.format.specs.Places.{start, content, value, map_at}
 use Rattle.format.specs.Refusal.{ranged}
 use Rattle.records.specs.Parts.{whole_message}
 use Rattle.decimal.specs.Decimal.{digits, decimal}
 use Rattle.fix_words.specs.Spelling.{Field, field, spellings}
 use Rattle.fix_table.specs.Table.{form_of, spoken, none_number}
+use Rattle.fix_table.specs.declared.Form.{Form}
+use Rattle.fix_table.specs.declared.Form.TheVariants.{Text, Code, Number as Decimals}
 use Rattle.fix_words.specs.Rows.{Row, field_of}
 use Rattle.fix_words.specs.Values.{rows, type_of}
 use Rattle.fix_words.specs.Message.{version, is_text, inner}
 use Rattle.fix_words.specs.Record.{Session, writing_of, write_refusal}
 use Rattle.fix.specs.declared.value.Value.{Value}
-use Rattle.fix.specs.declared.room.Room.{Room}
+use Rattle.fix.specs.declared.value.Value.TheVariants.{Nothing, Bytes, Number, Words, Exec}
 use Rattle.fix.specs.declared.write.Plan.{Plan}
 
 -- ---- a record's parts, as records gives them
@@ -33,48 +35,29 @@ pub record Parted (s : List ℕ) (m : ℕ) (at ns : List ℕ) (upper : ℕ) : Ty
 
 -- ---- a value, planned
 
--- none
-abbrev pub nothing : Value
-nothing = record { form = 0; from = 0; count = 0; low = 0; high = 0; places = 0 }
+-- by its form the value of bit b that stands and ends at `to`, from its number
+abbrev pub by_form : (to n high b : ℕ) → Form → Value
+by_form to n high b Text = Bytes (to - n) n
+by_form to n high b Code = Bytes (to - 1) 1
+by_form to n high b (Decimals places) = Number n (if eqb b 26 then high otherwise 0) places
 
--- bytes that stand in a buffer
-abbrev pub bytes_from : (from count : ℕ) → Value
-bytes_from f n = record { form = 1; from = f; count = n; low = 0; high = 0; places = 0 }
-
--- a number of two words
-abbrev pub numbered : (low high places : ℕ) → Value
-numbered l h p = record { form = 2; from = 0; count = 0; low = l; high = h; places = p }
-
--- words of our own
-abbrev pub worded : ℕ → Value
-worded n = record { form = 3; from = 0; count = 0; low = n; high = 0; places = 0 }
-
--- bytes that stand in a buffer, a point and a number
-abbrev pub exec_from : (from count low : ℕ) → Value
-exec_from f n l = record { form = 4; from = f; count = n; low = l; high = 0; places = 0 }
-
--- the value of bit b that stands and ends at `to`, from its number
 unfoldable pub plain_plan : (to n high b : ℕ) → Value
-plain_plan to n high b =
-    if eqb (form_of b) 2 then bytes_from (to - n) n otherwise
-    if eqb (form_of b) 1 then bytes_from (to - 1) 1 otherwise
-    if eqb b 26 then numbered n high (form_of b) otherwise
-    numbered n 0 (form_of b)
+plain_plan to n high b = by_form to n high b (form_of b)
 
 unfoldable pub fixed_plan : (m n : ℕ) → Value
-fixed_plan m n = if bit m 27 then worded n otherwise nothing
+fixed_plan m n = if bit m 27 then Words n otherwise Nothing
 
 -- the ExecID
 unfoldable pub exec_plan : (m : ℕ) (at ns : List ℕ) → Value
-exec_plan m at ns = if bit m 25 then exec_from (get_or at 3 0 - get_or ns 2 0) (get_or ns 2 0) (get_or ns 25 0) otherwise nothing
+exec_plan m at ns = if bit m 25 then Exec (get_or at 3 0 - get_or ns 2 0) (get_or ns 2 0) (get_or ns 25 0) otherwise Nothing
 
 -- what stands in a reject for a bit that does not
 unfoldable pub instead_plan : (k m n b : ℕ) → Value
 instead_plan k m n b =
-    if not (eqb k 17) then nothing otherwise
-    if eqb b 2 then worded none_number otherwise
+    if not (eqb k 17) then Nothing otherwise
+    if eqb b 2 then Words none_number otherwise
     if eqb b 20 then fixed_plan m n otherwise
-    nothing
+    Nothing
 
 unfoldable pub planned : (k m : ℕ) (at ns : List ℕ) (high b : ℕ) → Value
 planned k m at ns high b =
@@ -86,32 +69,47 @@ planned k m at ns high b =
 -- ---- what a planned value is, and how long
 
 unfoldable pub said_by : List ℕ → Value → List ℕ
-said_by s v =
-    if eqb v.form 1 then span s v.from v.count otherwise
-    if eqb v.form 2 then decimal v.places (v.low + 2 ^ 64 * v.high) otherwise
-    if eqb v.form 3 then get_or spoken v.low [] otherwise
-    span s v.from v.count ++ (46 ∷ digits v.low)
+said_by s Nothing = []
+said_by s (Bytes f n) = span s f n
+said_by s (Number l h p) = decimal p (l + 2 ^ 64 * h)
+said_by s (Words n) = get_or spoken n []
+said_by s (Exec f n l) = span s f n ++ (46 ∷ digits l)
+
+abbrev pub stands : Value → Bool
+stands Nothing = false
+stands (Bytes f n) = true
+stands (Number l h p) = true
+stands (Words n) = true
+stands (Exec f n l) = true
 
 unfoldable pub shown : List ℕ → Value → Option (List ℕ)
-shown s v = if eqb v.form 0 then none otherwise some (said_by s v)
+shown s v = if stands v then Some (said_by s v) otherwise None
 
 unfoldable pub long_of : Value → ℕ
-long_of v =
-    if eqb v.form 1 then v.count otherwise
-    if eqb v.form 2 then length (decimal v.places (v.low + 2 ^ 64 * v.high)) otherwise
-    if eqb v.form 3 then length (get_or spoken v.low []) otherwise
-    v.count + (1 + length (digits v.low))
+long_of Nothing = 0
+long_of (Bytes f n) = n
+long_of (Number l h p) = length (decimal p (l + 2 ^ 64 * h))
+long_of (Words n) = length (get_or spoken n [])
+long_of (Exec f n l) = n + (1 + length (digits l))
 
 -- a field: the tag, =, the value, SOH
 unfoldable pub field_long : ℕ → Value → ℕ
-field_long tag v = if eqb v.form 0 then 0 otherwise length (decimal 0 tag) + (1 + (long_of v + 1))
+field_long tag v = if stands v then length (decimal 0 tag) + (1 + (long_of v + 1)) otherwise 0
 
 abbrev pub field_shown : List ℕ → ℕ → Value → List ℕ
 field_shown s tag v = spellings (field_of tag (shown s v) [])
 
+-- where its bytes end
+abbrev pub reach : Value → ℕ
+reach Nothing = 0
+reach (Bytes f n) = f + n
+reach (Number l h p) = 0
+reach (Words n) = 0
+reach (Exec f n l) = f + n
+
 -- its bytes stand in the buffer
 abbrev pub Sound : List ℕ → Value → Type 0
-Sound s v = v.from + v.count ≤ length s
+Sound s v = reach v ≤ length s
 
 -- the fields of rows
 unfoldable pub rows_long : List Row → (ℕ → Value) → ℕ
@@ -124,8 +122,9 @@ rows_shown s (r ∷ rows) f = field_shown s r.tag (f r.bit) ++ rows_shown s rows
 
 -- ---- the room that is left
 
-unfoldable pub less_by : Room → ℕ → Room
-less_by r n = if r.fits then (if leb n r.left then record { fits = true; left = r.left - n } otherwise record { fits = false; left = 0 }) otherwise record { fits = false; left = 0 }
+unfoldable pub less_by : Option ℕ → ℕ → Option ℕ
+less_by None n = None
+less_by (Some room) n = if leb n room then Some (room - n) otherwise None
 
 -- ---- the fields before the body
 
@@ -161,7 +160,7 @@ inner_long sender target sequence time k m at ns high =
 
 unfoldable pub text_right : List ℕ → (m to n b : ℕ) → Bool
 text_right s m to n b =
-    if not (eqb (form_of b) 2) then true otherwise
+    if not (is_text_bit b) then true otherwise
     if not (bit m b) then true otherwise
     is_text (span s (to - n) n)
 
@@ -171,6 +170,6 @@ texts_right s m at ns = all_below (λ b. text_right s m (get_or at (b + 1) 0) (g
 -- ---- what is decided before a byte is written
 
 pub record Decided (s : List ℕ) (n : Session) (room : ℕ) (p : Plan) : Type 0 where
-  pub refusal : p.refusal ≡ write_refusal s n room
-  pub parted : p.refusal ≡ 0 → Parted s p.map p.at p.numbers p.high
-  pub body : p.refusal ≡ 0 → p.body ≡ length (spellings (inner (writing_of s n)))
+  pub taken : write_refusal s n room ≡ 0
+  pub parted : Parted s p.parts.map p.parts.at p.parts.numbers p.parts.high
+  pub body : p.body ≡ length (spellings (inner (writing_of s n)))

@@ -1,10 +1,9 @@
 -- A value planned from a record's parts is the one that the definitions say, and its bytes stand in the record. Rests on Plan.
-use Rattle.std.specs.Prelude.{ℕ, suc, ◌+◌, ◌-◌, ◌*◌, ◌^◌, ◌≤◌, ◌<◌, ◌≡◌, Bool, not, ◌||◌, leb, take, drop}
+use Rattle.std.specs.Prelude.{ℕ, suc, ◌+◌, ◌-◌, ◌*◌, ◌^◌, ◌≤◌, ◌<◌, ◌≡◌, Bool, not, ◌||◌, leb, take, drop, Option, None, Some}
 use Rattle.std.proofs.Math.Path.{refl, sym, ap, subst}
 use Rattle.std.proofs.Common.{◌∙◌, add-one, lit<, lit≤, take_all}
 use mathlib.Core.List.{List, [], ◌∷◌, ◌++◌}
 use Rattle.std.proofs.Math.Bool.{true, false}
-use Rattle.std.proofs.Math.Option.{Option, none, some}
 use Rattle.std.proofs.Math.Decide.{ℕ_discrete}
 use native.Mathlib.Omega.{arith}
 use borrow.Author.Tests.{eqb-true, ne_eqb, leb-true}
@@ -16,7 +15,7 @@ use Rattle.prelude.specs.Number.{number}
 use Rattle.prelude.specs.Span.{span, span_none, span_drop}
 use Rattle.bits.specs.Map.{bit}
 use Rattle.format.specs.Codes.{within}
-use Rattle.format.specs.Format.{size, range, fields, is_text_bit, in_range, side, status, quantity, price}
+use Rattle.format.specs.Format.{size, range, fields, is_text_bit, in_range, side, status}
 use Rattle.format.specs.Places.{extent, start, strip, part, content, value, map_at, right_at, shaped}
 use Rattle.format.specs.Laws.Places.{start_up, start_on, length_part, content_off, length_number}
 use Rattle.format.specs.Refusal.{ranged, message_shaped}
@@ -26,28 +25,29 @@ use Rattle.decimal.specs.Decimal.{digits, decimal}
 use Rattle.fix_words.specs.Values.{texts, words_of, none_word, is_plain, places, spelling, over, or_else, either, exec_id, fixed_words, value_of}
 use Rattle.fix_words.specs.Record.{field_at}
 use Rattle.fix.specs.declared.value.Value.{Value}
-use Rattle.fix.specs.Laws.Plan.{Parted, nothing, bytes_from, numbered, worded, exec_from, plain_plan, fixed_plan, exec_plan, instead_plan, planned, said_by, shown, Sound}
+use Rattle.fix.specs.declared.value.Value.TheVariants.{Nothing, Bytes, Number, Words, Exec}
+use Rattle.fix.specs.Laws.Plan.{Parted, plain_plan, fixed_plan, exec_plan, instead_plan, planned, said_by, shown, Sound}
 use Rattle.fix_table.specs.Table.{spoken, form_of}
 
 -- ---- what each form shows
 
-shown_bytes : (s : List ℕ) (f n : ℕ) → shown s (bytes_from f n) ≡ some (span s f n)
+shown_bytes : (s : List ℕ) (f n : ℕ) → shown s (Bytes f n) ≡ Some (span s f n)
 unfolding shown said_by if◌then◌otherwise◌
 shown_bytes s f n = refl
 
-shown_number : (s : List ℕ) (l h p : ℕ) → shown s (numbered l h p) ≡ some (decimal p (l + 2 ^ 64 * h))
+shown_number : (s : List ℕ) (l h p : ℕ) → shown s (Number l h p) ≡ Some (decimal p (l + 2 ^ 64 * h))
 unfolding shown said_by if◌then◌otherwise◌
 shown_number s l h p = refl
 
-shown_words : (s : List ℕ) (n : ℕ) → shown s (worded n) ≡ some (get_or spoken n [])
+shown_words : (s : List ℕ) (n : ℕ) → shown s (Words n) ≡ Some (get_or spoken n [])
 unfolding shown said_by if◌then◌otherwise◌
 shown_words s n = refl
 
-shown_exec : (s : List ℕ) (f n l : ℕ) → shown s (exec_from f n l) ≡ some (span s f n ++ (46 ∷ digits l))
+shown_exec : (s : List ℕ) (f n l : ℕ) → shown s (Exec f n l) ≡ Some (span s f n ++ (46 ∷ digits l))
 unfolding shown said_by if◌then◌otherwise◌
 shown_exec s f n l = refl
 
-shown_nothing : (s : List ℕ) → shown s nothing ≡ none
+shown_nothing : (s : List ℕ) → shown s Nothing ≡ None
 unfolding shown if◌then◌otherwise◌
 shown_nothing s = refl
 
@@ -87,13 +87,6 @@ number_eight : (b : ℕ) → b < 32 → is_text_bit b ≡ false → within side 
 unfolding sized if◌then◌otherwise◌
 number_eight b h t w z = let q : sized b ≡ true = all_elim sized 32 all_sized b h in leb-true (size b) 8 (rw (t, w, z) at q)
 
--- the number of decimals is neither mark
-pub places_no : (b : ℕ) → (eqb (places b) 2 ≡ false) × (eqb (places b) 1 ≡ false)
-unfolding places
-places_no b =
-    split_if (λ (n : ℕ). (eqb n 2 ≡ false) × (eqb n 1 ≡ false)) (eqb (range b) quantity) (λ e. (refl, refl))
-    (λ e. split_if (λ (n : ℕ). (eqb n 2 ≡ false) × (eqb n 1 ≡ false)) (eqb (range b) price || eqb b 26) (λ f. (refl, refl)) (λ f. (refl, refl)))
-
 module _ (s : List ℕ) (m : ℕ) (at ns : List ℕ) (high : ℕ) (p : Parted s m at ns high) where
   inside : start s 0 m 32 ≤ length s
   unfolding whole_message message_shaped
@@ -108,15 +101,15 @@ module _ (s : List ℕ) (m : ℕ) (at ns : List ℕ) (high : ℕ) (p : Parted s 
   ends : (b : ℕ) → b < 32 → get_or at (b + 1) 0 ≡ start s 0 m (suc b)
   ends b h = rw add-one (p.places (suc b) (omega arith))
 
-  field_is : (b : ℕ) → field_at s b ≡ (if bit m b then some (content s 0 m b) otherwise none)
+  field_is : (b : ℕ) → field_at s b ≡ (if bit m b then Some (content s 0 m b) otherwise None)
   unfolding field_at
-  field_is b = ap (λ (x : ℕ). if bit x b then some (content s 0 x b) otherwise none) (sym p.map)
+  field_is b = ap (λ (x : ℕ). if bit x b then Some (content s 0 x b) otherwise None) (sym p.map)
 
-  pub on : (b : ℕ) → bit m b ≡ true → field_at s b ≡ some (content s 0 m b)
-  on b e = field_is b ∙ if_true (bit m b) (some (content s 0 m b)) none e
+  pub on : (b : ℕ) → bit m b ≡ true → field_at s b ≡ Some (content s 0 m b)
+  on b e = field_is b ∙ if_true (bit m b) (Some (content s 0 m b)) None e
 
-  pub off : (b : ℕ) → bit m b ≡ false → field_at s b ≡ none
-  off b e = field_is b ∙ if_false (bit m b) (some (content s 0 m b)) none e
+  pub off : (b : ℕ) → bit m b ≡ false → field_at s b ≡ None
+  off b e = field_is b ∙ if_false (bit m b) (Some (content s 0 m b)) None e
 
   -- ---- texts
 
@@ -185,21 +178,21 @@ module _ (s : List ℕ) (m : ℕ) (at ns : List ℕ) (high : ℕ) (p : Parted s 
 
   -- ---- a bit that stands
 
-  plain_shown : (b : ℕ) → b < 32 → bit m b ≡ true → shown s (plain_plan (get_or at (b + 1) 0) (get_or ns b 0) high b) ≡ some (spelling b (content s 0 m b))
+  plain_shown : (b : ℕ) → b < 32 → bit m b ≡ true → shown s (plain_plan (get_or at (b + 1) 0) (get_or ns b 0) high b) ≡ Some (spelling b (content s 0 m b))
   unfolding plain_plan form_of spelling is_plain if◌then◌otherwise◌
   plain_shown b h e = go (is_text_bit b) refl (within side status (range b)) refl (eqb b 26) refl
     where
       go : (x : Bool) → is_text_bit b ≡ x → (y : Bool) → within side status (range b) ≡ y → (z : Bool) → eqb b 26 ≡ z
-          → shown s (plain_plan (get_or at (b + 1) 0) (get_or ns b 0) high b) ≡ some (spelling b (content s 0 m b))
-      go true t y w z q = rw (t) (shown_bytes s (get_or at (b + 1) 0 - get_or ns b 0) (get_or ns b 0) ∙ ap {B = Option (List ℕ)} some (text_there b h t))
-      go false t true w z q = rw (t, w) (shown_bytes s (get_or at (b + 1) 0 - 1) 1 ∙ ap {B = Option (List ℕ)} some (code_there b h t w e).0)
+          → shown s (plain_plan (get_or at (b + 1) 0) (get_or ns b 0) high b) ≡ Some (spelling b (content s 0 m b))
+      go true t y w z q = rw (t) (shown_bytes s (get_or at (b + 1) 0 - get_or ns b 0) (get_or ns b 0) ∙ ap {B = Option (List ℕ)} Some (text_there b h t))
+      go false t true w z q = rw (t, w) (shown_bytes s (get_or at (b + 1) 0 - 1) 1 ∙ ap {B = Option (List ℕ)} Some (code_there b h t w e).0)
       go false t false w true q =
           let i : b ≡ 26 = eqb-true b 26 q in
           let n : get_or ns b 0 + 2 ^ 64 * high ≡ number (content s 0 m b) = subst (λ (j : ℕ). get_or ns j 0 + 2 ^ 64 * high ≡ number (content s 0 m j)) (sym i) (large_number (rw i at e)) in
-          rw (t, w, (places_no b).0, (places_no b).1, q) (shown_number s (get_or ns b 0) high (places b) ∙ ap {B = Option (List ℕ)} (λ (j : ℕ). some (decimal (places b) j)) n)
+          rw (t, w, q) (shown_number s (get_or ns b 0) high (places b) ∙ ap {B = Option (List ℕ)} (λ (j : ℕ). Some (decimal (places b) j)) n)
       go false t false w false q =
           let n : get_or ns b 0 + 2 ^ 64 * 0 ≡ number (content s 0 m b) = omega (arith, small_number b h t e (number_eight b h t w q)) in
-          rw (t, w, (places_no b).0, (places_no b).1, q) (shown_number s (get_or ns b 0) 0 (places b) ∙ ap {B = Option (List ℕ)} (λ (j : ℕ). some (decimal (places b) j)) n)
+          rw (t, w, q) (shown_number s (get_or ns b 0) 0 (places b) ∙ ap {B = Option (List ℕ)} (λ (j : ℕ). Some (decimal (places b) j)) n)
 
   plain_sound : (b : ℕ) → b < 32 → bit m b ≡ true → Sound s (plain_plan (get_or at (b + 1) 0) (get_or ns b 0) high b)
   unfolding plain_plan form_of if◌then◌otherwise◌
@@ -209,8 +202,7 @@ module _ (s : List ℕ) (m : ℕ) (at ns : List ℕ) (high : ℕ) (p : Parted s 
           → Sound s (plain_plan (get_or at (b + 1) 0) (get_or ns b 0) high b)
       go true t y w z q = rw (t) (text_sound b h t)
       go false t true w z q = rw (t, w) (code_there b h t w e).1
-      go false t false w true q = rw (t, w, (places_no b).0, (places_no b).1, q) (omega arith)
-      go false t false w false q = rw (t, w, (places_no b).0, (places_no b).1, q) (omega arith)
+      go false t false w z q = rw (t, w) (omega arith)
 
   -- ---- fixed texts and the ExecID
 
@@ -232,12 +224,12 @@ module _ (s : List ℕ) (m : ℕ) (at ns : List ℕ) (high : ℕ) (p : Parted s 
   unfolding fixed_plan
   fixed_shown = go (bit m 27) refl
     where
-      go : (x : Bool) → bit m 27 ≡ x → shown s (if bit m 27 then worded (get_or ns 27 0) otherwise nothing) ≡ over fixed_words (field_at s 27)
+      go : (x : Bool) → bit m 27 ≡ x → shown s (if bit m 27 then Words (get_or ns 27 0) otherwise Nothing) ≡ over fixed_words (field_at s 27)
       go true e =
-          ap (shown s) (if_true (bit m 27) (worded (get_or ns 27 0)) nothing e) ∙ shown_words s (get_or ns 27 0)
-          ∙ ap {B = Option (List ℕ)} some (spoken_text (get_or ns 27 0) (fixed_number e).1 ∙ ap words_of (fixed_number e).0)
+          ap (shown s) (if_true (bit m 27) (Words (get_or ns 27 0)) Nothing e) ∙ shown_words s (get_or ns 27 0)
+          ∙ ap {B = Option (List ℕ)} Some (spoken_text (get_or ns 27 0) (fixed_number e).1 ∙ ap words_of (fixed_number e).0)
           ∙ ap (over fixed_words) (sym (on 27 e))
-      go false e = ap (shown s) (if_false (bit m 27) (worded (get_or ns 27 0)) nothing e) ∙ shown_nothing s ∙ ap (over fixed_words) (sym (off 27 e))
+      go false e = ap (shown s) (if_false (bit m 27) (Words (get_or ns 27 0)) Nothing e) ∙ shown_nothing s ∙ ap (over fixed_words) (sym (off 27 e))
 
   name_there : or_else [] (field_at s 2) ≡ content s 0 m 2
   name_there = go (bit m 2) refl
@@ -250,12 +242,12 @@ module _ (s : List ℕ) (m : ℕ) (at ns : List ℕ) (high : ℕ) (p : Parted s 
   unfolding exec_plan size range fields
   exec_shown = go (bit m 25) refl
     where
-      go : (x : Bool) → bit m 25 ≡ x → shown s (if bit m 25 then exec_from (get_or at 3 0 - get_or ns 2 0) (get_or ns 2 0) (get_or ns 25 0) otherwise nothing) ≡ over (exec_id (field_at s 2)) (field_at s 25)
+      go : (x : Bool) → bit m 25 ≡ x → shown s (if bit m 25 then Exec (get_or at 3 0 - get_or ns 2 0) (get_or ns 2 0) (get_or ns 25 0) otherwise Nothing) ≡ over (exec_id (field_at s 2)) (field_at s 25)
       go true e =
-          ap (shown s) (if_true (bit m 25) (exec_from (get_or at 3 0 - get_or ns 2 0) (get_or ns 2 0) (get_or ns 25 0)) nothing e) ∙ shown_exec s (get_or at 3 0 - get_or ns 2 0) (get_or ns 2 0) (get_or ns 25 0)
-          ∙ (λ i. some ((text_there 2 (lit< tt) refl ∙ sym name_there) i ++ (46 ∷ digits (small_number 25 (lit< tt) refl e (lit≤ tt) i))))
+          ap (shown s) (if_true (bit m 25) (Exec (get_or at 3 0 - get_or ns 2 0) (get_or ns 2 0) (get_or ns 25 0)) Nothing e) ∙ shown_exec s (get_or at 3 0 - get_or ns 2 0) (get_or ns 2 0) (get_or ns 25 0)
+          ∙ (λ i. Some ((text_there 2 (lit< tt) refl ∙ sym name_there) i ++ (46 ∷ digits (small_number 25 (lit< tt) refl e (lit≤ tt) i))))
           ∙ ap (over (exec_id (field_at s 2))) (sym (on 25 e))
-      go false e = ap (shown s) (if_false (bit m 25) (exec_from (get_or at 3 0 - get_or ns 2 0) (get_or ns 2 0) (get_or ns 25 0)) nothing e) ∙ shown_nothing s ∙ ap (over (exec_id (field_at s 2))) (sym (off 25 e))
+      go false e = ap (shown s) (if_false (bit m 25) (Exec (get_or at 3 0 - get_or ns 2 0) (get_or ns 2 0) (get_or ns 25 0)) Nothing e) ∙ shown_nothing s ∙ ap (over (exec_id (field_at s 2))) (sym (off 25 e))
 
   -- ---- every bit
 
@@ -263,7 +255,7 @@ module _ (s : List ℕ) (m : ℕ) (at ns : List ℕ) (high : ℕ) (p : Parted s 
   Right k b = shown s (planned k m at ns high b) ≡ value_of k (field_at s) b
 
   -- a bit that stands, of those that have no rule of their own
-  planned_on : (k b : ℕ) → b < 32 → eqb b 25 ≡ false → eqb b 27 ≡ false → bit m b ≡ true → shown s (planned k m at ns high b) ≡ some (spelling b (content s 0 m b))
+  planned_on : (k b : ℕ) → b < 32 → eqb b 25 ≡ false → eqb b 27 ≡ false → bit m b ≡ true → shown s (planned k m at ns high b) ≡ Some (spelling b (content s 0 m b))
   unfolding planned if◌then◌otherwise◌
   planned_on k b h p q e = rw (p, q, e) (plain_shown b h e)
 
@@ -281,11 +273,11 @@ module _ (s : List ℕ) (m : ℕ) (at ns : List ℕ) (high : ℕ) (p : Parted s 
     where
       go : (x : Bool) → bit m 2 ≡ x → (y : Bool) → eqb k 17 ≡ y → Right k 2
       go true e true q =
-          rw q (planned_on k 2 (lit< tt) refl refl e ∙ ap {B = Option (List ℕ)} some (text_spelled 2 (content s 0 m 2) refl) ∙ ap (λ (o : Option (List ℕ)). some (or_else none_word o)) (sym (on 2 e)))
+          rw q (planned_on k 2 (lit< tt) refl refl e ∙ ap {B = Option (List ℕ)} Some (text_spelled 2 (content s 0 m 2) refl) ∙ ap (λ (o : Option (List ℕ)). Some (or_else none_word o)) (sym (on 2 e)))
       go true e false q =
-          rw q (planned_on k 2 (lit< tt) refl refl e ∙ ap {B = Option (List ℕ)} some (text_spelled 2 (content s 0 m 2) refl) ∙ sym (on 2 e))
+          rw q (planned_on k 2 (lit< tt) refl refl e ∙ ap {B = Option (List ℕ)} Some (text_spelled 2 (content s 0 m 2) refl) ∙ sym (on 2 e))
       go false e true q =
-          rw (planned_off k 2 refl refl e, q) (shown_words s 19 ∙ ap {B = Option (List ℕ)} some spoken_none ∙ ap (λ (o : Option (List ℕ)). some (or_else none_word o)) (sym (off 2 e)))
+          rw (planned_off k 2 refl refl e, q) (shown_words s 19 ∙ ap {B = Option (List ℕ)} Some spoken_none ∙ ap (λ (o : Option (List ℕ)). Some (or_else none_word o)) (sym (off 2 e)))
       go false e false q = rw (planned_off k 2 refl refl e, q) (shown_nothing s ∙ sym (off 2 e))
 
   at_20 : (k : ℕ) → Right k 20
@@ -294,9 +286,9 @@ module _ (s : List ℕ) (m : ℕ) (at ns : List ℕ) (high : ℕ) (p : Parted s 
     where
       go : (x : Bool) → bit m 20 ≡ x → (y : Bool) → eqb k 17 ≡ y → Right k 20
       go true e true q =
-          rw q (planned_on k 20 (lit< tt) refl refl e ∙ ap {B = Option (List ℕ)} some (text_spelled 20 (content s 0 m 20) refl) ∙ ap (λ (o : Option (List ℕ)). either o (over fixed_words (field_at s 27))) (sym (on 20 e)))
+          rw q (planned_on k 20 (lit< tt) refl refl e ∙ ap {B = Option (List ℕ)} Some (text_spelled 20 (content s 0 m 20) refl) ∙ ap (λ (o : Option (List ℕ)). either o (over fixed_words (field_at s 27))) (sym (on 20 e)))
       go true e false q =
-          rw q (planned_on k 20 (lit< tt) refl refl e ∙ ap {B = Option (List ℕ)} some (text_spelled 20 (content s 0 m 20) refl) ∙ sym (on 20 e))
+          rw q (planned_on k 20 (lit< tt) refl refl e ∙ ap {B = Option (List ℕ)} Some (text_spelled 20 (content s 0 m 20) refl) ∙ sym (on 20 e))
       go false e true q =
           rw (planned_off k 20 refl refl e, q) (fixed_shown ∙ ap (λ (o : Option (List ℕ)). either o (over fixed_words (field_at s 27))) (sym (off 20 e)))
       go false e false q = rw (planned_off k 20 refl refl e, q) (shown_nothing s ∙ sym (off 20 e))

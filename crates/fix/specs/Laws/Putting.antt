@@ -1,9 +1,8 @@
 -- How the writer's bytes come together: a value's length, a field behind a field, and what is left to be written. Rests on Plan.
-use Rattle.std.specs.Prelude.{ℕ, suc, ◌+◌, ◌-◌, ◌*◌, ◌^◌, ◌≤◌, ◌<◌, ◌≡◌, refl, List, [], ◌∷◌, ◌++◌, Bool, true, false, eqb, leb, length, drop, get_or}
+use Rattle.std.specs.Prelude.{ℕ, suc, ◌+◌, ◌-◌, ◌*◌, ◌^◌, ◌≤◌, ◌<◌, ◌≡◌, refl, List, [], ◌∷◌, ◌++◌, Bool, true, false, ◌≢◌, eqb, leb, length, drop, get_or, Option, None, Some}
 use Rattle.std.proofs.Common.{sym, ap, subst, ◌∙◌, arith, leb-true, le-leb, leb-false, eq-eqb, length-append, drop-cons}
-use Rattle.std.proofs.Math.Option.{Option, none, some}
 use Rattle.std.proofs.lemmas.Bool.{lt-leb}
-use Rattle.prelude.specs.Cases.{if◌then◌otherwise◌, if_true, if_false}
+use Rattle.prelude.specs.Cases.{if◌then◌otherwise◌, if_true}
 use Rattle.prelude.specs.Span.{span, splice, length_span, length_splice, splice_append, splice_nil, span_whole}
 use Rattle.decimal.specs.Decimal.{digits_by, digits, decimal}
 use Rattle.fix_words.specs.Spelling.{Field, field, spellings}
@@ -12,89 +11,69 @@ use Rattle.fix_words.specs.Rows.{Row, Values, field_of, body, in_rows}
 use Rattle.fix_words.specs.Laws.Rows.{or_right}
 use Rattle.fix_words.specs.Laws.Counting.{field_long_lem, decimal_none}
 use Rattle.fix.specs.declared.value.Value.{Value}
-use Rattle.fix.specs.declared.room.Room.{Room}
-use Rattle.fix.specs.Laws.Plan.{numbered, bytes_from, said_by, shown, long_of, field_long, field_shown, Sound, rows_long, rows_shown, less_by, head_long, stamp_fields, stamp_long}
-use Rattle.fix_table.specs.Table.{spoken}
+use Rattle.fix.specs.declared.value.Value.TheVariants.{Nothing, Bytes, Number, Words, Exec}
+use Rattle.fix.specs.Laws.Plan.{said_by, stands, shown, long_of, field_long, field_shown, Sound, rows_long, rows_shown, less_by, head_long, stamp_fields, stamp_long}
 
 -- ---- lengths
 
 pub said_long : (s : List ℕ) (v : Value) → Sound s v → length (said_by s v) ≡ long_of v
-unfolding said_by long_of if◌then◌otherwise◌
-said_long s v h = go (eqb v.form 1) (eqb v.form 2) (eqb v.form 3)
-  where
-    go : (a b c : Bool)
-        → length (if a then span s v.from v.count otherwise if b then decimal v.places (v.low + 2 ^ 64 * v.high) otherwise if c then get_or spoken v.low [] otherwise span s v.from v.count ++ (46 ∷ digits v.low))
-        ≡ (if a then v.count otherwise if b then length (decimal v.places (v.low + 2 ^ 64 * v.high)) otherwise if c then length (get_or spoken v.low []) otherwise v.count + (1 + length (digits v.low)))
-    go true b c = length_span s v.from v.count h
-    go false true c = refl
-    go false false true = refl
-    go false false false = length-append (span s v.from v.count) (46 ∷ digits v.low) ∙ omega (arith, length_span s v.from v.count h)
+unfolding said_by long_of
+said_long s Nothing h = refl
+said_long s (Bytes f n) h = length_span s f n h
+said_long s (Number l g p) h = refl
+said_long s (Words n) h = refl
+said_long s (Exec f n l) h = length-append (span s f n) (46 ∷ digits l) ∙ omega (arith, length_span s f n h)
 
 pub shown_long : (s : List ℕ) (tag : ℕ) (v : Value) → Sound s v → length (field_shown s tag v) ≡ field_long tag v
 unfolding shown field_long spellings if◌then◌otherwise◌
-shown_long s tag v h = go (eqb v.form 0)
+shown_long s tag v h = go (stands v)
   where
-    go : (a : Bool) → length (spellings (field_of tag (if a then none otherwise some (said_by s v)) [])) ≡ (if a then 0 otherwise length (decimal 0 tag) + (1 + (long_of v + 1)))
-    go true = refl
-    go false = omega (arith, field_long_lem tag (said_by s v), said_long s v h)
+    go : (a : Bool) → length (spellings (field_of tag (if a then Some (said_by s v) otherwise None) [])) ≡ (if a then length (decimal 0 tag) + (1 + (long_of v + 1)) otherwise 0)
+    go false = refl
+    go true = omega (arith, field_long_lem tag (said_by s v), said_long s v h)
 
 -- a field that stands
-pub shown_some : (s : List ℕ) (tag : ℕ) (v : Value) → eqb v.form 0 ≡ false → field_shown s tag v ≡ spellings (field tag (said_by s v) ∷ [])
+pub standing : (v : Value) → (v ≢ Nothing) → stands v ≡ true
+standing Nothing h = absurd (h refl)
+standing (Bytes f n) h = refl
+standing (Number l g p) h = refl
+standing (Words n) h = refl
+standing (Exec f n l) h = refl
+
+pub shown_some : (s : List ℕ) (tag : ℕ) (v : Value) → stands v ≡ true → field_shown s tag v ≡ spellings (field tag (said_by s v) ∷ [])
 unfolding shown
-shown_some s tag v e = ap (λ (o : Option (List ℕ)). spellings (field_of tag o [])) (if_false (eqb v.form 0) none (some (said_by s v)) e)
+shown_some s tag v e = ap (λ (o : Option (List ℕ)). spellings (field_of tag o [])) (if_true (stands v) (Some (said_by s v)) None e)
 
-pub field_some : (tag : ℕ) (v : Value) → eqb v.form 0 ≡ false → field_long tag v ≡ length (decimal 0 tag) + (1 + (long_of v + 1))
+pub field_some : (tag : ℕ) (v : Value) → stands v ≡ true → field_long tag v ≡ length (decimal 0 tag) + (1 + (long_of v + 1))
 unfolding field_long
-field_some tag v e = if_false (eqb v.form 0) 0 _ e
+field_some tag v e = if_true (stands v) _ 0 e
 
-pub shown_none : (s : List ℕ) (tag : ℕ) (v : Value) → eqb v.form 0 ≡ true → (field_shown s tag v ≡ []) × (field_long tag v ≡ 0)
-unfolding shown field_long spellings
-shown_none s tag v e = (
-  ap (λ (o : Option (List ℕ)). spellings (field_of tag o [])) (if_true (eqb v.form 0) none (some (said_by s v)) e),
-  if_true (eqb v.form 0) 0 _ e,
-)
-
--- by form
-pub form_1 : (s : List ℕ) (v : Value) → v.form ≡ 1 → (long_of v ≡ v.count) × (said_by s v ≡ span s v.from v.count)
-unfolding long_of said_by if◌then◌otherwise◌
-form_1 s v e = (rw e refl, rw e refl)
-
-pub form_2 : (s : List ℕ) (v : Value) → v.form ≡ 2
-    → (long_of v ≡ length (decimal v.places (v.low + 2 ^ 64 * v.high))) × (said_by s v ≡ decimal v.places (v.low + 2 ^ 64 * v.high))
-unfolding long_of said_by if◌then◌otherwise◌
-form_2 s v e = (rw e refl, rw e refl)
-
-pub form_3 : (s : List ℕ) (v : Value) → v.form ≡ 3 → (long_of v ≡ length (get_or spoken v.low [])) × (said_by s v ≡ get_or spoken v.low [])
-unfolding long_of said_by if◌then◌otherwise◌
-form_3 s v e = (rw e refl, rw e refl)
-
-pub form_4 : (s : List ℕ) (v : Value) → eqb v.form 1 ≡ false → eqb v.form 2 ≡ false → eqb v.form 3 ≡ false
-    → (long_of v ≡ v.count + (1 + length (digits v.low))) × (said_by s v ≡ span s v.from v.count ++ (46 ∷ digits v.low))
-unfolding long_of said_by if◌then◌otherwise◌
-form_4 s v e f g = (rw (e, f, g) refl, rw (e, f, g) refl)
+pub shown_none : (s : List ℕ) (tag : ℕ) → (field_shown s tag Nothing ≡ []) × (field_long tag Nothing ≡ 0)
+unfolding shown field_long spellings if◌then◌otherwise◌
+shown_none s tag = (refl, refl)
 
 -- a number and a text as fields
-number_said : (s : List ℕ) (tag n : ℕ) → field_shown s tag (numbered n 0 0) ≡ spellings (field tag (decimal 0 (n + 2 ^ 64 * 0)) ∷ [])
+number_said : (s : List ℕ) (tag n : ℕ) → field_shown s tag (Number n 0 0) ≡ spellings (field tag (decimal 0 (n + 2 ^ 64 * 0)) ∷ [])
 unfolding shown said_by if◌then◌otherwise◌
 number_said s tag n = refl
 
-pub number_field : (s : List ℕ) (tag n : ℕ) → field_shown s tag (numbered n 0 0) ≡ spellings (field tag (digits n) ∷ [])
+pub number_field : (s : List ℕ) (tag n : ℕ) → field_shown s tag (Number n 0 0) ≡ spellings (field tag (digits n) ∷ [])
 number_field s tag n =
     let z : n + 2 ^ 64 * 0 ≡ n = omega arith in
     number_said s tag n ∙ ap (λ (v : List ℕ). spellings (field tag v ∷ [])) (ap (decimal 0) z ∙ decimal_none n)
 
-pub number_long : (tag n : ℕ) → field_long tag (numbered n 0 0) ≡ length (spellings (field tag (digits n) ∷ []))
-number_long tag n = sym (shown_long [] tag (numbered n 0 0) (omega arith)) ∙ ap length (number_field [] tag n)
+pub number_long : (tag n : ℕ) → field_long tag (Number n 0 0) ≡ length (spellings (field tag (digits n) ∷ []))
+number_long tag n = sym (shown_long [] tag (Number n 0 0) (omega arith)) ∙ ap length (number_field [] tag n)
 
-text_said : (s : List ℕ) (tag n : ℕ) → field_shown s tag (bytes_from 0 n) ≡ spellings (field tag (span s 0 n) ∷ [])
+text_said : (s : List ℕ) (tag n : ℕ) → field_shown s tag (Bytes 0 n) ≡ spellings (field tag (span s 0 n) ∷ [])
 unfolding shown said_by if◌then◌otherwise◌
 text_said s tag n = refl
 
-pub text_field : (s : List ℕ) (tag : ℕ) → field_shown s tag (bytes_from 0 (length s)) ≡ spellings (field tag s ∷ [])
+pub text_field : (s : List ℕ) (tag : ℕ) → field_shown s tag (Bytes 0 (length s)) ≡ spellings (field tag s ∷ [])
 text_field s tag = text_said s tag (length s) ∙ ap (λ (v : List ℕ). spellings (field tag v ∷ [])) (span_whole s)
 
-pub text_long : (s : List ℕ) (tag : ℕ) → field_long tag (bytes_from 0 (length s)) ≡ length (spellings (field tag s ∷ []))
-text_long s tag = sym (shown_long s tag (bytes_from 0 (length s)) (omega arith)) ∙ ap length (text_field s tag)
+pub text_long : (s : List ℕ) (tag : ℕ) → field_long tag (Bytes 0 (length s)) ≡ length (spellings (field tag s ∷ []))
+text_long s tag = sym (shown_long s tag (Bytes 0 (length s)) (omega arith)) ∙ ap length (text_field s tag)
 
 -- ---- rows
 
@@ -122,8 +101,8 @@ rows_body s f vs (r ∷ rows) h =
     ∙ go (vs r.bit)
   where
     go : (o : Option (List ℕ)) → spellings (field_of r.tag o []) ++ spellings (body rows vs []) ≡ spellings (field_of r.tag o (body rows vs []))
-    go none = refl
-    go (some v) = sym (spellings_append (field r.tag v ∷ []) (body rows vs []))
+    go None = refl
+    go (Some v) = sym (spellings_append (field r.tag v ∷ []) (body rows vs []))
 
 -- row j and those behind it
 abbrev no_row : Row
@@ -157,33 +136,31 @@ shown_last s f rows j e = ap (λ (l : List Row). rows_shown s l f) (drop_last ro
 
 -- ---- room
 
-abbrev pub no_room : Room
-no_room = record { fits = false; left = 0 }
-
 -- a and then b
-pub less_more : (r : Room) (a b : ℕ) → less_by (less_by r a) b ≡ less_by r (a + b)
+pub less_more : (r : Option ℕ) (a b : ℕ) → less_by (less_by r a) b ≡ less_by r (a + b)
 unfolding less_by if◌then◌otherwise◌
-less_more r a b = go r.fits (leb a r.left) refl
+less_more None a b = refl
+less_more (Some r) a b = go (leb a r) refl
   where
-    under : (x : Bool) → leb b (r.left - a) ≡ x → a ≤ r.left → leb (a + b) r.left ≡ x
-    under true e h = le-leb (a + b) r.left (omega (arith, leb-true b (r.left - a) e))
-    under false e h = lt-leb (a + b) r.left (omega (arith, leb-false b (r.left - a) e))
+    under : (x : Bool) → leb b (r - a) ≡ x → a ≤ r → leb (a + b) r ≡ x
+    under true e h = le-leb (a + b) r (omega (arith, leb-true b (r - a) e))
+    under false e h = lt-leb (a + b) r (omega (arith, leb-false b (r - a) e))
 
-    last : (x : Bool) → leb b (r.left - a) ≡ x → a ≤ r.left
-        → (if leb b (r.left - a) then record { fits = true; left = r.left - a - b } otherwise no_room) ≡ (if leb (a + b) r.left then record { fits = true; left = r.left - (a + b) } otherwise no_room)
-    last true e h = let z : r.left - a - b ≡ r.left - (a + b) = omega arith in rw (e, under true e h, z) refl
+    last : (x : Bool) → leb b (r - a) ≡ x → a ≤ r → (if leb b (r - a) then Some (r - a - b) otherwise None) ≡ (if leb (a + b) r then Some (r - (a + b)) otherwise None)
+    last true e h = let z : r - a - b ≡ r - (a + b) = omega arith in rw (e, under true e h, z) refl
     last false e h = rw (e, under false e h) refl
 
-    go : (x y : Bool) → leb a r.left ≡ y
-        → (let t : Room = (if x then (if y then record { fits = true; left = r.left - a } otherwise no_room) otherwise no_room) in
-        if t.fits then (if leb b t.left then record { fits = true; left = t.left - b } otherwise no_room) otherwise no_room)
-        ≡ (if x then (if leb (a + b) r.left then record { fits = true; left = r.left - (a + b) } otherwise no_room) otherwise no_room)
-    go false y e = refl
-    go true false e = let z : leb (a + b) r.left ≡ false = lt-leb (a + b) r.left (omega (arith, leb-false a r.left e)) in rw z refl
-    go true true e = last (leb b (r.left - a)) refl (leb-true a r.left e)
+    go : (y : Bool) → leb a r ≡ y → less_by (if y then Some (r - a) otherwise None) b ≡ (if leb (a + b) r then Some (r - (a + b)) otherwise None)
+    go false e = let z : leb (a + b) r ≡ false = lt-leb (a + b) r (omega (arith, leb-false a r e)) in rw z refl
+    go true e = last (leb b (r - a)) refl (leb-true a r e)
 
-pub less_three : (r : Room) (a b c : ℕ) → less_by (less_by (less_by r a) b) c ≡ less_by r (a + b + c)
-less_three r a b c = ap (λ (t : Room). less_by t c) (less_more r a b) ∙ less_more r (a + b) c
+pub less_none : (r : Option ℕ) → less_by r 0 ≡ r
+unfolding less_by if◌then◌otherwise◌
+less_none None = refl
+less_none (Some r) = let z : r - 0 ≡ r = omega arith in rw (le-leb 0 r (omega arith), z) refl
+
+pub less_three : (r : Option ℕ) (a b c : ℕ) → less_by (less_by (less_by r a) b) c ≡ less_by r (a + b + c)
+less_three r a b c = ap (λ (t : Option ℕ). less_by t c) (less_more r a b) ∙ less_more r (a + b) c
 
 -- ---- what is left to be written
 

@@ -1,18 +1,18 @@
 -- The whole message from the parts that the writer puts: its length, the questions, and how its bytes follow each other. Rests on Planned and
 -- Putting.
-use Rattle.std.specs.Prelude.{ℕ, ◌+◌, ◌-◌, ◌%◌, ◌≤◌, ◌<◌, Bool, ◌&&◌, eqb, leb, get_or, drop}
+use Rattle.std.specs.Option.{is_some}
+use Rattle.std.specs.Prelude.{ℕ, ◌≢◌, Some, None, ◌+◌, ◌-◌, ◌%◌, ◌≤◌, ◌<◌, Bool, ◌&&◌, leb, get_or, drop}
 use Rattle.std.proofs.Math.Path.{◌≡◌, refl, ap}
 use Rattle.std.proofs.Common.{sym, ◌∙◌}
 use mathlib.Core.List.{List, [], ◌∷◌, ◌++◌, append_assoc}
 use Rattle.std.proofs.Math.Bool.{true, false}
 use native.Mathlib.Omega.{arith}
-use borrow.Author.Tests.{leb-true, leb-false, le-leb, lt-leb, le-ltb, lt-ltb, ltb-false}
+use borrow.Author.Tests.{leb-true, leb-false, le-ltb, lt-ltb, ltb-false}
 use Rattle.std.proofs.Math.Dec.{ltb}
 use Rattle.std.proofs.Math.ListN.{length, length-append}
-use Rattle.prelude.specs.Cases.{if◌then◌otherwise◌, clash, test_same, both_true}
-use Rattle.prelude.specs.Below.{all_below, all_ext, all_intro, all_elim}
+use Rattle.prelude.specs.Cases.{if◌then◌otherwise◌, both_true}
+use Rattle.prelude.specs.Below.{all_below, all_ext}
 use Rattle.fix_words.specs.Lists.{every, is_print}
-use Rattle.fix_words.specs.Laws.Lists.{every_below, below_every}
 use Rattle.prelude.specs.Span.{span, splice, span_splice_same, span_splice_before, splice_append, length_splice}
 use Rattle.bits.specs.Map.{bit}
 use Rattle.format.specs.Codes.{within}
@@ -36,36 +36,39 @@ use Rattle.fix_words.specs.Message.{Writing, version, inner, front, sum, trailer
 use Rattle.fix_words.specs.Record.{field_at, Session, writing_of, write_of, write_refusal}
 use Rattle.fix_words.proofs.Laws.Kinds.{row_small}
 use Rattle.fix_words.proofs.Laws.Trip.{frame}
-use Rattle.fix.specs.declared.room.Room.{Room}
 use Rattle.fix.specs.declared.value.Value.{Value}
 use Rattle.fix.specs.Laws.Plan.{Parted, planned, Sound, rows_long, rows_shown, less_by, first_two, head_fields, stamp_fields, frame_long, inner_long, text_right, texts_right}
 use Rattle.fix_table.specs.Table.{form_of}
-use Rattle.fix.specs.Laws.Planned.{text_there, plan_right, plan_sound, places_no, on, off}
+use Rattle.fix_table.specs.declared.Form.TheVariants.{Text, Code, Number}
+use Rattle.fix.specs.Laws.Planned.{text_there, plan_right, plan_sound, on, off}
 use Rattle.fix.specs.Laws.Putting.{rows_long_lem, rows_body, two_fields, head_long_lem, stamp_long_lem, Rest}
 
 -- ---- room
 
-abbrev pub roomy : ℕ → Room
-roomy n = record { fits = true; left = n }
-
-pub room_fits : (room T : ℕ) → (less_by (less_by (roomy room) T) (frame_long (room - (less_by (roomy room) T).left))).fits ≡ leb (T + frame_long T) room
+pub room_some : (room T rest : ℕ) → less_by (Some room) T ≡ Some rest → (T ≤ room) × (rest ≡ room - T)
 unfolding less_by if◌then◌otherwise◌
-room_fits room T = go (leb T room) refl
+room_some room T rest = go (leb T room) refl
   where
-    later : (x : Bool) → leb (frame_long T) (room - T) ≡ x → T ≤ room → (if leb (frame_long T) (room - T) then roomy (room - T - frame_long T) otherwise record { fits = false; left = 0 }).fits ≡ leb (T + frame_long T) room
-    later true e h = rw e (sym (le-leb (T + frame_long T) room (omega (arith, leb-true (frame_long T) (room - T) e))))
-    later false e h = rw e (sym (lt-leb (T + frame_long T) room (omega (arith, leb-false (frame_long T) (room - T) e))))
+    go : (x : Bool) → leb T room ≡ x → (if x then Some (room - T) otherwise None) ≡ Some rest → (T ≤ room) × (rest ≡ room - T)
+    go true e q = (leb-true T room e, cc)
+    go false e q = cc
 
-    go : (x : Bool) → leb T room ≡ x → (less_by (less_by (roomy room) T) (frame_long (room - (less_by (roomy room) T).left))).fits ≡ leb (T + frame_long T) room
-    go true e =
-        let h : T ≤ room = leb-true T room e in
-        let z : room - (room - T) ≡ T = omega arith in
-        rw (e, z) (later (leb (frame_long T) (room - T)) refl h)
-    go false e = rw e (sym (lt-leb (T + frame_long T) room (omega (arith, leb-false T room e))))
-
-pub room_body : (room T : ℕ) → T ≤ room → room - (less_by (roomy room) T).left ≡ T
+pub room_none : (room T : ℕ) → less_by (Some room) T ≡ None → room < T
 unfolding less_by if◌then◌otherwise◌
-room_body room T h = rw (le-leb T room h) (omega arith)
+room_none room T = go (leb T room) refl
+  where
+    go : (x : Bool) → leb T room ≡ x → (if x then Some (room - T) otherwise None) ≡ None → room < T
+    go true e q = cc
+    go false e q = leb-false T room e
+
+-- whether n bytes more fit
+pub fit_or_not : (room n : ℕ) → is_some (less_by (Some room) n) ≡ leb n room
+unfolding less_by if◌then◌otherwise◌
+fit_or_not room n = go (leb n room)
+  where
+    go : (x : Bool) → is_some (if x then Some (room - n) otherwise None) ≡ x
+    go true = refl
+    go false = refl
 
 -- ---- the frame
 
@@ -185,38 +188,37 @@ pub text_none : (s : List ℕ) → length s ≡ 0 → is_text s ≡ false
 text_none [] h = refl
 text_none (c ∷ s) h = absurd (omega arith)
 
-abbrev pub print_at : List ℕ → ℕ → Bool
-print_at s k = is_print (get_or s k 0)
+pub text_some : (s : List ℕ) → (length s ≢ 0) → is_text s ≡ every is_print s
+text_some [] h = absurd (h refl)
+text_some (c ∷ s) h = refl
 
-pub text_all : (s : List ℕ) → 0 < length s → is_text s ≡ all_below (print_at s) (length s)
-text_all [] h = absurd (omega arith)
-text_all (c ∷ s) h =
-    test_same (every is_print (c ∷ s)) (all_below (print_at (c ∷ s)) (length (c ∷ s)))
-    (λ e. all_intro (print_at (c ∷ s)) (length (c ∷ s)) (every_below is_print (c ∷ s) e))
-    (λ e. below_every is_print (c ∷ s) (all_elim (print_at (c ∷ s)) (length (c ∷ s)) e))
-
-pub form_text : (b : ℕ) → form_of b ≡ 2 → is_text_bit b ≡ true
+pub form_text : (b : ℕ) → form_of b ≡ Text → is_text_bit b ≡ true
 unfolding form_of if◌then◌otherwise◌
-form_text b e = go (is_text_bit b) refl (within side status (range b)) refl
+form_text b = go (is_text_bit b) (within side status (range b))
   where
-    go : (x : Bool) → is_text_bit b ≡ x → (y : Bool) → within side status (range b) ≡ y → is_text_bit b ≡ true
-    go true t y w = t
-    go false t true w = let z : ◌≡◌ {A = ℕ} 1 2 = rw (t, w) at e in absurd (omega arith)
-    go false t false w = let z : places b ≡ 2 = rw (t, w) at e in clash (eqb (places b) 2) (rw z refl) (places_no b).0
+    go : (x y : Bool) → (if x then Text otherwise if y then Code otherwise Number (places b)) ≡ Text → x ≡ true
+    go true y e = refl
+    go false true e = cc
+    go false false e = cc
+
+pub form_other : (b : ℕ) → (form_of b ≢ Text) → is_text_bit b ≡ false
+unfolding form_of if◌then◌otherwise◌
+form_other b = go (is_text_bit b) (within side status (range b))
+  where
+    go : (x y : Bool) → ((if x then Text otherwise if y then Code otherwise Number (places b)) ≢ Text) → x ≡ false
+    go true y h = absurd (h refl)
+    go false y h = refl
 
 module _ (s : List ℕ) (m : ℕ) (at ns : List ℕ) (high : ℕ) (p : Parted s m at ns high) where
   text_right_lem : (b : ℕ) → b < 32 → text_right s m (get_or at (b + 1) 0) (get_or ns b 0) b ≡ text_at b (field_at s b)
-  unfolding text_right form_of if◌then◌otherwise◌
-  text_right_lem b h = go (is_text_bit b) refl (within side status (range b)) refl (bit m b) refl
+  unfolding text_right if◌then◌otherwise◌
+  text_right_lem b h = go (is_text_bit b) refl (bit m b) refl
     where
-      go : (x : Bool) → is_text_bit b ≡ x → (y : Bool) → within side status (range b) ≡ y → (z : Bool) → bit m b ≡ z
-          → text_right s m (get_or at (b + 1) 0) (get_or ns b 0) b ≡ text_at b (field_at s b)
-      go true t y w true e = rw (on s m at ns high p b e, t, e) (ap is_text (text_there s m at ns high p b h t))
-      go true t y w false e = rw (off s m at ns high p b e, t, e) refl
-      go false t true w true e = rw (on s m at ns high p b e, t, w) refl
-      go false t true w false e = rw (off s m at ns high p b e, t, w) refl
-      go false t false w true e = rw (on s m at ns high p b e, t, w, (places_no b).0) refl
-      go false t false w false e = rw (off s m at ns high p b e, t, w, (places_no b).0) refl
+      go : (x : Bool) → is_text_bit b ≡ x → (z : Bool) → bit m b ≡ z → text_right s m (get_or at (b + 1) 0) (get_or ns b 0) b ≡ text_at b (field_at s b)
+      go true t true e = rw (on s m at ns high p b e, t, e) (ap is_text (text_there s m at ns high p b h t))
+      go true t false e = rw (off s m at ns high p b e, t, e) refl
+      go false t true e = rw (on s m at ns high p b e, t) refl
+      go false t false e = rw (off s m at ns high p b e, t) refl
 
   pub texts_right_lem : texts_right s m at ns ≡ all_below (λ b. text_at b (field_at s b)) 32
   unfolding texts_right
@@ -267,16 +269,16 @@ module _ (s : List ℕ) (n : Session) (room : ℕ) where
 
 -- ---- a record's parts
 
-pub whole_parted : (s : List ℕ) (r : Parts) → PartsOf s r → parts_refusal s ≡ 0 → Parted s r.map r.at r.numbers r.high
-whole_parted s r p e =
-    let m : map_at s 0 ≡ r.map = sym (p.map e) in
+pub whole_parted : (s : List ℕ) (r : Parts) → PartsOf s r → Parted s r.map r.at r.numbers r.high
+whole_parted s r p =
+    let m : map_at s 0 ≡ r.map = sym p.map in
     record {
-      whole = (parts_right s nobody 0 e).0;
-      right = (parts_right s nobody 0 e).1;
-      map = p.map e;
-      places = λ k h. p.places e k h ∙ ap (λ (x : ℕ). start s 0 x k) m;
-      numbers = λ b h. p.numbers e b h ∙ ap (λ (x : ℕ). value b (content s 0 x b)) m;
-      high = p.high e ∙ ap (λ (x : ℕ). number (drop 8 (content s 0 x 26))) m;
+      whole = (parts_right s nobody 0 p.taken).0;
+      right = (parts_right s nobody 0 p.taken).1;
+      map = p.map;
+      places = λ k h. p.places k h ∙ ap (λ (x : ℕ). start s 0 x k) m;
+      numbers = λ b h. p.numbers b h ∙ ap (λ (x : ℕ). value b (content s 0 x b)) m;
+      high = p.high ∙ ap (λ (x : ℕ). number (drop 8 (content s 0 x 26))) m;
     }
   where
     nobody : Session

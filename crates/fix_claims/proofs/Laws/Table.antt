@@ -1,10 +1,9 @@
 -- What the table of a message's fields says: each field is in it, with its value standing where the table says, and behind them are zeros; and a
 -- message that was written is read as the fields that it was written with. Rests on Claims and fix_words' laws.
-use Rattle.std.specs.Prelude.{ℕ, suc, ◌+◌, ◌≤◌, ◌<◌, ◌≡◌, true, leb, ltb, drop}
+use Rattle.std.specs.Prelude.{ℕ, suc, ◌+◌, ◌≤◌, ◌<◌, ◌≡◌, true, leb, ltb, drop, Option, None, Some}
 use Rattle.std.proofs.Math.Path.{refl, sym, ap}
 use Rattle.std.proofs.Common.{subst, ◌∙◌, arith, leb-true, lt-ltb, le-ltb, take-append-drop, drop-cons, drop_at}
 use mathlib.Core.List.{List, [], ◌∷◌, ◌++◌, append_assoc}
-use Rattle.std.proofs.Math.Option.{Option, none, some}
 use Rattle.std.proofs.Math.Decide.{dec_lt}
 use Rattle.std.proofs.Math.ListN.{length, get_or, take, length-append, get_or-eq_default}
 use Rattle.std.proofs.Math.Seq.{take_at}
@@ -113,8 +112,8 @@ body_long vs fs [] = omega arith
 body_long vs fs (r ∷ rows) = go (vs r.bit) (body_long vs fs rows)
   where
     go : (o : Option (List ℕ)) → length (body rows vs fs) ≤ length rows + length fs → length (field_of r.tag o (body rows vs fs)) ≤ suc (length rows) + length fs
-    go none h = omega arith
-    go (some v) h = omega arith
+    go None h = omega arith
+    go (Some v) h = omega arith
 
 rows_few : (k : ℕ) → within 16 20 k ≡ true → leb (length (rows k)) 20 ≡ true
 unfolding rows tables

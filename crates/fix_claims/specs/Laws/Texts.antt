@@ -1,11 +1,10 @@
 -- The texts of a message, one by one: the writer's question asks whether FIX can carry every one of them. Rests on Claims.
-use Rattle.std.specs.Prelude.{ℕ, zero, suc, ◌<◌, ◌≡◌, Bool, not, ◌&&◌, ◌||◌, eqb, leb, ltb, length, get_or}
+use Rattle.std.specs.Prelude.{ℕ, zero, suc, ◌<◌, ◌≡◌, Bool, not, ◌&&◌, ◌||◌, eqb, leb, ltb, length, get_or, None, Some}
 use Rattle.std.proofs.Math.Path.{refl, ap}
 use Rattle.std.proofs.Common.{sym, ◌∙◌, inl, arith, eqb-true, leb-true, leb-false, ltb-true}
 use mathlib.Core.List.{List, [], ◌∷◌}
 use Rattle.std.proofs.Math.Bool.{true, false}
 use Rattle.std.proofs.Math.Logic.{inr, ⊎_elim}
-use Rattle.std.proofs.Math.Option.{none, some}
 use Rattle.std.proofs.lemmas.Bool.{not-true}
 use Rattle.prelude.specs.Cases.{if_true, if_false, clash, both_true, either_true}
 use Rattle.prelude.specs.Below.{all_below, all_elim}
@@ -92,11 +91,11 @@ module _ (s : List ℕ) (n : Session) where
 
   field_there : (b : ℕ) → stands s b ≡ true → asks b ≡ (not (is_text_bit b) || is_text (held s b))
   unfolding field_at
-  field_there b e = ap (text_at b) (if_true (bit (map_at s 0) b) (some (content s 0 (map_at s 0) b)) none e)
+  field_there b e = ap (text_at b) (if_true (bit (map_at s 0) b) (Some (content s 0 (map_at s 0) b)) None e)
 
   field_absent : (b : ℕ) → stands s b ≡ false → asks b ≡ true
   unfolding field_at
-  field_absent b e = ap (text_at b) (if_false (bit (map_at s 0) b) (some (content s 0 (map_at s 0) b)) none e)
+  field_absent b e = ap (text_at b) (if_false (bit (map_at s 0) b) (Some (content s 0 (map_at s 0) b)) None e)
 
   pub all_clean : texted (writing_of s n) ≡ true → (t : List ℕ) → TextOf s n t → Clean t
   unfolding texted

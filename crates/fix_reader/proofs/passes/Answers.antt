@@ -1,52 +1,45 @@
 -- `passes`: the header, the rows, the end. Rests on Laws.Header and Laws.Taking.
-use Rattle.std.proofs.Common.{◌≡◌, ℕ, true, List, length, drop, sym, ap, ◌∙◌}
-use borrow.Author.Tests.{not-true, not-false}
+use Rattle.std.proofs.Common.{◌≡◌, ℕ, true, List, sym, ap, ◌∙◌}
 use Rattle.format.specs.Codes.{within}
 use Rattle.fix_words.specs.Spelling.{Field, fields_in}
-use Rattle.fix_words.specs.Values.{rows}
-use Rattle.fix_reader.specs.Laws.Checks.{headed, ends, checks}
-use Rattle.fix_reader.specs.Laws.Header.{headed_kind, headed_type, checks_walked, checks_unheaded}
-use Rattle.fix_reader.specs.Laws.Taking.{walk_on, walk_all, on_stopped, on_end}
+use Rattle.fix_reader.specs.Laws.Checks.{kind_in, headed, ends, checks}
+use Rattle.fix_reader.specs.Laws.Header.{headed_kind, headed_type, checks_walked, checks_unheaded, kind_none, kind_some}
+use Rattle.fix_reader.specs.Laws.Taking.{left_from, walk_all}
 use Rattle.fix_reader.proofs.passes.Goals as goal
-use Rattle.fix_reader.proofs.passes.Goals.{After-walk-t, Else-not-headed, Start}
+use Rattle.fix_reader.proofs.passes.Goals.{In-Some, After-walk}
 
-abbrev fs : Start → List Field
-fs s = fields_in s.args.m.now
+abbrev fs : In-Some → List Field
+fs e = fields_in e.args.f.now.message.now
 
-right : (e : Else-not-headed) → headed (fs (goal.at.Else-not-headed e).Start) ≡ true
-right e = sym e.headed.ensures ∙ e.if-not-headed.false
+-- the header is right, and its kind was found
+found : (e : In-Some) → (headed (fs e) ≡ true) × (e.in-Some.kind ≡ kind_in (fs e))
+found e = kind_some (fs e) e.in-Some.kind (sym e.in-Some.ensures)
 
 -- what is left to ask is where the walk stands
-asked : (c : After-walk-t) → let s = c in let k = c.kind_in-kind.result in
-    checks (fs (goal.at.After-walk-t c).Start) ≡ ends (fs (goal.at.After-walk-t c).Start) (walk_on (fs (goal.at.After-walk-t c).Start) k c.walk-t.result (drop (length (rows k)) (rows k)))
-asked c =
-    let s = c in
-    checks_walked (fs (goal.at.After-walk-t c).Start) (right (goal.at.After-walk-t c).Else-not-headed)
-    ∙ ap (λ (k : ℕ). ends (fs (goal.at.After-walk-t c).Start) (walk_all (fs (goal.at.After-walk-t c).Start) k)) (sym c.kind_in-kind.ensures)
-    ∙ ap (ends (fs (goal.at.After-walk-t c).Start)) (sym c.walk-t.ensures)
+asked : (e : After-walk) → checks (fields_in e.args.f.now.message.now) ≡ ends (fields_in e.args.f.now.message.now) (left_from (fields_in e.args.f.now.message.now) e.walk.result)
+asked e =
+    let s = (goal.at.After-walk e).In-Some in
+    checks_walked (fs s) (found s).0 ∙ ap (λ (k : ℕ). ends (fs s) (walk_all (fs s) k)) (sym (found s).1) ∙ ap (ends (fs s)) (sym e.walk.ensures)
 
-pub returns-then-not-headed : goal.returns-then-not-headed
-returns-then-not-headed c = sym (checks_unheaded (fs (goal.at.returns-then-not-headed c).Start) (sym c.headed.ensures ∙ c.if-not-headed.true))
+pub returns-in_default : goal.returns-in_default
+returns-in_default c = let gs = fields_in c.args.f.now.message.now in sym (checks_unheaded gs (kind_none gs (sym c.in_default.ensures)))
 
-pub kind_in-kind-requires : goal.kind_in-kind-requires
-kind_in-kind-requires c = c.requires.placed
+pub walk-requires : goal.walk-requires
+walk-requires c =
+    let s = (goal.at.walk-requires c).In-Some in
+    ap (within 16 20) (found s).1 ∙ headed_kind (fs s) (found s).0
 
-pub walk-t-requires : goal.walk-t-requires
-walk-t-requires c = let s = c in (s.requires, ap (within 16 20) c.kind_in-kind.ensures ∙ headed_kind (fs (goal.at.walk-t-requires c).Start) (right (goal.at.walk-t-requires c).Else-not-headed))
-
-pub returns-then-not-t : goal.returns-then-not-t
-returns-then-not-t c =
-    let s = c in
-    let k = c.kind_in-kind.result in
-    let t = c.walk-t.result in
-    sym (asked (goal.at.returns-then-not-t c).After-walk-t ∙ ap (ends (fs (goal.at.returns-then-not-t c).Start)) (on_stopped (fs (goal.at.returns-then-not-t c).Start) k t (drop (length (rows k)) (rows k)) (not-true _ c.if-not-t.true)))
+pub returns-in_default-walk : goal.returns-in_default-walk
+returns-in_default-walk c =
+    let gs = fields_in c.args.f.now.message.now in
+    sym (asked (goal.at.returns-in_default-walk c).After-walk ∙ ap (λ o. ends gs (left_from gs o)) c.in_default-walk.is)
 
 pub closed-requires : goal.closed-requires
-closed-requires c = let s = c in (s.requires, c.kind_in-kind.ensures, headed_type (fs (goal.at.closed-requires c).Start) (right (goal.at.closed-requires c).Else-not-headed))
+closed-requires c =
+    let s = (goal.at.closed-requires c).In-Some in
+    ((found s).1, headed_type (fs s) (found s).0)
 
 pub returns : goal.returns
 returns c =
-    let s = c in
-    let k = c.kind_in-kind.result in
-    let t = c.walk-t.result in
-    c.closed.ensures ∙ sym (asked (goal.at.returns c).After-walk-t ∙ ap (ends (fs (goal.at.returns c).Start)) (on_end (fs (goal.at.returns c).Start) k t (not-false _ c.if-not-t.false)))
+    let gs = fields_in c.args.f.now.message.now in
+    c.closed.ensures ∙ sym (asked (goal.at.returns c).After-walk ∙ ap (λ o. ends gs (left_from gs o)) c.in-Some-walk.is)

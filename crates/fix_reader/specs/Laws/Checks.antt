@@ -1,9 +1,8 @@
 -- The reader's questions on the fields of a message: its header, its rows, its end. Bytes are a message exactly where their fields pass them.
 -- Rests on Fits and Trip.
-use Rattle.std.specs.Prelude.{◌≡◌, ℕ, suc, ◌-◌, ◌%◌, ◌<◌, Bool, true, false, not, ◌&&◌, ◌||◌, ltb, List, [], ◌∷◌, ◌++◌, length, take, drop, ◌==◌, nat_le, nat_lt, slice_index, slice_index_or}
+use Rattle.std.specs.Prelude.{◌≡◌, ℕ, suc, ◌-◌, ◌%◌, ◌<◌, Bool, true, false, not, ◌&&◌, ◌||◌, ltb, List, [], ◌∷◌, ◌++◌, length, take, drop, ◌==◌, nat_le, nat_lt, slice_index, slice_index_or, Option, None, Some}
 use Rattle.std.proofs.Math.Path.{refl, sym, ap, subst}
 use Rattle.std.proofs.Common.{◌∙◌, ⊎_elim, arith, eqb-true, eq-eqb, length-append, drop-cons, get_or-drop, take_at}
-use Rattle.std.proofs.Math.Option.{Option, none, some}
 use Rattle.std.proofs.Math.Decide.{dec_lt}
 use Rattle.std.proofs.lemmas.Bool.{not-true}
 use Rattle.std.proofs.Math.ListN.{get_or-eq_default}
@@ -68,8 +67,8 @@ closed fs out =
     same_fields out (stamp (kind_in fs) (value_at fs 6) (sum_field fs ∷ [])) && same (value_at fs 1) (digits (length (spellings (drop 2 (init fs)))))
 
 abbrev pub ends : List Field → Option (List Field) → Bool
-ends fs none = false
-ends fs (some out) = closed fs out
+ends fs None = false
+ends fs (Some out) = closed fs out
 
 unfoldable pub checks : List Field → Bool
 checks fs = headed fs && ends fs (walk (asked_by (kind_in fs) (value_at fs 7)) false (rows (kind_in fs)) (drop 7 fs))
@@ -199,32 +198,32 @@ module _ (fs : List Field) (passes : checks fs ≡ true) (bytes : (i : ℕ) → 
       ∙ ap (λ (l : List Field). field 34 (value_at fs 5) ∷ l) (cons_field fs 6 52 (omega arith) f.1))))))
 
   -- what the walk left
-  left : (out : List Field) × (walk (asked_by k nm) false (rows k) (drop 7 fs) ≡ some out) × (closed fs out ≡ true)
+  left : (out : List Field) × (walk (asked_by k nm) false (rows k) (drop 7 fs) ≡ Some out) × (closed fs out ≡ true)
   left = go (walk (asked_by k nm) false (rows k) (drop 7 fs)) refl two.1
     where
       go : (o : Option (List Field)) → walk (asked_by k nm) false (rows k) (drop 7 fs) ≡ o → ends fs o ≡ true
-          → (out : List Field) × (walk (asked_by k nm) false (rows k) (drop 7 fs) ≡ some out) × (closed fs out ≡ true)
-      go none e q = clash false q refl
-      go (some out) e q = (out, e, q)
+          → (out : List Field) × (walk (asked_by k nm) false (rows k) (drop 7 fs) ≡ Some out) × (closed fs out ≡ true)
+      go None e q = clash false q refl
+      go (Some out) e q = (out, e, q)
 
   walked : Walked (asked_by k nm) (rows k) (drop 7 fs) left.0
   walked = walk_found (asked_by k nm) false (rows k) (drop 7 fs) left.0 (rows_distinct k head.kind) left.1
 
-  fit : (b : ℕ) → in_rows (rows k) b ≡ true → (v : List ℕ) → us b ≡ some v → fits k nm b v ≡ true
+  fit : (b : ℕ) → in_rows (rows k) b ≡ true → (v : List ℕ) → us b ≡ Some v → fits k nm b v ≡ true
   fit b i v z = let a = walked.asked b i v z in asked_fits k nm a.0 b v a.1
 
-  named : in_rows (rows k) 25 ≡ true → us 2 ≡ some nm
+  named : in_rows (rows k) 25 ≡ true → us 2 ≡ Some nm
   named i =
       let e = only_report k head.kind i in
       let s : is_some (us 2) ≡ true = walked.stands 2 (must_name k head.kind (with_name k head.kind i)) in
-      subst (λ (j : ℕ). value_in (rows j) (drop 7 fs) 2 ≡ some nm) (sym e)
+      subst (λ (j : ℕ). value_in (rows j) (drop 7 fs) 2 ≡ Some nm) (sym e)
       (name_first (drop 7 fs) (subst (λ (j : ℕ). is_some (value_in (rows j) (drop 7 fs) 2) ≡ true) e s)
-      ∙ ap (λ (f : Field). some f.value) (get_or-drop 7 fs 0 no_field))
+      ∙ ap (λ (f : Field). Some f.value) (get_or-drop 7 fs 0 no_field))
 
   pair : (is_some (us 20) && is_some (us 27)) ≡ false
   pair = walk_pair (asked_by k nm) (λ v. asked_stops k nm v) false (rows k) (drop 7 fs) left.0 (rows_ordered k head.kind) left.1
 
-  silent : (b : ℕ) → in_rows (rows k) b ≡ false → us b ≡ none
+  silent : (b : ℕ) → in_rows (rows k) b ≡ false → us b ≡ None
   silent b i = value_none (rows k) (drop 7 fs) b i
 
   abbrev now : Values
@@ -367,18 +366,18 @@ module _ (w : Writing) (is : is_writing w ≡ true) where
       ap (λ (l : List Field). value_in (rows kind_of_lem) l b) gs_are
       ∙ value_back vs behind.0 behind.1 behind.2 (rows kind_of_lem) behind.4 stand_up b i
 
-  else_none : (b : ℕ) → in_rows (rows kind_of_lem) b ≡ false → found_values b ≡ none
+  else_none : (b : ℕ) → in_rows (rows kind_of_lem) b ≡ false → found_values b ≡ None
   else_none b i = value_none (rows kind_of_lem) gs b i
 
-  name_found : in_rows (rows kind_of_lem) 25 ≡ true → found_values 2 ≡ some (first_value gs)
+  name_found : in_rows (rows kind_of_lem) 25 ≡ true → found_values 2 ≡ Some (first_value gs)
   name_found i =
       let e = only_report kind_of_lem shapes.0 i in
       let j = with_name kind_of_lem shapes.0 i in
       let s : is_some (found_values 2) ≡ true = ap is_some (found 2 j) ∙ stand_must (rows kind_of_lem) vs stand_up 2 (must_name kind_of_lem shapes.0 j) in
-      subst (λ (j : ℕ). value_in (rows j) gs 2 ≡ some (first_value gs)) (sym e)
+      subst (λ (j : ℕ). value_in (rows j) gs 2 ≡ Some (first_value gs)) (sym e)
       (name_first gs (subst (λ (j : ℕ). is_some (value_in (rows j) gs 2) ≡ true) e s))
 
-  passed : (seen : Bool) → (seen ≡ true → is_some (vs 20) ≡ true) → (b : ℕ) → in_rows (rows kind_of_lem) b ≡ true → (v : List ℕ) → vs b ≡ some v
+  passed : (seen : Bool) → (seen ≡ true → is_some (vs 20) ≡ true) → (b : ℕ) → in_rows (rows kind_of_lem) b ≡ true → (v : List ℕ) → vs b ≡ Some v
       → asked_by kind_of_lem (first_value gs) seen b v ≡ true
   passed seen p b i v z =
       both_hold _ _ (fit_again kind_of_lem w.at shapes.0 ok shapes.1.1 found_values found else_none (first_value gs) name_found b i v (found b i ∙ z))
@@ -394,11 +393,11 @@ module _ (w : Writing) (is : is_writing w ≡ true) where
           absurd (fit_once kind_of_lem w.at shapes.0 ok shapes.1.1 found_values found else_none (first_value gs) name_found i27
           (ap is_some (found 20 i20) ∙ p s) (ap is_some (found 27 i27 ∙ ap vs (sym q) ∙ z)))
 
-  walks : walk (asked_by kind_of_lem (first_value gs)) false (rows kind_of_lem) gs ≡ some (stamp kind_of_lem w.time [] ++ (last ∷ []))
+  walks : walk (asked_by kind_of_lem (first_value gs)) false (rows kind_of_lem) gs ≡ Some (stamp kind_of_lem w.time [] ++ (last ∷ []))
   walks =
       ap (walk (asked_by kind_of_lem (first_value gs)) false (rows kind_of_lem)) gs_are
       ∙ walk_body (asked_by kind_of_lem (first_value gs)) vs behind.0 behind.1 behind.2 false (λ e. clash false e refl) (rows kind_of_lem) passed behind.4 stand_up
-      ∙ ap (λ (l : List Field). some l) (sym behind.3)
+      ∙ ap (λ (l : List Field). Some l) (sym behind.3)
 
   whole : fields_of w ≡ front (inner w) ++ (last ∷ [])
   unfolding fields_of framed

@@ -1,8 +1,7 @@
 -- What fits, by the form of the field: a text, a code, a number, the order's name. Rests on Fits.
-use Rattle.std.specs.Prelude.{◌≡◌, ℕ, ◌<◌, ◌≤◌, Bool, true, false, not, ◌&&◌, ◌||◌, ltb, List, [], ◌∷◌, length, take, ◌==◌, nat_eq, nat_le, nat_lt, slice_index}
+use Rattle.std.specs.Prelude.{◌≡◌, ℕ, ◌<◌, ◌≤◌, Bool, true, false, not, ◌&&◌, ◌||◌, ltb, List, [], ◌∷◌, length, take, ◌==◌, nat_eq, nat_le, nat_lt, slice_index, None, Some}
 use Rattle.std.proofs.Math.Path.{refl, sym, ap}
 use Rattle.std.proofs.Common.{◌∙◌, ⊎_elim, arith, eqb-true, eq-eqb, ltb-true, lt-ltb, leb-true, take_all}
-use Rattle.std.proofs.Math.Option.{none, some}
 use Rattle.std.proofs.lemmas.Bool.{not-true}
 use Rattle.prelude.specs.Cases.{if◌then◌otherwise◌, if_true, if_false, clash, both_true, both_hold, either_true, test_same}
 use Rattle.prelude.specs.Number.{number, bytes_of, bound, length_bytes, number_bytes, number_bound}
@@ -42,7 +41,7 @@ text_some (c ∷ v) e = e ∙ sym (lt-ltb 0 (length (c ∷ v)) (omega arith))
 
 -- a value of bytes, in a bit that a record of kind k may have
 module _ (k b : ℕ) (nm v : List ℕ) (stand : (bit (required k) b || bit (allowed k) b) ≡ true) (bytes : every (λ x. ltb x 256) v ≡ true) where
-  shape_some : (c : List ℕ) → every (λ x. ltb x 256) c ≡ true → (is_text_bit b || length c == size b) ≡ true → shape_at k b (some c) ≡ true
+  shape_some : (c : List ℕ) → every (λ x. ltb x 256) c ≡ true → (is_text_bit b || length c == size b) ≡ true → shape_at k b (Some c) ≡ true
   shape_some c y l = both_hold _ _ stand (both_hold _ _ y l)
 
   -- ---- as it stands
@@ -52,9 +51,9 @@ module _ (k b : ℕ) (nm v : List ℕ) (stand : (bit (required k) b || bit (allo
     unfolding unspelled
     same_held = if_true (is_plain b) v _ plain
 
-    held_is : held_in b (some v) ≡ some v
+    held_is : held_in b (Some v) ≡ Some v
     unfolding held_in
-    held_is = if_false (b == 2) _ _ n2 ∙ if_false (b == 25) _ _ n25 ∙ if_false (b == 27) _ _ n27 ∙ ap (λ (w : List ℕ). some w) same_held
+    held_is = if_false (b == 2) _ _ n2 ∙ if_false (b == 25) _ _ n25 ∙ if_false (b == 27) _ _ n27 ∙ ap (λ (w : List ℕ). Some w) same_held
 
     spelled_is : spelling b (unspelled b v) ≡ v
     unfolding spelling
@@ -67,30 +66,30 @@ module _ (k b : ℕ) (nm v : List ℕ) (stand : (bit (required k) b || bit (allo
         go true e = unfold respelled in (if_false (b == 2) v _ n2 ∙ if_true (b == 20) v _ e)
         go false e = plain_respelled b n2 e n25 n27 nm v ∙ spelled_is
 
-    plain_fits : fits k nm b v ≡ right k b (some v)
+    plain_fits : fits k nm b v ≡ right k b (Some v)
     unfolding fits
     plain_fits =
         (λ i. right k b (held_is i) && same (again_is i) v)
-        ∙ ap (λ (x : Bool). right k b (some v) && x) (same_self v)
-        ∙ and_true (right k b (some v))
+        ∙ ap (λ (x : Bool). right k b (Some v) && x) (same_self v)
+        ∙ and_true (right k b (Some v))
 
     -- a text
 
     pub text_fits : is_text_bit b ≡ true → fits k nm b v ≡ (in_range (range b) (length v) && is_text v)
-    text_fits t = plain_fits ∙ test_same (right k b (some v)) (in_range (range b) (length v) && is_text v) to back
+    text_fits t = plain_fits ∙ test_same (right k b (Some v)) (in_range (range b) (length v) && is_text v) to back
       where
         long : value b v ≡ length v
         long = unfold value in if_true (is_text_bit b) (length v) _ t
 
-        to : right k b (some v) ≡ true → (in_range (range b) (length v) && is_text v) ≡ true
+        to : right k b (Some v) ≡ true → (in_range (range b) (length v) && is_text v) ≡ true
         to e =
-            let h = both_true (shape_at k b (some v)) (range_at b (some v) && text_at b (some v)) e in
-            let r = both_true (range_at b (some v)) (text_at b (some v)) h.1 in
+            let h = both_true (shape_at k b (Some v)) (range_at b (Some v) && text_at b (Some v)) e in
+            let r = both_true (range_at b (Some v)) (text_at b (Some v)) h.1 in
             let i = (both_true (in_range (range b) (value b v)) (not (b == 2) || is_name_of v) r.0).0 in
             both_hold _ _ (ap (in_range (range b)) (sym long) ∙ i)
             (⊎_elim (λ q. clash (is_text_bit b) t (not-true _ q)) (λ q. q) (either_true (not (is_text_bit b)) (is_text v) r.1))
 
-        back : (in_range (range b) (length v) && is_text v) ≡ true → right k b (some v) ≡ true
+        back : (in_range (range b) (length v) && is_text v) ≡ true → right k b (Some v) ≡ true
         back e =
             let h = both_true (in_range (range b) (length v)) (is_text v) e in
             both_hold _ _ (shape_some v bytes (or_left (is_text_bit b) _ t))
@@ -100,19 +99,19 @@ module _ (k b : ℕ) (nm v : List ℕ) (stand : (bit (required k) b || bit (allo
     -- a code
 
     pub code_fits : is_text_bit b ≡ false → size b ≡ 1 → fits k nm b v ≡ (length v == 1 && in_range (range b) (slice_index v 0))
-    code_fits t one = plain_fits ∙ test_same (right k b (some v)) (length v == 1 && in_range (range b) (slice_index v 0)) to back
+    code_fits t one = plain_fits ∙ test_same (right k b (Some v)) (length v == 1 && in_range (range b) (slice_index v 0)) to back
       where
         code : length v ≡ 1 → value b v ≡ slice_index v 0
         code l = let e : value b v ≡ number (take 8 v) = (unfold value in if_false (is_text_bit b) (length v) (number (take 8 v)) t) in e ∙ number_one v l
 
-        to : right k b (some v) ≡ true → (length v == 1 && in_range (range b) (slice_index v 0)) ≡ true
+        to : right k b (Some v) ≡ true → (length v == 1 && in_range (range b) (slice_index v 0)) ≡ true
         to e =
-            let h = both_true (shape_at k b (some v)) (range_at b (some v) && text_at b (some v)) e in
+            let h = both_true (shape_at k b (Some v)) (range_at b (Some v) && text_at b (Some v)) e in
             let l : length v ≡ 1 = shape_long k b v h.0 t ∙ one in
-            let i = (both_true (in_range (range b) (value b v)) (not (b == 2) || is_name_of v) (both_true (range_at b (some v)) (text_at b (some v)) h.1).0).0 in
+            let i = (both_true (in_range (range b) (value b v)) (not (b == 2) || is_name_of v) (both_true (range_at b (Some v)) (text_at b (Some v)) h.1).0).0 in
             both_hold _ _ (eq-eqb (length v) 1 l) (ap (in_range (range b)) (sym (code l)) ∙ i)
 
-        back : (length v == 1 && in_range (range b) (slice_index v 0)) ≡ true → right k b (some v) ≡ true
+        back : (length v == 1 && in_range (range b) (slice_index v 0)) ≡ true → right k b (Some v) ≡ true
         back e =
             let h = both_true (length v == 1) (in_range (range b) (slice_index v 0)) e in
             let l : length v ≡ 1 = eqb-true (length v) 1 h.0 in
@@ -130,9 +129,9 @@ module _ (k b : ℕ) (nm v : List ℕ) (stand : (bit (required k) b || bit (allo
     abbrev c : List ℕ
     c = bytes_of (size b) n
 
-    number_held : held_in b (some v) ≡ some c
+    number_held : held_in b (Some v) ≡ Some c
     unfolding unspelled
-    number_held = plain_held b n2 n20 n25 n27 v ∙ ap (λ (w : List ℕ). some w) (if_false (is_plain b) v c plain)
+    number_held = plain_held b n2 n20 n25 n27 v ∙ ap (λ (w : List ℕ). Some w) (if_false (is_plain b) v c plain)
 
     number_again : respelled nm b v ≡ decimal (places b) (number c)
     unfolding spelling unspelled
@@ -155,9 +154,9 @@ module _ (k b : ℕ) (nm v : List ℕ) (stand : (bit (required k) b || bit (allo
             let s : decimal (places b) (number c) ≡ v = sym number_again ∙ fits_same k nm b v e in
             let m : n ≡ number c = ap number_in (sym s) ∙ decimal_back (places b) (number c) in
             let l : number c < bound (size b) = (rw (length_bytes (size b) n) at (number_bound c (bytes_of_lem (size b) n))) in
-            let r : right k b (some c) ≡ true = ap (right k b) (sym number_held) ∙ fits_right k nm b v e in
-            let h = both_true (shape_at k b (some c)) (range_at b (some c) && text_at b (some c)) r in
-            let i = (both_true (in_range (range b) (value b c)) (not (b == 2) || is_name_of c) (both_true (range_at b (some c)) (text_at b (some c)) h.1).0).0 in
+            let r : right k b (Some c) ≡ true = ap (right k b) (sym number_held) ∙ fits_right k nm b v e in
+            let h = both_true (shape_at k b (Some c)) (range_at b (Some c) && text_at b (Some c)) r in
+            let i = (both_true (in_range (range b) (value b c)) (not (b == 2) || is_name_of c) (both_true (range_at b (Some c)) (text_at b (Some c)) h.1).0).0 in
             both_hold _ _ (lt-ltb n (bound (size b)) (omega (arith, m, l)))
             (both_hold _ _ (ap (λ (x : ℕ). same (decimal (places b) x) v) m ∙ ap (λ (w : List ℕ). same w v) s ∙ same_self v)
             (ap (in_range (range b)) (m ∙ sym number_value) ∙ i))
@@ -194,7 +193,7 @@ module _ (k : ℕ) (nm v : List ℕ) (stand : (bit (required k) 2 || bit (allowe
   unfolding respelled if◌then◌otherwise◌
   name_again = same_self v
 
-  name_held : held_in 2 (some v) ≡ (if same v none_word then none otherwise some v)
+  name_held : held_in 2 (Some v) ≡ (if same v none_word then None otherwise Some v)
   unfolding held_in if◌then◌otherwise◌
   name_held = refl
 
@@ -202,23 +201,23 @@ module _ (k : ℕ) (nm v : List ℕ) (stand : (bit (required k) 2 || bit (allowe
   unfolding value
   value_2 = if_true (is_text_bit 2) (length v) (number (take 8 v)) text_bit_2
 
-  none_right : right k 2 none ≡ (k == 17)
+  none_right : right k 2 None ≡ (k == 17)
   none_right = ap (λ (x : Bool). not x && true) must ∙ and_true (not (not (k == 17))) ∙ twice (k == 17)
     where
       twice : (x : Bool) → not (not x) ≡ x
       twice true = refl
       twice false = refl
 
-  some_right : same v none_word ≡ false → right k 2 (some v) ≡ as_name
-  some_right s = test_same (right k 2 (some v)) as_name to back
+  some_right : same v none_word ≡ false → right k 2 (Some v) ≡ as_name
+  some_right s = test_same (right k 2 (Some v)) as_name to back
     where
-      to : right k 2 (some v) ≡ true → as_name ≡ true
+      to : right k 2 (Some v) ≡ true → as_name ≡ true
       to e =
-          let r = both_true (range_at 2 (some v)) (text_at 2 (some v)) (both_true (shape_at k 2 (some v)) (range_at 2 (some v) && text_at 2 (some v)) e).1 in
+          let r = both_true (range_at 2 (Some v)) (text_at 2 (Some v)) (both_true (shape_at k 2 (Some v)) (range_at 2 (Some v) && text_at 2 (Some v)) e).1 in
           let i = both_true (in_range (range 2) (value 2 v)) (is_name_of v) r.0 in
           both_hold _ _ (sym (name_range_lem (length v)) ∙ ap (in_range (range 2)) (sym value_2) ∙ i.0) (both_true (every is_alnum v) (not (same v none_word)) i.1).0
 
-      back : as_name ≡ true → right k 2 (some v) ≡ true
+      back : as_name ≡ true → right k 2 (Some v) ≡ true
       back e =
           let h = both_true (within 1 20 (length v)) (every is_alnum v) e in
           let l : 1 ≤ length v = leb-true 1 (length v) (both_true (nat_le 1 (length v)) (nat_le (length v) 20) h.0).0 in
@@ -230,8 +229,8 @@ module _ (k : ℕ) (nm v : List ℕ) (stand : (bit (required k) 2 || bit (allowe
 
   pub name_fits : fits k nm 2 v ≡ (if same v none_word then (k == 17) otherwise as_name)
   unfolding fits
-  name_fits = (λ i. right k 2 (name_held i) && name_again i) ∙ and_true (right k 2 (if same v none_word then none otherwise some v)) ∙ go (same v none_word) refl
+  name_fits = (λ i. right k 2 (name_held i) && name_again i) ∙ and_true (right k 2 (if same v none_word then None otherwise Some v)) ∙ go (same v none_word) refl
     where
-      go : (x : Bool) → same v none_word ≡ x → right k 2 (if same v none_word then none otherwise some v) ≡ (if same v none_word then (k == 17) otherwise as_name)
-      go true e = ap (right k 2) (if_true (same v none_word) none (some v) e) ∙ none_right ∙ sym (if_true (same v none_word) (k == 17) as_name e)
-      go false e = ap (right k 2) (if_false (same v none_word) none (some v) e) ∙ some_right e ∙ sym (if_false (same v none_word) (k == 17) as_name e)
+      go : (x : Bool) → same v none_word ≡ x → right k 2 (if same v none_word then None otherwise Some v) ≡ (if same v none_word then (k == 17) otherwise as_name)
+      go true e = ap (right k 2) (if_true (same v none_word) None (Some v) e) ∙ none_right ∙ sym (if_true (same v none_word) (k == 17) as_name e)
+      go false e = ap (right k 2) (if_false (same v none_word) None (Some v) e) ∙ some_right e ∙ sym (if_false (same v none_word) (k == 17) as_name e)

@@ -1,6 +1,6 @@
 -- The end of a message in the reader's code: 60 and 10 as the last fields, and where the bytes that 9 counts start and end. Rests on Checks and
 -- Cut.
-use Rattle.std.specs.Prelude.{◌≡◌, ℕ, suc, ◌+◌, ◌-◌, ◌%◌, ◌<◌, ◌≤◌, Bool, true, false, ◌&&◌, List, [], ◌∷◌, ◌++◌, length, get_or, take, drop, ◌==◌, ◌≢◌, nat_le, nat_lt, slice_index_or, refl}
+use Rattle.std.specs.Prelude.{◌≡◌, ℕ, suc, ◌+◌, ◌-◌, ◌%◌, ◌<◌, ◌≤◌, Bool, true, false, ◌&&◌, List, [], ◌∷◌, ◌++◌, length, get_or, take, drop, ◌==◌, nat_le, nat_lt, slice_index_or, refl}
 use Rattle.std.proofs.Common.{sym, ap, ◌∙◌, arith, add-one, eq-eqb, ne_eqb, le-leb, lt-ltb, length-append, length-drop, take-append-drop, drop_of_length-le, drop-cons, take_at, take-take, get_or-drop}
 use Rattle.std.proofs.Math.Decide.{dec_lt, ℕ_discrete}
 use Rattle.std.proofs.lemmas.Bool.{lt-leb}
@@ -50,9 +50,6 @@ module _ (fs : List Field) where
   abbrev pub last : List Field
   last = sum_field fs ∷ []
 
-  pub sum_past : (i : ℕ) → length fs ≤ i → same_fields (drop i fs) last ≡ false
-  sum_past i h = ap (λ (l : List Field). same_fields l last) (drop_of_length-le fs {i = i} h)
-
   and_false : (x : Bool) → (x && false) ≡ false
   and_false true = refl
   and_false false = refl
@@ -77,9 +74,6 @@ module _ (fs : List Field) where
   sum_last i h =
       ap (λ (l : List Field). same_fields l last) (opened i (omega arith) ∙ ap (λ (l : List Field). slice_index_or fs i no_field ∷ l) (drop_of_length-le fs {i = suc i} (omega arith)))
       ∙ and_true (tag_of fs i == 10 && same (value_at fs i) (sum_field fs).value)
-
-  pub sum_tag : (i : ℕ) → suc i ≡ length fs → (tag_of fs i ≢ 10) → same_fields (drop i fs) last ≡ false
-  sum_tag i h t = sum_last i h ∙ ap (λ (b : Bool). b && same (value_at fs i) (sum_field fs).value) (ne_eqb (tag_of fs i) 10 t)
 
   pub sum_here : (i : ℕ) (s : List ℕ) → spellings fs ≡ s → suc i ≡ length fs → tag_of fs i ≡ 10
       → same_fields (drop i fs) last ≡ same (value_at fs i) (sum_digits (take (place_of fs i - 3) s))

@@ -1,10 +1,9 @@
 -- The values that the writer yields, asked one by one: what is held by values that fit is right and writes them again, and the values of a
 -- right record fit. Rests on Again and Walk.
-use Rattle.std.specs.Prelude.{◌≡◌, ℕ, ◌<◌, Bool, true, false, not, ◌&&◌, ◌||◌, ◌⊎◌, List, [], ◌∷◌, ◌++◌, drop, ◌==◌, ◌≢◌, nat_eq}
+use Rattle.std.specs.Prelude.{◌≡◌, ℕ, ◌<◌, Bool, true, false, not, ◌&&◌, ◌||◌, ◌⊎◌, List, [], ◌∷◌, ◌++◌, drop, ◌==◌, ◌≢◌, nat_eq, Option, None, Some}
 use Rattle.std.proofs.Math.Path.{refl, sym, ap, subst}
 use Rattle.std.proofs.Common.{◌∙◌, inl, inr, eq-eqb, ne_eqb}
 use Rattle.std.proofs.Math.Logic.{⊎_elim}
-use Rattle.std.proofs.Math.Option.{Option, none, some}
 use Rattle.std.proofs.Math.Decide.{ℕ_discrete}
 use native.Mathlib.Omega.{arith}
 use Rattle.std.proofs.lemmas.Bool.{not-true}
@@ -36,7 +35,7 @@ respelled nm b v =
 
 -- THE VALUE v OF BIT b IS ONE THAT THE WRITER YIELDS: what it holds passes the writer's questions, and is spelled so
 unfoldable pub fits : ℕ → List ℕ → ℕ → List ℕ → Bool
-fits k nm b v = right k b (held_in b (some v)) && same (respelled nm b v) v
+fits k nm b v = right k b (held_in b (Some v)) && same (respelled nm b v) v
 
 -- and a report has at most one text
 abbrev pub asked_by : ℕ → List ℕ → Asked
@@ -49,15 +48,15 @@ pub asked_fits : (k : ℕ) (nm : List ℕ) (seen : Bool) (b : ℕ) (v : List ℕ
 asked_fits k nm seen b v e = (both_true (fits k nm b v) _ e).0
 
 module _ (k : ℕ) (nm : List ℕ) (b : ℕ) (v : List ℕ) where
-  pub fits_right : fits k nm b v ≡ true → right k b (held_in b (some v)) ≡ true
+  pub fits_right : fits k nm b v ≡ true → right k b (held_in b (Some v)) ≡ true
   unfolding fits
-  fits_right e = (both_true (right k b (held_in b (some v))) _ e).0
+  fits_right e = (both_true (right k b (held_in b (Some v))) _ e).0
 
   pub fits_same : fits k nm b v ≡ true → respelled nm b v ≡ v
   unfolding fits
-  fits_same e = same_true (respelled nm b v) v (both_true (right k b (held_in b (some v))) _ e).1
+  fits_same e = same_true (respelled nm b v) v (both_true (right k b (held_in b (Some v))) _ e).1
 
-  pub fits_is : right k b (held_in b (some v)) ≡ true → respelled nm b v ≡ v → fits k nm b v ≡ true
+  pub fits_is : right k b (held_in b (Some v)) ≡ true → respelled nm b v ≡ v → fits k nm b v ≡ true
   unfolding fits
   fits_is r e = both_hold _ _ r (ap (λ (w : List ℕ). same w v) e ∙ same_self v)
 
@@ -79,7 +78,7 @@ module _ (b : ℕ) (n2 : nat_eq b 2 ≡ false) (n20 : nat_eq b 20 ≡ false) (n2
   unfolding value_of if◌then◌otherwise◌
   plain_value k at = rw (n2, n20, n25, n27) refl
 
-  pub plain_held : (v : List ℕ) → held_in b (some v) ≡ some (unspelled b v)
+  pub plain_held : (v : List ℕ) → held_in b (Some v) ≡ Some (unspelled b v)
   unfolding held_in if◌then◌otherwise◌
   plain_held v = rw (n2, n25, n27) refl
 
@@ -87,20 +86,20 @@ module _ (b : ℕ) (n2 : nat_eq b 2 ≡ false) (n20 : nat_eq b 20 ≡ false) (n2
   unfolding respelled if◌then◌otherwise◌
   plain_respelled nm v = rw (n2, n20, n25, n27) refl
 
-held_none_none : (b : ℕ) → held_in b none ≡ none
+held_none_none : (b : ℕ) → held_in b None ≡ None
 unfolding held_in if◌then◌otherwise◌
 held_none_none b =
-    by_bit (λ b. held_in b none ≡ none) refl refl refl refl b (λ x y z w. rw (x, z, w) refl)
+    by_bit (λ b. held_in b None ≡ None) refl refl refl refl b (λ x y z w. rw (x, z, w) refl)
 
 held_some : (b : ℕ) → (b == 2) ≡ false → (o : Option (List ℕ)) → is_some (held_in b o) ≡ is_some o
 unfolding held_in if◌then◌otherwise◌
 held_some b n o =
     by_bit (λ b. (b == 2) ≡ false → (o : Option (List ℕ)) → is_some (held_in b o) ≡ is_some o)
     (λ e. clash true refl e)
-    (λ e o. elim o as (λ (o : Option (List ℕ)). is_some (over (unspelled 20) o) ≡ is_some o) [ none ↦ refl | some v ↦ refl ])
-    (λ e o. elim o as (λ (o : Option (List ℕ)). is_some (over (λ x. bytes_of 8 (number_in (after 46 x))) o) ≡ is_some o) [ none ↦ refl | some v ↦ refl ])
-    (λ e o. elim o as (λ (o : Option (List ℕ)). is_some (over (λ x. word_number x ∷ []) o) ≡ is_some o) [ none ↦ refl | some v ↦ refl ])
-    b (λ x y z w e o. rw (x, z, w) (elim o as (λ (o : Option (List ℕ)). is_some (over (unspelled b) o) ≡ is_some o) [ none ↦ refl | some v ↦ refl ]))
+    (λ e o. elim o as (λ (o : Option (List ℕ)). is_some (over (unspelled 20) o) ≡ is_some o) [ None ↦ refl | Some v ↦ refl ])
+    (λ e o. elim o as (λ (o : Option (List ℕ)). is_some (over (λ x. bytes_of 8 (number_in (after 46 x))) o) ≡ is_some o) [ None ↦ refl | Some v ↦ refl ])
+    (λ e o. elim o as (λ (o : Option (List ℕ)). is_some (over (λ x. word_number x ∷ []) o) ≡ is_some o) [ None ↦ refl | Some v ↦ refl ])
+    b (λ x y z w e o. rw (x, z, w) (elim o as (λ (o : Option (List ℕ)). is_some (over (unspelled b) o) ≡ is_some o) [ None ↦ refl | Some v ↦ refl ]))
     n o
 
 -- a row that may be missing is of a bit that may
@@ -114,7 +113,7 @@ may_miss =
     test k b = not (in_rows (rows k) b) || (must_in (rows k) b || not (bit (required k) b))
 
 -- the order's name is the first field of a report
-pub name_first : (gs : List Field) → is_some (value_in (rows 16) gs 2) ≡ true → value_in (rows 16) gs 2 ≡ some (first_value gs)
+pub name_first : (gs : List Field) → is_some (value_in (rows 16) gs 2) ≡ true → value_in (rows 16) gs 2 ≡ Some (first_value gs)
 unfolding rows tables
 name_first gs e = head_value (record { tag = 37; bit = 2; must = true }) (drop 1 (rows 16)) gs e
 
@@ -134,8 +133,8 @@ name_rows =
     by_kind_lem (λ k. in_rows (rows k) 2 ≡ true → (k ≡ 16) ⊎ (k ≡ 17)) (λ e. inl refl) (λ e. inr refl) (λ e. clash false e refl) (λ e. clash false e refl) (λ e. clash false e refl)
 
 some_over : (f : List ℕ → List ℕ) (o : Option (List ℕ)) → is_some (over f o) ≡ is_some o
-some_over f none = refl
-some_over f (some c) = refl
+some_over f None = refl
+some_over f (Some c) = refl
 
 text_report : (k : ℕ) → within 16 20 k ≡ true → in_rows (rows k) 27 ≡ true → k ≡ 16
 unfolding rows tables
@@ -161,20 +160,20 @@ both_out at p q = rw (p, q) (both_false (if is_some (at 19) then is_some (at 28)
 
 unsaid_origin : (k : ℕ) (o : Option (List ℕ)) → is_some (unsaid k o 28) ≡ is_some o
 unfolding unsaid if◌then◌otherwise◌
-unsaid_origin k none = refl
-unsaid_origin k (some v) = refl
+unsaid_origin k None = refl
+unsaid_origin k (Some v) = refl
 
-unsaid_fixed : (o : Option (List ℕ)) → unsaid 17 o 27 ≡ none
+unsaid_fixed : (o : Option (List ℕ)) → unsaid 17 o 27 ≡ None
 unfolding unsaid if◌then◌otherwise◌ required required_bits
 unsaid_fixed o = refl
 
 -- ---- values that fit
 
 module _ (k : ℕ) (kind : within 16 20 k ≡ true) (us : Values) (nm : List ℕ)
-    (fit : (b : ℕ) → in_rows (rows k) b ≡ true → (v : List ℕ) → us b ≡ some v → fits k nm b v ≡ true)
+    (fit : (b : ℕ) → in_rows (rows k) b ≡ true → (v : List ℕ) → us b ≡ Some v → fits k nm b v ≡ true)
     (stands : (b : ℕ) → must_in (rows k) b ≡ true → is_some (us b) ≡ true)
-    (silent : (b : ℕ) → in_rows (rows k) b ≡ false → us b ≡ none)
-    (named : in_rows (rows k) 25 ≡ true → us 2 ≡ some nm)
+    (silent : (b : ℕ) → in_rows (rows k) b ≡ false → us b ≡ None)
+    (named : in_rows (rows k) 25 ≡ true → us 2 ≡ Some nm)
     (pair : (is_some (us 20) && is_some (us 27)) ≡ false) where
   abbrev now : Values
   now = contents k us
@@ -196,7 +195,7 @@ module _ (k : ℕ) (kind : within 16 20 k ≡ true) (us : Values) (nm : List ℕ
       must : (j : ℕ) → k ≡ j → must_in (rows j) 19 ≡ true → is_some (us 19) ≡ true
       must j e m = stands 19 (subst (λ (j : ℕ). must_in (rows j) 19 ≡ true) (sym e) m)
 
-      out : (j : ℕ) → k ≡ j → in_rows (rows j) 19 ≡ false → us 19 ≡ none
+      out : (j : ℕ) → k ≡ j → in_rows (rows j) 19 ≡ false → us 19 ≡ None
       out j e i = silent 19 (subst (λ (j : ℕ). in_rows (rows j) 19 ≡ false) (sym e) i)
 
       go : (j : ℕ) → k ≡ j → within 16 20 j ≡ true → reasoned k (us 19) ≡ true
@@ -214,8 +213,8 @@ module _ (k : ℕ) (kind : within 16 20 k ≡ true) (us : Values) (nm : List ℕ
     where
       go : (x : Bool) → in_rows (rows k) b ≡ x → (o : Option (List ℕ)) → us b ≡ o → right k b (now b) ≡ true
       go false i o z = rw (now_out b i) (⊎_elim (λ q. clash (in_rows (rows k) b) q i) (λ q. q) (either_true (in_rows (rows k) b) _ (unsaid_right k kind (us 19) reason b h)))
-      go true i (some v) z = rw (now_in b i, z) (fits_right k nm b v (fit b i v z))
-      go true i none z =
+      go true i (Some v) z = rw (now_in b i, z) (fits_right k nm b v (fit b i v z))
+      go true i None z =
           let q : not (bit (required k) b) ≡ true =
           ⊎_elim (λ y. clash (in_rows (rows k) b) i (not-true _ y))
           (λ y. ⊎_elim (λ m. clash (is_some (us b)) (stands b m) (ap is_some z)) (λ m. m) (either_true (must_in (rows k) b) _ y))
@@ -224,48 +223,48 @@ module _ (k : ℕ) (kind : within 16 20 k ≡ true) (us : Values) (nm : List ℕ
 
   -- what is written again
 
-  now_name : in_rows (rows k) 25 ≡ true → now 2 ≡ some nm
+  now_name : in_rows (rows k) 25 ≡ true → now 2 ≡ Some nm
   now_name i =
       let r = only_report k kind i in
       let j = with_name k kind i in
-      let f : right k 2 (held_in 2 (some nm)) ≡ true = fits_right k nm 2 nm (fit 2 j nm (named i)) in
-      now_in 2 j ∙ ap (held_in 2) (named i) ∙ go (same nm none_word) refl (subst (λ (j : ℕ). right j 2 (held_in 2 (some nm)) ≡ true) r f)
+      let f : right k 2 (held_in 2 (Some nm)) ≡ true = fits_right k nm 2 nm (fit 2 j nm (named i)) in
+      now_in 2 j ∙ ap (held_in 2) (named i) ∙ go (same nm none_word) refl (subst (λ (j : ℕ). right j 2 (held_in 2 (Some nm)) ≡ true) r f)
     where
-      go : (x : Bool) → same nm none_word ≡ x → right 16 2 (held_in 2 (some nm)) ≡ true → held_in 2 (some nm) ≡ some nm
+      go : (x : Bool) → same nm none_word ≡ x → right 16 2 (held_in 2 (Some nm)) ≡ true → held_in 2 (Some nm) ≡ Some nm
       go false e f = unfold held_in if◌then◌otherwise◌ in rw e refl
       go true e f =
-          let z : held_in 2 (some nm) ≡ none = unfold held_in if◌then◌otherwise◌ in rw e refl in
-          clash (right 16 2 (held_in 2 (some nm))) f (rw z (unfold required required_bits in refl))
+          let z : held_in 2 (Some nm) ≡ None = unfold held_in if◌then◌otherwise◌ in rw e refl in
+          clash (right 16 2 (held_in 2 (Some nm))) f (rw z (unfold required required_bits in refl))
 
-  again_2 : in_rows (rows k) 2 ≡ true → (v : List ℕ) → us 2 ≡ some v → value_of k now 2 ≡ some v
+  again_2 : in_rows (rows k) 2 ≡ true → (v : List ℕ) → us 2 ≡ Some v → value_of k now 2 ≡ Some v
   unfolding value_of if◌then◌otherwise◌
   again_2 i v z = ⊎_elim report reject (name_rows k kind i)
     where
-      held : now 2 ≡ (if same v none_word then none otherwise some v)
+      held : now 2 ≡ (if same v none_word then None otherwise Some v)
       held = now_in 2 i ∙ ap (held_in 2) z ∙ (unfold held_in if◌then◌otherwise◌ in refl)
 
-      report : k ≡ 16 → value_of k now 2 ≡ some v
+      report : k ≡ 16 → value_of k now 2 ≡ Some v
       report e =
-          let f : right 16 2 (held_in 2 (some v)) ≡ true = subst (λ (j : ℕ). right j 2 (held_in 2 (some v)) ≡ true) e (fits_right k nm 2 v (fit 2 i v z)) in
+          let f : right 16 2 (held_in 2 (Some v)) ≡ true = subst (λ (j : ℕ). right j 2 (held_in 2 (Some v)) ≡ true) e (fits_right k nm 2 v (fit 2 i v z)) in
           rw (ne_eqb k 17 (λ q. absurd (omega arith))) (held ∙ go (same v none_word) refl f)
         where
-          go : (x : Bool) → same v none_word ≡ x → right 16 2 (held_in 2 (some v)) ≡ true → (if same v none_word then none otherwise some v) ≡ some v
+          go : (x : Bool) → same v none_word ≡ x → right 16 2 (held_in 2 (Some v)) ≡ true → (if same v none_word then None otherwise Some v) ≡ Some v
           go false e f = rw e refl
           go true e f =
-              let z : held_in 2 (some v) ≡ none = unfold held_in if◌then◌otherwise◌ in rw e refl in
-              clash (right 16 2 (held_in 2 (some v))) f (rw z (unfold required required_bits in refl))
+              let z : held_in 2 (Some v) ≡ None = unfold held_in if◌then◌otherwise◌ in rw e refl in
+              clash (right 16 2 (held_in 2 (Some v))) f (rw z (unfold required required_bits in refl))
 
-      reject : k ≡ 17 → value_of k now 2 ≡ some v
+      reject : k ≡ 17 → value_of k now 2 ≡ Some v
       reject e = rw (eq-eqb k 17 e, held) (go (same v none_word) refl)
         where
-          go : (x : Bool) → same v none_word ≡ x → some (or_else none_word (if same v none_word then none otherwise some v)) ≡ some v
+          go : (x : Bool) → same v none_word ≡ x → Some (or_else none_word (if same v none_word then None otherwise Some v)) ≡ Some v
           go false e = rw e refl
-          go true e = rw e (ap (λ (w : List ℕ). some w) (sym (same_true v none_word e)))
+          go true e = rw e (ap (λ (w : List ℕ). Some w) (sym (same_true v none_word e)))
 
   held_20 : (o : Option (List ℕ)) → held_in 20 o ≡ o
   unfolding held_in if◌then◌otherwise◌ unspelled is_plain size range fields
-  held_20 none = refl
-  held_20 (some c) = refl
+  held_20 None = refl
+  held_20 (Some c) = refl
 
   again_20 : in_rows (rows k) 20 ≡ true → value_of k now 20 ≡ us 20
   again_20 i = go (us 20) refl (ℕ_discrete k 17)
@@ -278,8 +277,8 @@ module _ (k : ℕ) (kind : within 16 20 k ≡ true) (us : Values) (nm : List ℕ
 
       go : (o : Option (List ℕ)) → us 20 ≡ o → Dec (k ≡ 17) → value_of k now 20 ≡ us 20
       go o z (no e) = opened ∙ if_false (k == 17) _ _ (ne_eqb k 17 e) ∙ mine
-      go (some v) z (yes e) = opened ∙ if_true (k == 17) _ _ (eq-eqb k 17 e) ∙ ap (λ (o : Option (List ℕ)). either o (over fixed_words (now 27))) (mine ∙ z) ∙ sym z
-      go none z (yes e) =
+      go (Some v) z (yes e) = opened ∙ if_true (k == 17) _ _ (eq-eqb k 17 e) ∙ ap (λ (o : Option (List ℕ)). either o (over fixed_words (now 27))) (mine ∙ z) ∙ sym z
+      go None z (yes e) =
           clash (is_some (us 20)) (stands 20 (subst (λ (j : ℕ). must_in (rows j) 20 ≡ true) (sym e) (unfold rows tables in refl))) (ap is_some z)
 
   again_25 : in_rows (rows k) 25 ≡ true → value_of k now 25 ≡ us 25
@@ -289,14 +288,14 @@ module _ (k : ℕ) (kind : within 16 20 k ≡ true) (us : Values) (nm : List ℕ
       opened = unfold value_of if◌then◌otherwise◌ in refl
 
       go : (o : Option (List ℕ)) → us 25 ≡ o → value_of k now 25 ≡ us 25
-      go none z =
+      go None z =
           clash (is_some (us 25)) (stands 25 (subst (λ (j : ℕ). must_in (rows j) 25 ≡ true) (sym (only_report k kind i)) (unfold rows tables in refl))) (ap is_some z)
-      go (some v) z =
-          let h : now 25 ≡ some (bytes_of 8 (number_in (after 46 v))) = now_in 25 i ∙ ap (held_in 25) z ∙ (unfold held_in if◌then◌otherwise◌ in refl) in
+      go (Some v) z =
+          let h : now 25 ≡ Some (bytes_of 8 (number_in (after 46 v))) = now_in 25 i ∙ ap (held_in 25) z ∙ (unfold held_in if◌then◌otherwise◌ in refl) in
           let s : nm ++ (46 ∷ digits (number (bytes_of 8 (number_in (after 46 v))))) ≡ v = (unfold respelled if◌then◌otherwise◌ in fits_same k nm 25 v (fit 25 i v z)) in
           opened
           ∙ (λ x. over (exec_id (now_name i x)) (h x))
-          ∙ ap (λ (w : List ℕ). some w) s
+          ∙ ap (λ (w : List ℕ). Some w) s
           ∙ sym z
 
   again_27 : in_rows (rows k) 27 ≡ true → value_of k now 27 ≡ us 27
@@ -306,11 +305,11 @@ module _ (k : ℕ) (kind : within 16 20 k ≡ true) (us : Values) (nm : List ℕ
       opened = unfold value_of if◌then◌otherwise◌ in refl
 
       go : (o : Option (List ℕ)) → us 27 ≡ o → value_of k now 27 ≡ us 27
-      go none z = opened ∙ ap (over fixed_words) (now_in 27 i ∙ ap (held_in 27) z ∙ held_none_none 27) ∙ sym z
-      go (some v) z =
-          let h : now 27 ≡ some (word_number v ∷ []) = now_in 27 i ∙ ap (held_in 27) z ∙ (unfold held_in if◌then◌otherwise◌ in refl) in
+      go None z = opened ∙ ap (over fixed_words) (now_in 27 i ∙ ap (held_in 27) z ∙ held_none_none 27) ∙ sym z
+      go (Some v) z =
+          let h : now 27 ≡ Some (word_number v ∷ []) = now_in 27 i ∙ ap (held_in 27) z ∙ (unfold held_in if◌then◌otherwise◌ in refl) in
           let s : fixed_words (word_number v ∷ []) ≡ v = (unfold respelled if◌then◌otherwise◌ in fits_same k nm 27 v (fit 27 i v z)) in
-          opened ∙ ap (over fixed_words) h ∙ ap (λ (w : List ℕ). some w) s ∙ sym z
+          opened ∙ ap (over fixed_words) h ∙ ap (λ (w : List ℕ). Some w) s ∙ sym z
 
   again_plain : (b : ℕ) → (b == 2) ≡ false → (b == 20) ≡ false → (b == 25) ≡ false → (b == 27) ≡ false → in_rows (rows k) b ≡ true → value_of k now b ≡ us b
   again_plain b n2 n20 n25 n27 i = go (us b) refl
@@ -319,18 +318,18 @@ module _ (k : ℕ) (kind : within 16 20 k ≡ true) (us : Values) (nm : List ℕ
       opened = unfold value_of if◌then◌otherwise◌ in rw (n2, n20, n25, n27) refl
 
       go : (o : Option (List ℕ)) → us b ≡ o → value_of k now b ≡ us b
-      go none z = opened ∙ ap (over (spelling b)) (now_in b i ∙ ap (held_in b) z ∙ held_none_none b) ∙ sym z
-      go (some v) z =
-          let h : now b ≡ some (unspelled b v) = now_in b i ∙ ap (held_in b) z ∙ (unfold held_in if◌then◌otherwise◌ in rw (n2, n25, n27) refl) in
+      go None z = opened ∙ ap (over (spelling b)) (now_in b i ∙ ap (held_in b) z ∙ held_none_none b) ∙ sym z
+      go (Some v) z =
+          let h : now b ≡ Some (unspelled b v) = now_in b i ∙ ap (held_in b) z ∙ (unfold held_in if◌then◌otherwise◌ in rw (n2, n25, n27) refl) in
           let q : respelled nm b v ≡ spelling b (unspelled b v) = (unfold respelled if◌then◌otherwise◌ in rw (n2, n20, n25, n27) refl) in
-          opened ∙ ap (over (spelling b)) h ∙ ap (λ (w : List ℕ). some w) (sym q ∙ fits_same k nm b v (fit b i v z)) ∙ sym z
+          opened ∙ ap (over (spelling b)) h ∙ ap (λ (w : List ℕ). Some w) (sym q ∙ fits_same k nm b v (fit b i v z)) ∙ sym z
 
   again_name : in_rows (rows k) 2 ≡ true → value_of k now 2 ≡ us 2
   again_name i = go (us 2) refl
     where
       go : (o : Option (List ℕ)) → us 2 ≡ o → value_of k now 2 ≡ us 2
-      go (some v) z = again_2 i v z ∙ sym z
-      go none z = clash (is_some (us 2)) (stands 2 (must_name k kind i)) (ap is_some z)
+      go (Some v) z = again_2 i v z ∙ sym z
+      go None z = clash (is_some (us 2)) (stands 2 (must_name k kind i)) (ap is_some z)
 
   pub fit_values : (b : ℕ) → in_rows (rows k) b ≡ true → value_of k now b ≡ us b
   fit_values b i =
@@ -366,42 +365,42 @@ module _ (k : ℕ) (kind : within 16 20 k ≡ true) (us : Values) (nm : List ℕ
 -- ---- the values of a right record fit
 
 module _ (k : ℕ) (at : Values) (kind : within 16 20 k ≡ true) (ok : (b : ℕ) → b < 32 → right k b (at b) ≡ true) (pair : paired k at ≡ true)
-    (us : Values) (found : (b : ℕ) → in_rows (rows k) b ≡ true → us b ≡ value_of k at b) (else_none : (b : ℕ) → in_rows (rows k) b ≡ false → us b ≡ none)
-    (nm : List ℕ) (named : in_rows (rows k) 25 ≡ true → us 2 ≡ some nm) where
+    (us : Values) (found : (b : ℕ) → in_rows (rows k) b ≡ true → us b ≡ value_of k at b) (else_none : (b : ℕ) → in_rows (rows k) b ≡ false → us b ≡ None)
+    (nm : List ℕ) (named : in_rows (rows k) 25 ≡ true → us 2 ≡ Some nm) where
   abbrev read : Values
   read = contents k us
 
-  read_in : (b : ℕ) → in_rows (rows k) b ≡ true → (v : List ℕ) → us b ≡ some v → read b ≡ held_in b (some v)
+  read_in : (b : ℕ) → in_rows (rows k) b ≡ true → (v : List ℕ) → us b ≡ Some v → read b ≡ held_in b (Some v)
   unfolding contents
   read_in b i v z = if_true (in_rows (rows k) b) _ _ i ∙ ap (held_in b) z
 
-  wrote : (b : ℕ) → in_rows (rows k) b ≡ true → (v : List ℕ) → us b ≡ some v → value_of k read b ≡ some v
+  wrote : (b : ℕ) → in_rows (rows k) b ≡ true → (v : List ℕ) → us b ≡ Some v → value_of k read b ≡ Some v
   wrote b i v z = again_values k at kind ok pair us found else_none b i ∙ sym (found b i) ∙ z
 
-  read_name : in_rows (rows k) 25 ≡ true → read 2 ≡ some nm
+  read_name : in_rows (rows k) 25 ≡ true → read 2 ≡ Some nm
   read_name i =
       let j = with_name k kind i in
       let e = only_report k kind i in
       let q : value_of k at 2 ≡ at 2 = (unfold value_of if◌then◌otherwise◌ in rw (ne_eqb k 17 (λ z. absurd (omega arith))) refl) in
       kept k at kind ok pair us found else_none 2 j (λ z. clash false z refl) ∙ sym q ∙ sym (found 2 j) ∙ named i
 
-  spelled : (b : ℕ) → in_rows (rows k) b ≡ true → (v : List ℕ) → us b ≡ some v → respelled nm b v ≡ v
+  spelled : (b : ℕ) → in_rows (rows k) b ≡ true → (v : List ℕ) → us b ≡ Some v → respelled nm b v ≡ v
   spelled b i v z =
-      by_bit (λ b. in_rows (rows k) b ≡ true → us b ≡ some v → respelled nm b v ≡ v)
+      by_bit (λ b. in_rows (rows k) b ≡ true → us b ≡ Some v → respelled nm b v ≡ v)
       (λ i z. unfold respelled if◌then◌otherwise◌ in refl)
       (λ i z. unfold respelled if◌then◌otherwise◌ in refl)
-      (λ i z. let o : value_of k read 25 ≡ some (respelled nm 25 v) =
+      (λ i z. let o : value_of k read 25 ≡ Some (respelled nm 25 v) =
       (unfold value_of held_in respelled if◌then◌otherwise◌ in (λ x. over (exec_id (read_name i x)) (read_in 25 i v z x))) in
       same_some o (wrote 25 i v z))
-      (λ i z. let o : value_of k read 27 ≡ some (respelled nm 27 v) = (unfold value_of held_in respelled if◌then◌otherwise◌ in ap (over fixed_words) (read_in 27 i v z)) in
+      (λ i z. let o : value_of k read 27 ≡ Some (respelled nm 27 v) = (unfold value_of held_in respelled if◌then◌otherwise◌ in ap (over fixed_words) (read_in 27 i v z)) in
       same_some o (wrote 27 i v z))
       b
       (λ n2 n20 n25 n27 i z. same_some
-      (plain_value b n2 n20 n25 n27 k read ∙ ap (over (spelling b)) (read_in b i v z ∙ plain_held b n2 n20 n25 n27 v) ∙ ap (λ (w : List ℕ). some w) (sym (plain_respelled b n2 n20 n25 n27 nm v)))
+      (plain_value b n2 n20 n25 n27 k read ∙ ap (over (spelling b)) (read_in b i v z ∙ plain_held b n2 n20 n25 n27 v) ∙ ap (λ (w : List ℕ). Some w) (sym (plain_respelled b n2 n20 n25 n27 nm v)))
       (wrote b i v z))
       i z
 
-  pub fit_again : (b : ℕ) → in_rows (rows k) b ≡ true → (v : List ℕ) → us b ≡ some v → fits k nm b v ≡ true
+  pub fit_again : (b : ℕ) → in_rows (rows k) b ≡ true → (v : List ℕ) → us b ≡ Some v → fits k nm b v ≡ true
   fit_again b i v z =
       fits_is k nm b v (rw (read_in b i v z) at (again_right k at kind ok pair us found else_none b (row_small k kind b i))) (spelled b i v z)
 

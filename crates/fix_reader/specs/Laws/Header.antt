@@ -1,10 +1,11 @@
 -- The header's questions in the order of the code. Rests on Checks, Classes,
 -- Cut and Taking.
-use Rattle.std.specs.Prelude.{◌≡◌, ℕ, ◌<◌, Bool, true, false, ◌&&◌, ltb, leb, ◌⊎◌, List, [], ◌∷◌, length, ◌==◌, ◌≢◌, nat_le, nat_lt, slice_index, refl}
-use Rattle.std.proofs.Common.{sym, ◌∙◌, inl, inr, ⊎_elim, arith, eqb-true, eq-eqb, ne_eqb}
+use Rattle.std.specs.Prelude.{◌≡◌, ℕ, ◌<◌, ◌≤◌, Bool, true, false, not, ◌&&◌, leb, ◌⊎◌, List, [], ◌∷◌, length, ◌==◌, ◌≢◌, nat_le, nat_lt, slice_index, Option, None, Some, refl}
+use Rattle.std.proofs.Common.{sym, ◌∙◌, inl, inr, ⊎_elim, arith, eqb-true, eq-eqb, ne_eqb, leb-true, le-leb}
+use Rattle.std.proofs.lemmas.Bool.Decides.{nat_tests}
 use Rattle.std.proofs.Math.Path.{ap}
 use Rattle.std.proofs.Math.Decide.{ℕ_discrete}
-use Rattle.prelude.specs.Cases.{if◌then◌otherwise◌, both_true, both_false}
+use Rattle.prelude.specs.Cases.{if◌then◌otherwise◌, if_false, both_true, both_false, none_some, same_some}
 use Rattle.format.specs.Codes.{within}
 use Rattle.fix_words.specs.Lists.{same}
 use Rattle.fix_words.specs.Spelling.{Field, fields_in}
@@ -12,11 +13,13 @@ use Rattle.fix_words.specs.Values.{types, type_of, kind_of}
 use Rattle.fix_words.specs.Message.{version, is_text, value_at}
 use Rattle.fix_words.specs.Laws.Lists.{same_self}
 use Rattle.fix_words.specs.Laws.Held.{one_byte}
+use Rattle.fix_claims.specs.declared.FixFields.{FixFields}
 use Rattle.fix_claims.specs.Reading.{tag_of}
+use Rattle.fix_table.specs.Table.{kind_for}
 use Rattle.fix_reader.specs.Laws.Numbers.{same_long}
 use Rattle.fix_reader.specs.Laws.Classes.{text_some}
 use Rattle.fix_reader.specs.Laws.Checks.{kind_in, head_tags, is_number, headed, ends, checks}
-use Rattle.fix_reader.specs.Laws.Cut.{Cut, part_prints, value_long}
+use Rattle.fix_reader.specs.Laws.Cut.{Cut, part_prints}
 use Rattle.fix_reader.specs.Laws.Taking.{walk_all}
 
 abbrev pub tags_in : List ℕ → Bool
@@ -62,35 +65,83 @@ type_one v h = ⊎_elim none some (kind_cases c)
         first true y p = refl
         first false y p = p
 
+-- the kind that a value of 35 names
+unfoldable pub type_kind : List ℕ → Option ℕ
+type_kind v = if is_type v then Some (kind_of (slice_index v 0)) otherwise None
+
+pub one_type : (c : ℕ) → kind_for c ≡ type_kind (c ∷ [])
+unfolding type_kind kind_for if◌then◌otherwise◌
+one_type c = ⊎_elim none some (kind_cases c)
+  where
+    none : kind_of c ≡ 0 → kind_for c ≡ type_kind (c ∷ [])
+    none e = rw e refl
+
+    some : (within 16 20 (kind_of c) ≡ true) × (type_of (kind_of c) ≡ c) → kind_for c ≡ type_kind (c ∷ [])
+    some e =
+        let h : 16 ≤ kind_of c = leb-true 16 (kind_of c) (both_true (nat_le 16 (kind_of c)) (nat_le (kind_of c) 20) e.0).0 in
+        rw (ne_eqb (kind_of c) 0 (λ z. absurd (omega arith)), type_one (c ∷ []) refl, le-leb 16 (kind_of c) h) refl
+
+pub no_type : (v : List ℕ) → (length v ≢ 1) → type_kind v ≡ None
+unfolding type_kind
+no_type v h = if_false (is_type v) _ None (type_long v h)
+
 -- ---- all of it
 
-arranged : (b w y t3 t4 n5 t6 : Bool) → (b && (w && (y && (t3 && (t4 && (n5 && t6)))))) ≡ (b && ((w && y) && (n5 && (t3 && (t4 && t6)))))
-arranged false w y t3 t4 n5 t6 = refl
-arranged true false y t3 t4 n5 t6 = refl
-arranged true true false t3 t4 n5 t6 = refl
-arranged true true true t3 t4 true t6 = refl
-arranged true true true false t4 false t6 = refl
-arranged true true true true false false t6 = refl
-arranged true true true true true false t6 = refl
+-- the kind of a message, where its header is one that the writer yields
+unfoldable pub kind_headed : List Field → Option ℕ
+kind_headed fs = if headed fs then Some (kind_in fs) otherwise None
 
-module _ (s : List ℕ) (n : ℕ) (tag at len : List ℕ) (z : Cut s n tag at len) where
+-- the questions one by one
+abbrev pub asked_in_turn : (a b : Bool) (k : Option ℕ) (r : Bool) → Option ℕ
+asked_in_turn false b k r = None
+asked_in_turn true false k r = None
+asked_in_turn true true None r = None
+asked_in_turn true true (Some k) r = if r then Some k otherwise None
+
+in_turn : (a b w y t3 t4 n5 t6 : Bool) (k : ℕ) → (if a && (b && (w && (y && (t3 && (t4 && (n5 && t6)))))) then Some k otherwise None) ≡ asked_in_turn a b (if w && y then Some k otherwise None) (t3 && (t4 && (n5 && t6)))
+unfolding if◌then◌otherwise◌
+in_turn false b w y t3 t4 n5 t6 k = refl
+in_turn true false w y t3 t4 n5 t6 k = refl
+in_turn true true false y t3 t4 n5 t6 k = refl
+in_turn true true true false t3 t4 n5 t6 k = refl
+in_turn true true true true t3 t4 n5 t6 k = refl
+
+some_is : (n : ℕ) → nat_lt 0 n ≡ not (n == 0)
+some_is n = grind (arith, nat_tests)
+
+module _ (s : List ℕ) (r : FixFields) (z : Cut s r.count r.tag r.at r.length) where
   abbrev fs : List Field
   fs = fields_in s
 
-  tags_are : head_tags fs ≡ tags_in tag
+  tags_are : head_tags fs ≡ tags_in r.tag
   tags_are = sym (λ i. (z.tags 0 (omega arith) i == 8) && (z.tags 1 (omega arith) i == 9 && (z.tags 2 (omega arith) i == 35 && (z.tags 3 (omega arith) i == 49
       && (z.tags 4 (omega arith) i == 56 && (z.tags 5 (omega arith) i == 34 && z.tags 6 (omega arith) i == 52))))))
 
-  text_at : (i : ℕ) → i < 32 → is_text (value_at fs i) ≡ nat_lt 0 (slice_index len i)
-  text_at i h = text_some (value_at fs i) (part_prints s at len z.placed i h) ∙ ap (ltb 0) (value_long s at len z.placed i h)
+  text_at : (i : ℕ) → i < 32 → is_text (value_at fs i) ≡ not (length (value_at fs i) == 0)
+  text_at i h = text_some (value_at fs i) (part_prints s r.at r.length z.placed i h) ∙ some_is (length (value_at fs i))
 
-  pub header_is : headed fs ≡ (tags_in tag && (same (value_at fs 0) version && (is_type (value_at fs 2) && (is_number (value_at fs 5) && (nat_lt 0 (slice_index len 3) && (nat_lt 0 (slice_index len 4) && nat_lt 0 (slice_index len 6)))))))
-  unfolding headed
-  header_is =
-      (λ i. tags_are i && (same (value_at fs 0) version && (within 16 20 (kind_in fs) && (same (value_at fs 2) (type_of (kind_in fs) ∷ [])
-      && (text_at 3 (omega arith) i && (text_at 4 (omega arith) i && (is_number (value_at fs 5) && text_at 6 (omega arith) i)))))))
-      ∙ ap (λ (b : Bool). tags_in tag && b)
-      (arranged (same (value_at fs 0) version) (within 16 20 (kind_in fs)) (same (value_at fs 2) (type_of (kind_in fs) ∷ [])) (nat_lt 0 (slice_index len 3)) (nat_lt 0 (slice_index len 4)) (is_number (value_at fs 5)) (nat_lt 0 (slice_index len 6)))
+  abbrev pub texts_right : Bool
+  texts_right = not (length (value_at fs 3) == 0) && (not (length (value_at fs 4) == 0) && (is_number (value_at fs 5) && not (length (value_at fs 6) == 0)))
+
+  kind_is : kind_headed fs ≡ asked_in_turn (tags_in r.tag) (same (value_at fs 0) version) (type_kind (value_at fs 2)) texts_right
+  unfolding kind_headed headed type_kind
+  kind_is =
+      in_turn (head_tags fs) (same (value_at fs 0) version) (within 16 20 (kind_in fs)) (same (value_at fs 2) (type_of (kind_in fs) ∷ [])) (is_text (value_at fs 3)) (is_text (value_at fs 4)) (is_number (value_at fs 5)) (is_text (value_at fs 6)) (kind_in fs)
+      ∙ (λ i. asked_in_turn (tags_are i) (same (value_at fs 0) version) (type_kind (value_at fs 2)) (text_at 3 (omega arith) i && (text_at 4 (omega arith) i && (is_number (value_at fs 5) && text_at 6 (omega arith) i))))
+
+  pub kind_untagged : tags_in r.tag ≡ false → None ≡ kind_headed fs
+  kind_untagged a = sym (kind_is ∙ (λ i. asked_in_turn (a i) (same (value_at fs 0) version) (type_kind (value_at fs 2)) texts_right))
+
+  module _ (a : tags_in r.tag ≡ true) where
+    pub kind_other : same (value_at fs 0) version ≡ false → None ≡ kind_headed fs
+    kind_other b = sym (kind_is ∙ (λ i. asked_in_turn (a i) (b i) (type_kind (value_at fs 2)) texts_right))
+
+    module _ (b : same (value_at fs 0) version ≡ true) where
+      pub kind_untyped : type_kind (value_at fs 2) ≡ None → None ≡ kind_headed fs
+      kind_untyped k = sym (kind_is ∙ (λ i. asked_in_turn (a i) (b i) (k i) texts_right))
+
+      pub kind_typed : (k : ℕ) → type_kind (value_at fs 2) ≡ Some k → (if texts_right then Some k otherwise None) ≡ kind_headed fs
+      kind_typed k e = sym (kind_is ∙ (λ i. asked_in_turn (a i) (b i) (e i) texts_right))
 
 -- ---- what follows
 
@@ -116,3 +167,20 @@ module _ (fs : List Field) (e : headed fs ≡ true) where
 pub checks_unheaded : (fs : List Field) → headed fs ≡ false → checks fs ≡ false
 unfolding checks
 checks_unheaded fs e = ap (λ (b : Bool). b && ends fs (walk_all fs (kind_in fs))) e
+
+-- a kind was found exactly where the header is right
+pub kind_none : (fs : List Field) → kind_headed fs ≡ None → headed fs ≡ false
+unfolding kind_headed if◌then◌otherwise◌
+kind_none fs = go (headed fs)
+  where
+    go : (b : Bool) → (if b then Some (kind_in fs) otherwise None) ≡ None → b ≡ false
+    go true e = none_some e refl
+    go false e = refl
+
+pub kind_some : (fs : List Field) (k : ℕ) → kind_headed fs ≡ Some k → (headed fs ≡ true) × (k ≡ kind_in fs)
+unfolding kind_headed if◌then◌otherwise◌
+kind_some fs k = go (headed fs)
+  where
+    go : (b : Bool) → (if b then Some (kind_in fs) otherwise None) ≡ Some k → (b ≡ true) × (k ≡ kind_in fs)
+    go true e = (refl, same_some e refl)
+    go false e = none_some refl e

@@ -1,6 +1,6 @@
 -- The first field of bytes, as code finds it: a tag of at most three digits, '=', printing bytes, SOH; and that there is no other way to read it.
 -- Rests on Spelling.
-use Rattle.std.specs.Prelude.{◌≡◌, ℕ, suc, ◌+◌, ◌-◌, ◌/◌, ◌%◌, ◌<◌, ◌≤◌, true, ◌⊎◌, List, [], ◌∷◌, ◌++◌, length, drop, ◌≢◌, slice_index, slice_index_or}
+use Rattle.std.specs.Prelude.{◌≡◌, ℕ, suc, ◌+◌, ◌-◌, ◌/◌, ◌%◌, ◌<◌, ◌≤◌, true, ◌⊎◌, List, [], ◌∷◌, ◌++◌, length, drop, ◌≢◌, slice_index, slice_index_or, Option, None, Some}
 use Rattle.std.proofs.Math.Path.{sym, ap}
 use Rattle.std.proofs.Common.{◌∙◌, append_assoc, inl, inr, ⊎_elim, arith, add-one, leb-true, le-leb, lit<, length-append, length-drop, take-append-drop, drop-cons, get_or-drop, get_or-append-add, drop-drop}
 use Rattle.std.proofs.Math.Decide.{dec_lt}
@@ -8,8 +8,8 @@ use Rattle.std.proofs.Math.ListN.{get_or-eq_default, get_or-append}
 use Rattle.prelude.specs.Span.{span, get_span, length_span}
 use Rattle.decimal.specs.Decimal.{digits, lowest}
 use Rattle.decimal.specs.Laws.Width.{digits_one, digits_more}
-use Rattle.fix_reader.specs.declared.Tag.{Tag}
-use Rattle.fix_reader.specs.declared.Piece.{Piece}
+use Rattle.fix_reader.specs.declared.pieces.Tag.{Tag}
+use Rattle.fix_reader.specs.declared.pieces.Piece.{Piece}
 use Rattle.fix_words.specs.Lists.{every, is_print, after}
 use Rattle.fix_words.specs.Spelling.{Field, field, soh, equals, piece}
 use Rattle.fix_words.specs.Laws.Lists.{after_cut, every_below, below_every}
@@ -135,19 +135,18 @@ tag_cases t n p h u w = go (dec_lt n 10) (dec_lt n 100)
         let g2 : slice_index_or t 2 0 ≡ lowest n = g 2 in
         inr (inr (record { low = omega arith; high = omega arith; low1 = omega arith; high1 = omega arith; low2 = omega arith; high2 = omega arith; end = g 3 }))
 
+-- a byte as a digit, where it is one
+abbrev pub Digit : ℕ → Option ℕ → Type 0
+Digit c None = 48 ≤ c → 57 < c
+Digit c (Some d) = (c ≡ 48 + d) × (d < 10)
+
 -- the tag that code found, or that none stands first
-pub record Tagged (t : List ℕ) (r : Tag) : Type 0 where
-  pub found : (r.tag ≢ 0) → TagAt t r.tag r.at
-  pub missing : r.tag ≡ 0 → (n : ℕ) → 0 < n → n < 1000 → (u : List ℕ) → t ≢ digits n ++ (equals ∷ u)
+abbrev pub Tagged : List ℕ → Option Tag → Type 0
+Tagged t None = (n : ℕ) → 0 < n → n < 1000 → (u : List ℕ) → t ≢ digits n ++ (equals ∷ u)
+Tagged t (Some r) = TagAt t r.tag r.at
 
-pub with_tag : (t : List ℕ) (r : Tag) → TagAt t r.tag r.at → Tagged t r
-with_tag t r h = record { found = λ z. h; missing = λ e. absurd (omega (arith, h.some)) }
-
-pub no_tag : (t : List ℕ) (r : Tag) → r.tag ≡ 0 → (One t → ⊥) → (Two t → ⊥) → (Three t → ⊥) → Tagged t r
-no_tag t r e a b c = record {
-  found = λ z. absurd (z e);
-  missing = λ q n p h u w. ⊎_elim a (λ y. ⊎_elim b c y) (tag_cases t n p h u w);
-}
+pub no_tag : (t : List ℕ) → (One t → ⊥) → (Two t → ⊥) → (Three t → ⊥) → Tagged t None
+no_tag t a b c n p h u w = ⊎_elim a (λ y. ⊎_elim b c y) (tag_cases t n p h u w)
 
 -- ---- where the printing bytes end
 
@@ -173,19 +172,16 @@ pub record PieceAt (t : List ℕ) (n at end : ℕ) : Type 0 where
   pub prints : every is_print (span t at (end - at)) ≡ true
   pub whole : t ≡ piece (field n (span t at (end - at))) ++ (soh ∷ drop (end + 1) t)
 
-pub record Pieced (t : List ℕ) (r : Piece) : Type 0 where
-  pub found : (r.tag ≢ 0) → PieceAt t r.tag r.at r.end
-  pub missing : r.tag ≡ 0 → (f : Field) → Plain f → (u : List ℕ) → t ≢ piece f ++ (soh ∷ u)
-
-pub no_piece : (t : List ℕ) (r : Piece) → r.tag ≡ 0 → ((f : Field) → Plain f → (u : List ℕ) → t ≢ piece f ++ (soh ∷ u)) → Pieced t r
-no_piece t r e h = record { found = λ z. absurd (z e); missing = λ q. h }
+abbrev pub Pieced : List ℕ → Option Piece → Type 0
+Pieced t None = (f : Field) → Plain f → (u : List ℕ) → t ≢ piece f ++ (soh ∷ u)
+Pieced t (Some r) = PieceAt t r.tag r.at r.end
 
 piece_open : (f : Field) (u : List ℕ) → piece f ++ (soh ∷ u) ≡ digits f.tag ++ (equals ∷ (f.value ++ (soh ∷ u)))
 unfolding piece
 piece_open f u = append_assoc (digits f.tag) (equals ∷ f.value) (soh ∷ u)
 
-pub untagged : (t : List ℕ) (g : Tag) → Tagged t g → g.tag ≡ 0 → (f : Field) → Plain f → (u : List ℕ) → t ≢ piece f ++ (soh ∷ u)
-untagged t g k e f p u w = k.missing e f.tag p.some p.small (f.value ++ (soh ∷ u)) (w ∙ piece_open f u)
+pub untagged : (t : List ℕ) → Tagged t None → Pieced t None
+untagged t k f p u w = k f.tag p.some p.small (f.value ++ (soh ∷ u)) (w ∙ piece_open f u)
 
 module _ (t : List ℕ) (n at e : ℕ) (k : TagAt t n at) (z : Ends t at e) where
   printing : every is_print (span t at (e - at)) ≡ true
@@ -195,9 +191,10 @@ module _ (t : List ℕ) (n at e : ℕ) (k : TagAt t n at) (z : Ends t at e) wher
       (λ i h. let b : 32 ≤ slice_index_or t (at + i) 0 = z.prints (at + i) (omega (arith, z.order)) (omega arith) in
       ap is_print (get_span t at (e - at) i (omega arith)) ∙ le-leb 32 (slice_index t (at + i)) b)
 
-  pub piece_here : e < length t → slice_index t e ≡ soh → PieceAt t n at e
+  pub piece_here : slice_index t e ≡ soh → PieceAt t n at e
   unfolding piece span
-  piece_here h b =
+  piece_here b =
+      let h : e < length t = stands_at t e soh (omega arith) b in
       let d : at + (e - at) ≡ e = omega (arith, z.order) in
       let r : drop at t ≡ span t at (e - at) ++ (soh ∷ drop (e + 1) t) =
       sym (take-append-drop (e - at) (drop at t))
@@ -248,6 +245,3 @@ module _ (t : List ℕ) (n at e : ℕ) (k : TagAt t n at) (z : Ends t at e) wher
 
     pub soh_at : slice_index_or t e 0 ≡ soh
     soh_at = ap (λ (i : ℕ). slice_index t i) end_there ∙ soh_there
-
-    pub end_within : e < length t
-    end_within = stands_at t e soh (omega arith) soh_at

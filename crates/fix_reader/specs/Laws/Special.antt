@@ -1,15 +1,16 @@
 -- What fits the bits that go their own way: the ExecID, LastPx of two words, and the words of our own. What a value holds is its number modulo
 -- the size of its bit, so that code may let the number wrap. Rests on Fits and Wrapping.
-use Rattle.std.specs.Prelude.{◌≡◌, ℕ, zero, suc, ◌+◌, ◌*◌, ◌%◌, ◌<◌, ◌≤◌, Bool, true, false, ◌&&◌, ◌||◌, leb, List, [], ◌∷◌, ◌++◌, length, take, drop, ◌==◌, ◌≢◌, nat_le, nat_lt, slice_index, slice_index_or}
+use Rattle.std.specs.Prelude.{◌≡◌, ℕ, zero, suc, ◌+◌, ◌*◌, ◌%◌, ◌<◌, ◌≤◌, Bool, true, false, not, ◌&&◌, ◌||◌, cond, leb, ltb, List, [], ◌∷◌, ◌++◌, length, take, drop, ◌==◌, ◌≢◌, nat_le, nat_lt, slice_index, slice_index_or, Option, None, Some}
+use Rattle.std.specs.List.{position_or_len}
+use Rattle.std.proofs.lemmas.Bool.Decides.{nat_tests}
 use Rattle.std.proofs.Math.Path.{refl, ap}
-use Rattle.std.proofs.Common.{sym, ◌∙◌, drop-cons}
-use Rattle.std.proofs.Math.Option.{Option, none, some}
+use Rattle.std.proofs.Common.{sym, ◌∙◌, drop_of_length-le}
 use native.Mathlib.Omega.{arith}
 use borrow.Author.Tests.{eq-eqb, lt-ltb, le-leb, leb-true}
 use Rattle.std.proofs.Math.ListN.{get_or-append}
 use Rattle.std.proofs.Math.Seq.{split_at}
-use Rattle.prelude.specs.Cases.{if◌then◌otherwise◌, if_true, if_false, maybe_none, maybe_some, both_true, both_hold, test_same}
-use Rattle.prelude.specs.Below.{all_below, all_elim, all_intro, first_below, First, first_some, first_none, first_more, first_hit}
+use Rattle.prelude.specs.Cases.{if◌then◌otherwise◌, maybe_none, maybe_some, both_true, both_hold, test_same}
+use Rattle.prelude.specs.Below.{first_below, First, first_some, first_none, first_more, first_hit}
 use Rattle.prelude.specs.Number.{number, bytes_of, length_bytes}
 use Rattle.prelude.specs.Bytes.{bytes_of_lem}
 use Rattle.bits.specs.Map.{bit}
@@ -20,7 +21,7 @@ use Rattle.format.specs.Places.{value}
 use Rattle.fix_words.specs.Lists.{every, same, after}
 use Rattle.fix_words.specs.Values.{texts, words_of, word_number, is_plain, places, spelling, unspelled, held_in, none_word}
 use Rattle.fix_words.specs.Message.{shape_at, range_at, text_at}
-use Rattle.fix_words.specs.Laws.Lists.{every_below, below_every}
+use Rattle.fix_words.specs.Laws.Lists.{below_every}
 use Rattle.fix_words.proofs.Laws.Kinds.{right}
 use Rattle.fix_table.specs.Table.{spoken}
 use Rattle.fix_reader.specs.Laws.Numbers.{word}
@@ -37,7 +38,7 @@ module _ (k : ℕ) (nm v : List ℕ) where
     abbrev c : List ℕ
     c = bytes_of 8 (number_in (after 46 v))
 
-    exec_right : right k 25 (some c) ≡ true
+    exec_right : right k 25 (Some c) ≡ true
     unfolding size range fields in_range if◌then◌otherwise◌
     exec_right = both_hold _ _ (both_hold _ _ stand (both_hold _ _ (bytes_every 8 (number_in (after 46 v))) (eq-eqb (length c) 8 (length_bytes 8 (number_in (after 46 v)))))) refl
 
@@ -51,7 +52,7 @@ module _ (k : ℕ) (nm v : List ℕ) where
     abbrev d : List ℕ
     d = bytes_of 16 (number_in v)
 
-    price_right_lem : right k 26 (some d) ≡ true
+    price_right_lem : right k 26 (Some d) ≡ true
     unfolding size range fields in_range if◌then◌otherwise◌
     price_right_lem = both_hold _ _ (both_hold _ _ stand (both_hold _ _ (bytes_every 16 (number_in v)) (eq-eqb (length d) 16 (length_bytes 16 (number_in v))))) refl
 
@@ -67,18 +68,18 @@ abbrev pub is_words : List ℕ → ℕ → Bool
 is_words v n = same (words_of n) v
 
 module _ (v : List ℕ) where
-  pub words_none : first_below (is_words v) 19 ≡ none → word_number v ≡ 0
+  pub words_none : first_below (is_words v) 19 ≡ None → word_number v ≡ 0
   unfolding word_number
   words_none e = maybe_none (first_below (is_words v) 19) 0 (λ n. n) e
 
-  pub words_some : (n : ℕ) → first_below (is_words v) 19 ≡ some n → word_number v ≡ n
+  pub words_some : (n : ℕ) → first_below (is_words v) 19 ≡ Some n → word_number v ≡ n
   unfolding word_number
   words_some n e = maybe_some (first_below (is_words v) 19) n 0 (λ n. n) e
 
-  pub words_found : (n : ℕ) → 1 ≤ n → n < 19 → first_below (is_words v) n ≡ none → is_words v n ≡ true → nat_le 1 (word_number v) ≡ true
+  pub words_found : (n : ℕ) → 1 ≤ n → n < 19 → first_below (is_words v) n ≡ None → is_words v n ≡ true → nat_le 1 (word_number v) ≡ true
   words_found n l h e t = ap (leb 1) (words_some n (first_hit (is_words v) 19 n h e t)) ∙ le-leb 1 n l
 
-  pub words_missing : first_below (is_words v) 19 ≡ none → nat_le 1 (word_number v) ≡ false
+  pub words_missing : first_below (is_words v) 19 ≡ None → nat_le 1 (word_number v) ≡ false
   words_missing e = ap (leb 1) (words_none e)
 
   -- no words of no bytes
@@ -90,7 +91,7 @@ module _ (v : List ℕ) where
       empty [] l = refl
       empty (x ∷ v) l = absurd (omega arith)
 
-  pub words_start : (length v ≢ 0) → first_below (is_words v) 1 ≡ none
+  pub words_start : (length v ≢ 0) → first_below (is_words v) 1 ≡ None
   unfolding words_of texts
   words_start h = first_more (is_words v) 0 (first_none (is_words v)) (some_bytes v h)
     where
@@ -102,36 +103,36 @@ module _ (v : List ℕ) where
   known l = go (first_below (is_words v) 19) refl
     where
       go : (o : Option ℕ) → first_below (is_words v) 19 ≡ o → First (is_words v) 19 (word_number v)
-      go none e = absurd (omega (arith, words_none e))
-      go (some n) e = first_some (is_words v) 19 (word_number v) (e ∙ ap (λ (m : ℕ). some m) (sym (words_some n e)))
+      go None e = absurd (omega (arith, words_none e))
+      go (Some n) e = first_some (is_words v) 19 (word_number v) (e ∙ ap (λ (m : ℕ). Some m) (sym (words_some n e)))
 
   module _ (k : ℕ) (nm : List ℕ) (stand : (bit (required k) 27 || bit (allowed k) 27) ≡ true) where
     abbrev n : ℕ
     n = word_number v
 
-    words_right : 1 ≤ n → n < 19 → right k 27 (some (n ∷ [])) ≡ true
+    words_right : 1 ≤ n → n < 19 → right k 27 (Some (n ∷ [])) ≡ true
     unfolding size range fields in_range value if◌then◌otherwise◌
     words_right l h =
         let z : n + 256 * 0 ≡ n = omega arith in
         both_hold _ _ (both_hold _ _ stand (both_hold _ _ (both_hold _ _ (lt-ltb n 256 (omega arith)) refl) refl))
         (both_hold _ _ (both_hold _ _ (ap (within 1 18) z ∙ both_hold _ _ (le-leb 1 n l) (le-leb n 18 (omega arith))) refl) refl)
 
-    words_least : right k 27 (some (n ∷ [])) ≡ true → 1 ≤ n
+    words_least : right k 27 (Some (n ∷ [])) ≡ true → 1 ≤ n
     unfolding size range fields in_range value if◌then◌otherwise◌
     words_least e =
         let z : n + 256 * 0 ≡ n = omega arith in
-        let h = both_true (shape_at k 27 (some (n ∷ []))) (range_at 27 (some (n ∷ [])) && text_at 27 (some (n ∷ []))) e in
-        let r = both_true (range_at 27 (some (n ∷ []))) (text_at 27 (some (n ∷ []))) h.1 in
+        let h = both_true (shape_at k 27 (Some (n ∷ []))) (range_at 27 (Some (n ∷ [])) && text_at 27 (Some (n ∷ []))) e in
+        let r = both_true (range_at 27 (Some (n ∷ []))) (text_at 27 (Some (n ∷ []))) h.1 in
         let w = both_true (within 1 18 (n + 256 * 0)) true r.0 in
         omega (arith, leb-true 1 (n + 256 * 0) (both_true (nat_le 1 (n + 256 * 0)) (nat_le (n + 256 * 0) 18) w.0).0)
 
-    words_again : fits k nm 27 v ≡ (right k 27 (some (n ∷ [])) && same (words_of n) v)
+    words_again : fits k nm 27 v ≡ (right k 27 (Some (n ∷ [])) && same (words_of n) v)
     unfolding fits held_in respelled if◌then◌otherwise◌
     words_again = refl
 
     pub words_fit : fits k nm 27 v ≡ nat_le 1 (word_number v)
-    words_fit = words_again ∙ test_same (right k 27 (some (n ∷ [])) && same (words_of n) v) (nat_le 1 n)
-        (λ e. le-leb 1 n (words_least (both_true (right k 27 (some (n ∷ []))) _ e).0))
+    words_fit = words_again ∙ test_same (right k 27 (Some (n ∷ [])) && same (words_of n) v) (nat_le 1 n)
+        (λ e. le-leb 1 n (words_least (both_true (right k 27 (Some (n ∷ []))) _ e).0))
         (λ e. let f = known (leb-true 1 n e) in both_hold _ _ (words_right (leb-true 1 n e) f.below) f.passes)
 
 -- the words n among all that are spoken
@@ -141,21 +142,37 @@ spoken_words n h = get_or-append texts (none_word ∷ []) [] n h
 
 -- ---- behind a point
 
-pub after_point : (v : List ℕ) (i : ℕ) → i < length v → slice_index v i ≡ 46 → after 46 (drop i v) ≡ drop (suc i) v
-unfolding after
-after_point v i h e =
-    ap (after 46) (drop-cons v i 0 h)
-    ∙ if_true (slice_index v i == 46) (drop (suc i) v) (after 46 (drop (suc i) v)) (eq-eqb (slice_index v i) 46 e)
+abbrev pub is_point : ℕ → Bool
+is_point c = c == 46
 
-pub after_other : (v : List ℕ) (i : ℕ) → i < length v → (slice_index v i == 46) ≡ false → after 46 (drop i v) ≡ after 46 (drop (suc i) v)
-unfolding after
-after_other v i h e =
-    ap (after 46) (drop-cons v i 0 h)
-    ∙ if_false (slice_index v i == 46) (drop (suc i) v) (after 46 (drop (suc i) v)) e
+-- by the place of the first point
+after_is : (v : List ℕ) → after 46 v ≡ drop (position_or_len is_point v + 1) v
+unfolding after if◌then◌otherwise◌
+after_is [] = refl
+after_is (c ∷ v) = go (c == 46) (after_is v)
+  where
+    go : (b : Bool) → after 46 v ≡ drop (position_or_len is_point v + 1) v → (if b then v otherwise after 46 v) ≡ drop (cond (not b) (1 + position_or_len is_point v) 0 + 1) (c ∷ v)
+    go true e = refl
+    go false e = let z : 1 + position_or_len is_point v + 1 ≡ suc (position_or_len is_point v + 1) = omega arith in rw z e
 
-pub after_none : after 46 [] ≡ []
-unfolding after
-after_none = refl
+abbrev pub point_in : List ℕ → Option ℕ
+point_in v = cond (ltb (position_or_len is_point v) (length v)) (Some (position_or_len is_point v)) None
+
+pub behind_some : (v : List ℕ) (i : ℕ) → Some i ≡ point_in v → drop (i + 1) v ≡ after 46 v
+behind_some v i = go (ltb (position_or_len is_point v) (length v))
+  where
+    go : (b : Bool) → Some i ≡ cond b (Some (position_or_len is_point v)) None → drop (i + 1) v ≡ after 46 v
+    go true e = let z : i ≡ position_or_len is_point v = cc in rw z (sym (after_is v))
+    go false e = cc
+
+pub behind_none : (v : List ℕ) → None ≡ point_in v → [] ≡ after 46 v
+behind_none v = go (ltb (position_or_len is_point v) (length v)) refl
+  where
+    go : (b : Bool) → ltb (position_or_len is_point v) (length v) ≡ b → None ≡ cond b (Some (position_or_len is_point v)) None → [] ≡ after 46 v
+    go true z e = cc
+    go false z e =
+        let h : length v ≤ position_or_len is_point v = grind (arith, nat_tests) in
+        sym (after_is v ∙ drop_of_length-le v {i = position_or_len is_point v + 1} (omega arith))
 
 -- a name, a point and digits
 same_joined : (a d b e : List ℕ) (x y : ℕ) → length a ≡ length b → same (a ++ (x ∷ d)) (b ++ (y ∷ e)) ≡ (same a b && (x == y && same d e))
@@ -179,11 +196,3 @@ exec_parts nm d v h =
     taken zero v h = refl
     taken (suc n) [] h = absurd (omega arith)
     taken (suc n) (x ∷ v) h = ap suc (taken n v (omega arith))
-
--- ---- every byte
-
-pub every_all : (p : ℕ → Bool) (v : List ℕ) → every p v ≡ all_below (λ i. p (slice_index v i)) (length v)
-every_all p v =
-    test_same (every p v) (all_below (λ i. p (slice_index v i)) (length v))
-    (λ e. all_intro (λ i. p (slice_index v i)) (length v) (λ i h. every_below p v e i h))
-    (λ e. below_every p v (λ i h. all_elim (λ i. p (slice_index v i)) (length v) e i h))

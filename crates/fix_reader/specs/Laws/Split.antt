@@ -1,6 +1,6 @@
 -- Bytes cut into fields from the front, as code does it: what it has when it came to the end, and that bytes on which it stops spell no
 -- fields. Rests on Reading and Pieces.
-use Rattle.std.specs.Prelude.{◌≡◌, ℕ, ◌+◌, ◌-◌, ◌<◌, ◌≤◌, true, List, [], ◌∷◌, ◌++◌, length, get_or, take, drop, replicate, ◌≢◌, nat_lt, slice_index, slice_index_or, slice_set, refl}
+use Rattle.std.specs.Prelude.{◌≡◌, ℕ, ◌+◌, ◌-◌, ◌<◌, ◌≤◌, true, List, [], ◌∷◌, ◌++◌, length, get_or, take, drop, replicate, ◌≢◌, nat_lt, slice_index, slice_index_or, slice_set, refl, Option, None, Some}
 use Rattle.std.proofs.Math.Path.{sym, ap}
 use Rattle.std.proofs.Common.{◌∙◌, append_assoc, append-nil, leb-true, ne_eqb, lt-ltb, le-ltb, lit<, length-append, length-set, drop_of_length-le, drop-drop, take_at, get_or-set_same, get_or-set_other, ext_get_or}
 use Rattle.std.proofs.Math.Decide.{dec_lt, ℕ_discrete}
@@ -104,10 +104,6 @@ split_start s = record {
   lengths = (refl, λ i h. get_or-replicate 32 i 0 0 h);
   only = λ gs a e. record { rest = gs; plain = a; spelled = e; count = omega arith };
 }
-
-pub split_within : (s : List ℕ) (p n : ℕ) (tag at len : List ℕ) → Split s p n tag at len → p ≤ length s
-split_within s p n tag at len z =
-    omega (arith, z.reached, ap length (sym z.spelled) ∙ length-append (spellings z.fields) (drop p s), length-drop p s)
 
 no_soh : (f : Field) → every is_print f.value ≡ true → every (is_not soh) (piece f) ≡ true
 unfolding piece
@@ -225,9 +221,9 @@ pub record Found (s : List ℕ) (r : FixFields) : Type 0 where
 abbrev pub NoFields : List ℕ → Type 0
 NoFields s = (gs : List Field) → Plains gs → length gs ≤ 32 → spellings gs ≢ s
 
-pub record Splits (s : List ℕ) (r : FixFields) : Type 0 where
-  pub found : r.refusal ≡ 0 → Found s r
-  pub missing : (r.refusal ≢ 0) → NoFields s
+abbrev pub Splits : List ℕ → Option FixFields → Type 0
+Splits s None = NoFields s
+Splits s (Some r) = Found s r
 
 table_is : (l : List ℕ) (f : ℕ → ℕ) → (length l ≡ 32) × ((i : ℕ) → i < 32 → slice_index l i ≡ f i) → l ≡ list_below f 32
 table_is l f z = ext_get_or 0 l (list_below f 32) (z.0 ∙ sym (length_list f 32)) (λ i h. z.1 i (omega (arith, z.0)) ∙ sym (get_list f 0 32 i (omega (arith, z.0))))
@@ -248,7 +244,3 @@ split_done s p n tag at len z h = record {
     length = table_is len (length_of z.fields) z.lengths i;
   };
 }
-
-pub splits_nothing : (s : List ℕ) (r : FixFields) → r ≡ tabled 3 [] → NoFields s → Splits s r
-unfolding tabled
-splits_nothing s r h none = record { found = λ e. absurd (omega (arith, ap (λ (r : FixFields). r.refusal) h)); missing = λ q. none }

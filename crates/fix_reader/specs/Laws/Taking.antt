@@ -1,16 +1,15 @@
 -- The rows taken one by one, as the reader's code does it: where the walk stands, and what one row makes of it. Rests on Walk and Fits.
-use Rattle.std.specs.Prelude.{◌≡◌, ℕ, zero, suc, ◌+◌, ◌<◌, Bool, true, false, ◌||◌, List, [], ◌∷◌, length, drop, ◌==◌, slice_index_or}
+use Rattle.std.specs.Prelude.{◌≡◌, ℕ, zero, suc, ◌+◌, ◌<◌, Bool, true, false, ◌||◌, List, [], ◌∷◌, length, drop, ◌==◌, slice_index_or, Option, None, Some}
 use Rattle.std.proofs.Math.Path.{refl, sym, ap}
-use Rattle.std.proofs.Common.{◌∙◌, arith, add-one, eq-eqb, drop_of_length-le, drop-cons, get_or-drop}
-use Rattle.std.proofs.Math.Option.{Option, none, some}
-use Rattle.prelude.specs.Cases.{if◌then◌otherwise◌, if_true, if_false}
+use Rattle.std.proofs.Common.{◌∙◌, arith, add-one, eq-eqb, get_or-drop}
+use Rattle.prelude.specs.Cases.{if_true, if_false, clash}
 use Rattle.fix_words.specs.Spelling.{Field}
 use Rattle.fix_words.specs.Rows.{Row, leads, rest, in_rows}
 use Rattle.fix_words.specs.Values.{rows}
 use Rattle.fix_words.specs.Message.{value_at}
 use Rattle.fix_table.specs.Table.{no_row, row_at}
 use Rattle.fix_words.specs.Laws.Rows.{or_right}
-use Rattle.fix_reader.specs.declared.Taken.{Taken}
+use Rattle.fix_reader.specs.declared.walk.Taken.{Taken}
 use Rattle.fix_claims.specs.Reading.{no_field}
 use Rattle.fix_reader.specs.Laws.Walk.{Asked, first_value, walk}
 use Rattle.fix_reader.specs.Laws.Fits.{asked_by}
@@ -20,8 +19,14 @@ abbrev pub asked_of : List Field → ℕ → Asked
 asked_of fs k = asked_by k (value_at fs 7)
 
 -- the walk from where it stands
-unfoldable pub walk_on : List Field → ℕ → Taken → List Row → Option (List Field)
-walk_on fs k t rs = if t.goes then walk (asked_of fs k) t.seen rs (drop t.next fs) otherwise none
+abbrev pub walk_on : List Field → ℕ → Option Taken → List Row → Option (List Field)
+walk_on fs k None rs = None
+walk_on fs k (Some t) rs = walk (asked_of fs k) t.seen rs (drop t.next fs)
+
+-- what is left from field n on
+abbrev pub left_from : List Field → Option ℕ → Option (List Field)
+left_from fs None = None
+left_from fs (Some n) = Some (drop n fs)
 
 abbrev pub walk_all : List Field → ℕ → Option (List Field)
 walk_all fs k = walk (asked_of fs k) false (rows k) (drop 7 fs)
@@ -52,63 +57,44 @@ in_row (r ∷ rs) (suc j) h = or_right (r.bit == (slice_index_or rs j no_row).bi
 pub row_in : (k j : ℕ) → j < length (rows k) → in_rows (rows k) (row_at k j).bit ≡ true
 row_in k j h = in_row (rows k) j h
 
--- ---- where it stands
-
-pub on_stopped : (fs : List Field) (k : ℕ) (t : Taken) (rs : List Row) → t.goes ≡ false → walk_on fs k t rs ≡ none
-unfolding walk_on
-on_stopped fs k t rs e = if_false t.goes _ none e
-
-pub on_goes : (fs : List Field) (k : ℕ) (t : Taken) (rs : List Row) → t.goes ≡ true → walk_on fs k t rs ≡ walk (asked_of fs k) t.seen rs (drop t.next fs)
-unfolding walk_on
-on_goes fs k t rs e = if_true t.goes _ none e
-
--- behind the last row
-pub on_end : (fs : List Field) (k : ℕ) (t : Taken) → t.goes ≡ true → walk_on fs k t (drop (length (rows k)) (rows k)) ≡ some (drop t.next fs)
-unfolding walk
-on_end fs k t e =
-    ap (walk_on fs k t) (drop_of_length-le (rows k) {i = length (rows k)} (omega arith))
-    ∙ on_goes fs k t [] e
-
 -- ---- one row
 
-module _ (fs : List Field) (k j : ℕ) (h : j < length (rows k)) (t : Taken) (g : t.goes ≡ true) where
-  abbrev r : Row
-  r = row_at k j
+pub walked_all : (fs : List Field) (k : ℕ) (t : Taken) → walk_on fs k (Some t) [] ≡ left_from fs (Some t.next)
+unfolding walk
+walked_all fs k t = refl
 
+module _ (fs : List Field) (k : ℕ) (t : Taken) (r : Row) (more : List Row) where
   abbrev ask : Asked
   ask = asked_of fs k
-
-  abbrev more : List Row
-  more = drop (j + 1) (rows k)
 
   abbrev gs : List Field
   gs = drop t.next fs
 
-  here : drop j (rows k) ≡ r ∷ more
-  here = drop-cons (rows k) j no_row h ∙ ap (λ (i : ℕ). r ∷ drop i (rows k)) (sym (add-one j))
-
-  opened : walk_on fs k t (drop j (rows k)) ≡ walk ask t.seen (r ∷ more) gs
-  opened = on_goes fs k t (drop j (rows k)) g ∙ ap (λ (rs : List Row). walk ask t.seen rs gs) here
-
   pub row_taken : leads r.tag gs ≡ true → ask t.seen r.bit (value_at fs t.next) ≡ true
-      → walk_on fs k (record { goes = true; next = t.next + 1; seen = t.seen || (r.bit == 20) }) more ≡ walk_on fs k t (drop j (rows k))
+      → walk_on fs k (Some (record { next = t.next + 1; seen = t.seen || (r.bit == 20) })) more ≡ walk_on fs k (Some t) (r ∷ more)
   unfolding walk
   row_taken l a =
       let q : ask t.seen r.bit (first_value gs) ≡ true = ap (ask t.seen r.bit) (first_drop fs t.next) ∙ a in
-      on_goes fs k (record { goes = true; next = t.next + 1; seen = t.seen || (r.bit == 20) }) more refl
-      ∙ ap (walk ask (t.seen || r.bit == 20) more) (sym (rest_drop fs t.next))
-      ∙ sym (opened ∙ if_true (leads r.tag gs) _ _ l ∙ if_true (ask t.seen r.bit (first_value gs)) _ _ q)
+      ap (walk ask (t.seen || r.bit == 20) more) (sym (rest_drop fs t.next))
+      ∙ sym (if_true (leads r.tag gs) _ _ l ∙ if_true (ask t.seen r.bit (first_value gs)) _ _ q)
 
-  pub row_refused : leads r.tag gs ≡ true → ask t.seen r.bit (value_at fs t.next) ≡ false → walk_on fs k t (drop j (rows k)) ≡ none
+  pub row_refused : leads r.tag gs ≡ true → ask t.seen r.bit (value_at fs t.next) ≡ false → None ≡ walk_on fs k (Some t) (r ∷ more)
   unfolding walk
   row_refused l a =
       let q : ask t.seen r.bit (first_value gs) ≡ false = ap (ask t.seen r.bit) (first_drop fs t.next) ∙ a in
-      opened ∙ if_true (leads r.tag gs) _ _ l ∙ if_false (ask t.seen r.bit (first_value gs)) _ _ q
+      sym (if_true (leads r.tag gs) _ _ l ∙ if_false (ask t.seen r.bit (first_value gs)) _ _ q)
 
-  pub row_missing : leads r.tag gs ≡ false → r.must ≡ true → walk_on fs k t (drop j (rows k)) ≡ none
+  pub row_missing : leads r.tag gs ≡ false → r.must ≡ true → None ≡ walk_on fs k (Some t) (r ∷ more)
   unfolding walk
-  row_missing l m = opened ∙ if_false (leads r.tag gs) _ _ l ∙ if_true r.must _ _ m
+  row_missing l m = sym (if_false (leads r.tag gs) _ _ l ∙ if_true r.must _ _ m)
 
-  pub row_passed : leads r.tag gs ≡ false → r.must ≡ false → walk_on fs k t more ≡ walk_on fs k t (drop j (rows k))
+  pub row_passed : leads r.tag gs ≡ false → r.must ≡ false → walk_on fs k (Some t) more ≡ walk_on fs k (Some t) (r ∷ more)
   unfolding walk
-  row_passed l m = on_goes fs k t more g ∙ sym (opened ∙ if_false (leads r.tag gs) _ _ l ∙ if_false r.must _ _ m)
+  row_passed l m = sym (if_false (leads r.tag gs) _ _ l ∙ if_false r.must _ _ m)
+
+-- a field that leads stands
+pub led_within : (fs : List Field) (i t : ℕ) → leads t (drop i fs) ≡ true → i < length fs
+led_within [] zero t e = clash false e refl
+led_within [] (suc i) t e = clash false e refl
+led_within (f ∷ fs) zero t e = omega arith
+led_within (f ∷ fs) (suc i) t e = let h = led_within fs i t e in omega arith

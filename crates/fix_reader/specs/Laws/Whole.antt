@@ -1,9 +1,8 @@
 -- Bytes that cannot be cut into fields are no message: a message has at most 29 fields, with tags of at most three digits. Rests on
 -- Checks and Split.
-use Rattle.std.specs.Prelude.{◌≡◌, ℕ, Bool, true, false, ◌&&◌, List, [], ◌∷◌, ◌++◌, nat_le, nat_lt}
+use Rattle.std.specs.Prelude.{◌≡◌, ℕ, Bool, true, false, ◌&&◌, List, [], ◌∷◌, ◌++◌, nat_le, nat_lt, Option, None, Some}
 use Rattle.std.proofs.Math.Path.{refl}
 use Rattle.std.proofs.Common.{ltb-true}
-use Rattle.std.proofs.Math.Option.{Option, none, some}
 use Rattle.prelude.specs.Cases.{split_if, both_true, both_hold}
 use Rattle.format.specs.Codes.{within}
 use Rattle.fix_words.specs.Lists.{every, is_print, same}
@@ -40,8 +39,8 @@ body_tagged vs fs [] a b = b
 body_tagged vs fs (r ∷ rows) a b = let h = both_true (tagged r.tag) (rows_tagged rows) a in go (vs r.bit) h.0 (body_tagged vs fs rows h.1 b)
   where
     go : (o : Option (List ℕ)) → tagged r.tag ≡ true → all_tagged (body rows vs fs) ≡ true → all_tagged (field_of r.tag o (body rows vs fs)) ≡ true
-    go none p q = q
-    go (some v) p q = both_hold _ _ p q
+    go None p q = q
+    go (Some v) p q = both_hold _ _ p q
 
 plains_of : (fs : List Field) → all_tagged fs ≡ true → printable fs ≡ true → Plains fs
 plains_of [] a b = tt

@@ -1,12 +1,13 @@
--- The rows of a kind by its number, as code asks for them. Rests on Table.
-use Rattle.std.specs.Prelude.{◌≡◌, ℕ, zero, suc, ◌-◌, ◌<◌, ◌≤◌, Bool, true, List, [], length, get_or, ◌≢◌, nat_lt, slice_index, slice_index_or, refl}
-use Rattle.std.proofs.Common.{sym, ap, subst, arith, ltb-true}
+-- The rows of a kind, as code has them. Rests on Table.
+use Rattle.std.specs.Prelude.{◌≡◌, ℕ, suc, ◌+◌, ◌-◌, ◌<◌, ◌≤◌, Bool, true, List, [], ◌∷◌, drop, length, get_or, map, nat_lt, slice_index, slice_index_or, refl}
+use Rattle.std.proofs.Common.{sym, ap, ◌∙◌, arith, add-one, ltb-true, drop-cons}
+use Rattle.std.proofs.lemmas.List.{get_or-map, length-map}
 use Rattle.std.proofs.Math.Decide.{dec_lt}
 use Rattle.std.proofs.Math.ListN.{get_or-eq_default}
 use Rattle.prelude.specs.Below.{all_below, all_elim}
 use Rattle.fix_words.specs.Rows.{Row}
 use Rattle.fix_words.specs.Values.{tables, rows, types, type_of}
-use Rattle.fix_table.specs.Table.{no_row, row_at}
+use Rattle.fix_table.specs.Table.{no_row, row_at, as_row}
 use Rattle.fix_table.specs.declared.Row as code
 
 -- a row in code is one of the definitions
@@ -15,22 +16,19 @@ pub record IsRow (r : code.Row) (t : Row) : Type 0 where
   pub bit : r.bit ≡ t.bit
   pub must : r.must ≡ t.must
 
--- row j of table k where j is i
-pub row_here : (k i j : ℕ) {r : code.Row} → j ≡ i → IsRow r (row_at k i) → IsRow r (row_at k j)
-row_here k i j {r} e w = subst (λ (x : ℕ). IsRow r (row_at k x)) (sym e) w
+-- row j of a kind, in code
+pub row_is : (rs : List code.Row) (k j : ℕ) (d : code.Row) → map as_row rs ≡ rows k → j < length rs → IsRow (get_or rs j d) (row_at k j)
+row_is rs k j d e h =
+    let r : as_row (get_or rs j d) ≡ row_at k j = sym (get_or-map as_row rs j d no_row h) ∙ ap (λ (l : List Row). slice_index_or l j no_row) e in
+    record { tag = ap (λ (r : Row). r.tag) r; bit = ap (λ (r : Row). r.bit) r; must = ap (λ (r : Row). r.must) r }
 
--- a number that is none of the first n
-abbrev NoneOf : ℕ → ℕ → Type 0
-NoneOf zero j = Unit {0}
-NoneOf (suc n) j = NoneOf n j × (j ≢ n)
-
-pub none_below : (n j : ℕ) → NoneOf n j → n ≤ j
-none_below zero j w = omega arith
-none_below (suc n) j w = omega (arith, none_below n j w.0, w.1)
-
--- behind the last
-pub row_behind : (k j : ℕ) {r : code.Row} → NoneOf (length (rows k)) j → IsRow r no_row → IsRow r (row_at k j)
-row_behind k j {r} w v = subst (IsRow r) (sym (get_or-eq_default (rows k) no_row {n = j} (none_below (length (rows k)) j w))) v
+pub rows_next : (rs : List code.Row) (k i : ℕ) (d : code.Row) → map as_row rs ≡ rows k → i < length rs → drop i (rows k) ≡ as_row (get_or rs i d) ∷ drop (i + 1) (rows k)
+rows_next rs k i d e h =
+    let n : i < length (rows k) = omega (arith, ap length e, length-map rs as_row) in
+    drop-cons (rows k) i no_row n
+    ∙ sym (ap (λ (l : List Row). slice_index_or l i no_row ∷ drop (suc i) (rows k)) e)
+    ∙ ap (λ (r : Row). r ∷ drop (suc i) (rows k)) (get_or-map as_row rs i d no_row h)
+    ∙ ap (λ (n : ℕ). as_row (get_or rs i d) ∷ drop n (rows k)) (sym (add-one i))
 
 -- below 16 the first table, past 20 none
 pub low : (k : ℕ) → k ≤ 16 → (rows k ≡ rows 16) × (type_of k ≡ 56)

@@ -1,9 +1,8 @@
 -- The record that is read from the values of a right one: it is right too, and has the same values. Rests on Held and Kinds.
-use Rattle.std.specs.Prelude.{ℕ, suc, ◌-◌, ◌<◌, ◌≡◌, List, [], ◌∷◌, Bool, not, ◌&&◌, ◌||◌, ◌⊎◌, eqb, leb, length, get_or, take}
+use Rattle.std.specs.Prelude.{ℕ, suc, ◌-◌, ◌<◌, ◌≡◌, List, [], ◌∷◌, Bool, not, ◌&&◌, ◌||◌, ◌⊎◌, eqb, leb, length, get_or, take, Option, None, Some}
 use Rattle.std.proofs.Math.Path.{refl, ap, subst}
 use Rattle.std.proofs.Common.{sym, ◌∙◌, ⊎_elim, arith, lit<}
 use Rattle.std.proofs.Math.Bool.{true, false}
-use Rattle.std.proofs.Math.Option.{Option, none, some}
 use Rattle.std.proofs.Math.Decide.{ℕ_discrete}
 use borrow.Author.Tests.{eqb-true, eq-eqb, ne_eqb, leb-true, not-true}
 use Rattle.prelude.specs.Cases.{if◌then◌otherwise◌, split_if, if_true, if_false, is_some, clash, both_true, both_hold, either_true}
@@ -37,7 +36,7 @@ by_bit P p2 p20 p25 p27 b other = go (ℕ_discrete b 2) (ℕ_discrete b 20) (ℕ
     go (no x) (no y) (no z) (no w) = other (ne_eqb b 2 x) (ne_eqb b 20 y) (ne_eqb b 25 z) (ne_eqb b 27 w)
 
 module _ (k : ℕ) (at : Values) where
-  pub value_name : value_of k at 2 ≡ (if eqb k 17 then some (or_else none_word (at 2)) otherwise at 2)
+  pub value_name : value_of k at 2 ≡ (if eqb k 17 then Some (or_else none_word (at 2)) otherwise at 2)
   unfolding value_of if◌then◌otherwise◌
   value_name = refl
 
@@ -63,30 +62,30 @@ held_two v = refl
 
 plain_text : (v : Option (List ℕ)) → held_in 20 v ≡ v
 unfolding held_in if◌then◌otherwise◌ unspelled is_plain size range fields
-plain_text none = refl
-plain_text (some c) = refl
+plain_text None = refl
+plain_text (Some c) = refl
 
 some_over : (f : List ℕ → List ℕ) (o : Option (List ℕ)) → is_some (over f o) ≡ is_some o
-some_over f none = refl
-some_over f (some c) = refl
+some_over f None = refl
+some_over f (Some c) = refl
 
 either_some : (o w : Option (List ℕ)) → is_some o ≡ true → either o w ≡ o
-either_some none w e = clash false e refl
-either_some (some c) w e = refl
+either_some None w e = clash false e refl
+either_some (Some c) w e = refl
 
 right_some : (k b : ℕ) (o : Option (List ℕ)) → right k b o ≡ true → bit (required k) b ≡ true → is_some o ≡ true
-right_some k b none e h = clash (bit (required k) b) h (not-true _ (both_true (not (bit (required k) b)) _ e).0)
-right_some k b (some c) e h = refl
+right_some k b None e h = clash (bit (required k) b) h (not-true _ (both_true (not (bit (required k) b)) _ e).0)
+right_some k b (Some c) e h = refl
 
 -- ---- the texts of a reject
 
 -- fixed texts are 1 to 18
-word_number : (k : ℕ) (c : List ℕ) → right k 27 (some c) ≡ true → (n : ℕ) × (n < 18) × (get_or c 0 0 ≡ suc n)
+word_number : (k : ℕ) (c : List ℕ) → right k 27 (Some c) ≡ true → (n : ℕ) × (n < 18) × (get_or c 0 0 ≡ suc n)
 unfolding size range fields in_range value if◌then◌otherwise◌
 word_number k c e =
-    let h = both_true (shape_at k 27 (some c)) (range_at 27 (some c) && text_at 27 (some c)) e in
+    let h = both_true (shape_at k 27 (Some c)) (range_at 27 (Some c) && text_at 27 (Some c)) e in
     let l : length c ≡ 1 = shape_long k 27 c h.0 refl in
-    let r = (both_true (range_at 27 (some c)) (text_at 27 (some c)) h.1).0 in
+    let r = (both_true (range_at 27 (Some c)) (text_at 27 (Some c)) h.1).0 in
     let w = both_true (leb 1 (number (take 8 c))) (leb (number (take 8 c)) 18) (both_true (within 1 18 (number (take 8 c))) _ r).0 in
     let o = number_one c l in
     let low = leb-true 1 (number (take 8 c)) w.0 in
@@ -97,9 +96,9 @@ word_number k c e =
 reject_text : (o f : Option (List ℕ)) → right 17 20 o ≡ true → right 17 27 f ≡ true → (if is_some o then not (is_some f) otherwise is_some f) ≡ true
     → (right 17 20 (either o (over fixed_words f)) ≡ true) × (is_some (either o (over fixed_words f)) ≡ true)
 unfolding if◌then◌otherwise◌
-reject_text (some c) f a b e = (a, refl)
-reject_text none none a b e = clash false e refl
-reject_text none (some c) a b e =
+reject_text (Some c) f a b e = (a, refl)
+reject_text None None a b e = clash false e refl
+reject_text None (Some c) a b e =
     let w = word_number 17 c b in
     (rw w.2 (words_right w.0 w.1), refl)
 
@@ -123,10 +122,10 @@ reject_rows = refl
 
 unsaid_origin : (k : ℕ) (o : Option (List ℕ)) → is_some (unsaid k o 28) ≡ is_some o
 unfolding unsaid if◌then◌otherwise◌
-unsaid_origin k none = refl
-unsaid_origin k (some v) = refl
+unsaid_origin k None = refl
+unsaid_origin k (Some v) = refl
 
-unsaid_fixed : (o : Option (List ℕ)) → unsaid 17 o 27 ≡ none
+unsaid_fixed : (o : Option (List ℕ)) → unsaid 17 o 27 ≡ None
 unfolding unsaid if◌then◌otherwise◌ required required_bits
 unsaid_fixed o = refl
 
@@ -136,10 +135,10 @@ if_same true y e = sym e
 if_same false y e = rw (← e) refl
 
 reason_of : (at us : Values) (k : ℕ) → within 16 20 k ≡ true → (in_rows (rows k) 19 ≡ true → us 19 ≡ over (spelling 19) (at 19))
-    → (in_rows (rows k) 19 ≡ false → us 19 ≡ none) → right k 19 (at 19) ≡ true → reasoned k (us 19) ≡ true
+    → (in_rows (rows k) 19 ≡ false → us 19 ≡ None) → right k 19 (at 19) ≡ true → reasoned k (us 19) ≡ true
 unfolding rows tables required required_bits if◌then◌otherwise◌
 reason_of at us =
-    by_kind_lem (λ k. (in_rows (rows k) 19 ≡ true → us 19 ≡ over (spelling 19) (at 19)) → (in_rows (rows k) 19 ≡ false → us 19 ≡ none)
+    by_kind_lem (λ k. (in_rows (rows k) 19 ≡ true → us 19 ≡ over (spelling 19) (at 19)) → (in_rows (rows k) 19 ≡ false → us 19 ≡ None)
     → right k 19 (at 19) ≡ true → reasoned k (us 19) ≡ true)
     (λ f g r. refl)
     (λ f g r. rw (f refl) (some_over (spelling 19) (at 19) ∙ right_some 17 19 (at 19) r refl))
@@ -159,43 +158,43 @@ text_twenty = refl
 
 -- a text that stands prints
 text_prints : (b : ℕ) (o : Option (List ℕ)) → is_text_bit b ≡ true → text_at b o ≡ true → prints o ≡ true
-text_prints b none t e = refl
-text_prints b (some []) t e = refl
-text_prints b (some (x ∷ c)) t e = ⊎_elim (λ q. clash (is_text_bit b) t (not-true _ q)) (λ q. q) (either_true (not (is_text_bit b)) (is_text (x ∷ c)) e)
+text_prints b None t e = refl
+text_prints b (Some []) t e = refl
+text_prints b (Some (x ∷ c)) t e = ⊎_elim (λ q. clash (is_text_bit b) t (not-true _ q)) (λ q. q) (either_true (not (is_text_bit b)) (is_text (x ∷ c)) e)
 
-none_prints : (o : Option (List ℕ)) → prints o ≡ true → prints (some (or_else none_word o)) ≡ true
-none_prints none e = refl
-none_prints (some c) e = e
+none_prints : (o : Option (List ℕ)) → prints o ≡ true → prints (Some (or_else none_word o)) ≡ true
+none_prints None e = refl
+none_prints (Some c) e = e
 
 either_prints : (o w : Option (List ℕ)) → prints o ≡ true → prints w ≡ true → prints (either o w) ≡ true
-either_prints none w p q = q
-either_prints (some c) w p q = p
+either_prints None w p q = q
+either_prints (Some c) w p q = p
 
 exec_prints : (name o : Option (List ℕ)) → prints name ≡ true → prints (over (exec_id name) o) ≡ true
-exec_prints name none p = refl
-exec_prints name (some c) p = every_append is_print (or_else [] name) (46 ∷ digits (number c)) (or_prints name p) (both_hold _ _ refl (digits_print (number c)))
+exec_prints name None p = refl
+exec_prints name (Some c) p = every_append is_print (or_else [] name) (46 ∷ digits (number c)) (or_prints name p) (both_hold _ _ refl (digits_print (number c)))
   where
     or_prints : (o : Option (List ℕ)) → prints o ≡ true → every is_print (or_else [] o) ≡ true
-    or_prints none e = refl
-    or_prints (some c) e = e
+    or_prints None e = refl
+    or_prints (Some c) e = e
 
 words_prints : (k : ℕ) (o : Option (List ℕ)) → right k 27 o ≡ true → prints (over fixed_words o) ≡ true
-words_prints k none e = refl
-words_prints k (some c) e =
+words_prints k None e = refl
+words_prints k (Some c) e =
     let w = word_number k c e in
-    let r = (both_true (shape_at 17 20 (some (words_of (suc w.0)))) _ (words_right w.0 w.1)).1 in
-    rw w.2 (text_prints 20 (some (words_of (suc w.0))) text_twenty (both_true (range_at 20 (some (words_of (suc w.0)))) _ r).1)
+    let r = (both_true (shape_at 17 20 (Some (words_of (suc w.0)))) _ (words_right w.0 w.1)).1 in
+    rw w.2 (text_prints 20 (Some (words_of (suc w.0))) text_twenty (both_true (range_at 20 (Some (words_of (suc w.0)))) _ r).1)
 
 spelling_prints : (k b : ℕ) (o : Option (List ℕ)) → b < 32 → shape_at k b o ≡ true → range_at b o ≡ true → text_at b o ≡ true → prints (over (spelling b) o) ≡ true
 unfolding spelling is_plain
-spelling_prints k b none h s r t = refl
-spelling_prints k b (some c) h s r t =
+spelling_prints k b None h s r t = refl
+spelling_prints k b (Some c) h s r t =
     split_if (λ (l : List ℕ). every is_print l ≡ true) (is_plain b)
     (λ e. go (is_text_bit b) refl (either_true (is_text_bit b) (within side status (range b)) e))
     (λ e. decimal_print (places b) (number c))
   where
     go : (x : Bool) → is_text_bit b ≡ x → (is_text_bit b ≡ true) ⊎ (within side status (range b) ≡ true) → every is_print c ≡ true
-    go true e p = text_prints b (some c) e t
+    go true e p = text_prints b (Some c) e t
     go false e p = ⊎_elim (λ q. clash (is_text_bit b) q e) (λ q. code_print k b c h e q s r) p
 
 -- ---- a right record
@@ -221,9 +220,9 @@ module _ (k : ℕ) (at : Values) (kind : within 16 20 k ≡ true) (ok : (b : ℕ
       b (λ x y z w l u. ap (held_in b) (value_plain k at b x y z w) ∙ held_plain k b (at b) x z w (shape b l))
       h t
     where
-      name : (x : Bool) → held_in 2 (if x then some (or_else none_word (at 2)) otherwise at 2) ≡ at 2
-      name true = ap (held_in 2) (if_true true (some (or_else none_word (at 2))) (at 2) refl) ∙ held_two (some (or_else none_word (at 2))) ∙ held_none (at 2) (ranges 2 (lit< tt))
-      name false = ap (held_in 2) (if_false false (some (or_else none_word (at 2))) (at 2) refl) ∙ held_two (at 2) ∙ held_name (at 2) (ranges 2 (lit< tt))
+      name : (x : Bool) → held_in 2 (if x then Some (or_else none_word (at 2)) otherwise at 2) ≡ at 2
+      name true = ap (held_in 2) (if_true true (Some (or_else none_word (at 2))) (at 2) refl) ∙ held_two (Some (or_else none_word (at 2))) ∙ held_none (at 2) (ranges 2 (lit< tt))
+      name false = ap (held_in 2) (if_false false (Some (or_else none_word (at 2))) (at 2) refl) ∙ held_two (at 2) ∙ held_name (at 2) (ranges 2 (lit< tt))
 
   -- ---- a reject's text
 
@@ -295,7 +294,7 @@ module _ (k : ℕ) (at : Values) (kind : within 16 20 k ≡ true) (ok : (b : ℕ
 
   -- ---- the record that is read, from the values that were found
 
-  module _ (us : Values) (found : (b : ℕ) → in_rows (rows k) b ≡ true → us b ≡ value_of k at b) (else_none : (b : ℕ) → in_rows (rows k) b ≡ false → us b ≡ none) where
+  module _ (us : Values) (found : (b : ℕ) → in_rows (rows k) b ≡ true → us b ≡ value_of k at b) (else_none : (b : ℕ) → in_rows (rows k) b ≡ false → us b ≡ None) where
     abbrev now : Values
     now = contents k us
 
@@ -359,7 +358,7 @@ module _ (k : ℕ) (at : Values) (kind : within 16 20 k ≡ true) (ok : (b : ℕ
     reject_again e =
         let r = both_true (in_rows (rows 17) 20) _ reject_rows in
         let n20 : is_some (now 20) ≡ true = ap is_some (now_text e (carried 17 20 e r.0)) ∙ (text_right_lem e).1 in
-        let n27 : now 27 ≡ none = unsaid_now 27 (silent 17 27 e (not-true _ r.1)) ∙ ap (λ (j : ℕ). unsaid j (us 19) 27) e ∙ unsaid_fixed (us 19) in
+        let n27 : now 27 ≡ None = unsaid_now 27 (silent 17 27 e (not-true _ r.1)) ∙ ap (λ (j : ℕ). unsaid j (us 19) 27) e ∙ unsaid_fixed (us 19) in
         paired_reject now ∙ rw (n20, n27) refl
 
     other_again : (j : ℕ) → eqb j 16 ≡ false → eqb j 17 ≡ false → paired j now ≡ true
@@ -376,7 +375,7 @@ module _ (k : ℕ) (at : Values) (kind : within 16 20 k ≡ true) (ok : (b : ℕ
     pub again_values : (b : ℕ) → in_rows (rows k) b ≡ true → value_of k now b ≡ value_of k at b
     again_values b i =
         by_bit (λ b. in_rows (rows k) b ≡ true → value_of k now b ≡ value_of k at b)
-        (λ j. value_name k now ∙ ap (λ (o : Option (List ℕ)). if eqb k 17 then some (or_else none_word o) otherwise o) (kept 2 j (λ z. clash false z refl)) ∙ sym (value_name k at))
+        (λ j. value_name k now ∙ ap (λ (o : Option (List ℕ)). if eqb k 17 then Some (or_else none_word o) otherwise o) (kept 2 j (λ z. clash false z refl)) ∙ sym (value_name k at))
         (λ j. texts_same j (ℕ_discrete k 17))
         (λ j. value_exec k now
         ∙ (λ x. over (exec_id (kept 2 (with_name k kind j) (λ z. clash false z refl) x)) (kept 25 j (λ z. clash false z refl) x))

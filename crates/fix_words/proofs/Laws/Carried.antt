@@ -1,11 +1,10 @@
 -- What a message carries is the record's and the session's own: the rows are the bits of the kind, and each value holds what its field holds.
 -- Rests on Carried, Trip and Taken.
-use Rattle.std.specs.Prelude.{ℕ, zero, suc, ◌<◌, ◌≡◌, Bool, ◌&&◌, ◌||◌, eqb, length}
+use Rattle.std.specs.Prelude.{ℕ, zero, suc, ◌<◌, ◌≡◌, Bool, ◌&&◌, ◌||◌, eqb, length, Option, None, Some}
 use Rattle.std.proofs.Math.Path.{refl, sym, ap, subst}
 use Rattle.std.proofs.Common.{◌∙◌, ⊎_elim, arith, eqb-true, eq-eqb, lit<}
 use mathlib.Core.List.{List, [], ◌∷◌, ◌++◌, append_assoc}
 use Rattle.std.proofs.Math.Bool.{true, false, not}
-use Rattle.std.proofs.Math.Option.{Option, none, some}
 use Rattle.std.proofs.lemmas.Bool.{not-true}
 use Rattle.prelude.specs.Cases.{if◌then◌otherwise◌, if_true, if_false, is_some, clash, both_true, either_true}
 use Rattle.prelude.specs.Below.{all_below, all_elim}
@@ -55,8 +54,8 @@ abbrev part_of : ℕ → Values → ℕ → List Field
 part_of k vs b = if is_told k b then field_of (tag_for k b) (vs b) [] otherwise []
 
 field_then : (t : ℕ) (o : Option (List ℕ)) (fs : List Field) → field_of t o fs ≡ field_of t o [] ++ fs
-field_then t none fs = refl
-field_then t (some v) fs = refl
+field_then t None fs = refl
+field_then t (Some v) fs = refl
 
 body_turn : (k : ℕ) (vs : Values) (fs : List Field) (b n : ℕ) → body (rows_from k b n) vs fs ≡ in_turn (part_of k vs) b n ++ fs
 unfolding body if◌then◌otherwise◌
@@ -111,12 +110,12 @@ spelled_number p b c e =
     let z : spelling b c ≡ decimal p (number c) = if_false (is_plain b) _ _ (not-true _ h.0) ∙ ap (λ (p : ℕ). decimal p (number c)) (eqb-true (places b) p h.1) in
     subst (IsNumber p (number c)) (sym z) (is_number_lem p (number c))
 
-named : (x : Bool) (o : Option (List ℕ)) (c : List ℕ) → o ≡ some c → (if x then some (or_else none_word o) otherwise o) ≡ some c
+named : (x : Bool) (o : Option (List ℕ)) (c : List ℕ) → o ≡ Some c → (if x then Some (or_else none_word o) otherwise o) ≡ Some c
 unfolding if◌then◌otherwise◌
-named true o c e = ap {B = Option (List ℕ)} (λ (o : Option (List ℕ)). some (or_else none_word o)) e
+named true o c e = ap {B = Option (List ℕ)} (λ (o : Option (List ℕ)). Some (or_else none_word o)) e
 named false o c e = e
 
-texted : (x : Bool) (o f : Option (List ℕ)) (c : List ℕ) → o ≡ some c → (if x then either o f otherwise o) ≡ some c
+texted : (x : Bool) (o f : Option (List ℕ)) (c : List ℕ) → o ≡ Some c → (if x then either o f otherwise o) ≡ Some c
 unfolding if◌then◌otherwise◌
 texted true o f c e = ap (λ (o : Option (List ℕ)). either o f) e
 texted false o f c e = e
@@ -124,11 +123,11 @@ texted false o f c e = e
 -- ---- what stands in the record
 
 module _ (s : List ℕ) where
-  at_some : (b : ℕ) → stands s b ≡ true → field_at s b ≡ some (held s b)
+  at_some : (b : ℕ) → stands s b ≡ true → field_at s b ≡ Some (held s b)
   unfolding field_at
   at_some b e = if_true (stands s b) _ _ e
 
-  at_none : (b : ℕ) → stands s b ≡ false → field_at s b ≡ none
+  at_none : (b : ℕ) → stands s b ≡ false → field_at s b ≡ None
   unfolding field_at
   at_none b e = if_false (stands s b) _ _ e
 
@@ -198,19 +197,19 @@ module _ (s : List ℕ) where
   plain_twenty = spelled_plain 20 (held s 20) refl
 
   module _ (one : stands s 27 ≡ true → length (held s 27) ≡ 1) where
-    value_there : (b : ℕ) → b < 32 → stands s b ≡ true → (v : List ℕ) × (vs b ≡ some v) × Holds s b v
+    value_there : (b : ℕ) → b < 32 → stands s b ≡ true → (v : List ℕ) × (vs b ≡ Some v) × Holds s b v
     value_there b h =
-        by_bit (λ b. b < 32 → stands s b ≡ true → (v : List ℕ) × (vs b ≡ some v) × Holds s b v)
-        (λ l e. (spelling 2 (held s 2), value_name k (field_at s) ∙ named (eqb k 17) (field_at s 2) (held s 2) (at_some 2 e) ∙ ap {B = Option (List ℕ)} some (sym plain_two), holds_plain 2 l refl refl))
-        (λ l e. (spelling 20 (held s 20), value_text k (field_at s) ∙ texted (eqb k 17) (field_at s 20) (over fixed_words (field_at s 27)) (held s 20) (at_some 20 e) ∙ ap {B = Option (List ℕ)} some (sym plain_twenty), holds_plain 20 l refl refl))
+        by_bit (λ b. b < 32 → stands s b ≡ true → (v : List ℕ) × (vs b ≡ Some v) × Holds s b v)
+        (λ l e. (spelling 2 (held s 2), value_name k (field_at s) ∙ named (eqb k 17) (field_at s 2) (held s 2) (at_some 2 e) ∙ ap {B = Option (List ℕ)} Some (sym plain_two), holds_plain 2 l refl refl))
+        (λ l e. (spelling 20 (held s 20), value_text k (field_at s) ∙ texted (eqb k 17) (field_at s 20) (over fixed_words (field_at s 27)) (held s 20) (at_some 20 e) ∙ ap {B = Option (List ℕ)} Some (sym plain_twenty), holds_plain 20 l refl refl))
         (λ l e. (exec_id (field_at s 2) (held s 25), value_exec k (field_at s) ∙ ap (over (exec_id (field_at s 2))) (at_some 25 e), holds_exec))
         (λ l e. (fixed_words (held s 27), value_words k (field_at s) ∙ ap (over fixed_words) (at_some 27 e), words_hold (one e)))
         b (λ x y z w l e. (spelling b (held s b), value_plain k (field_at s) b x y z w ∙ ap (over (spelling b)) (at_some b e), holds_plain b l z w))
         h
 
-    value_absent : (b : ℕ) → stands s b ≡ false → (eqb k 17 && (eqb b 2 || eqb b 20)) ≡ false → vs b ≡ none
+    value_absent : (b : ℕ) → stands s b ≡ false → (eqb k 17 && (eqb b 2 || eqb b 20)) ≡ false → vs b ≡ None
     value_absent b e r =
-        by_bit (λ b. stands s b ≡ false → (eqb k 17 && (eqb b 2 || eqb b 20)) ≡ false → vs b ≡ none)
+        by_bit (λ b. stands s b ≡ false → (eqb k 17 && (eqb b 2 || eqb b 20)) ≡ false → vs b ≡ None)
         (λ e r. value_name k (field_at s) ∙ if_false (eqb k 17) _ _ (no_reject r) ∙ at_none 2 e)
         (λ e r. value_text k (field_at s) ∙ if_false (eqb k 17) _ _ (no_reject r) ∙ at_none 20 e)
         (λ e r. value_exec k (field_at s) ∙ ap (over (exec_id (field_at s 2))) (at_none 25 e))
@@ -233,17 +232,17 @@ module _ (s : List ℕ) where
       untold = λ t. rw t refl;
     }
       where
-        none_there : (x : Bool) → vs b ≡ none → (if x then field_of (tag_for k b) (vs b) [] otherwise []) ≡ []
+        none_there : (x : Bool) → vs b ≡ None → (if x then field_of (tag_for k b) (vs b) [] otherwise []) ≡ []
         none_there true e = ap (λ (o : Option (List ℕ)). field_of (tag_for k b) o []) e
         none_there false e = refl
 
 -- ---- the places of a reject that always stand
 
-part_name : (j : ℕ) (vs : Values) (v : List ℕ) → j ≡ 17 → vs 2 ≡ some v → part_of j vs 2 ≡ field 37 v ∷ []
+part_name : (j : ℕ) (vs : Values) (v : List ℕ) → j ≡ 17 → vs 2 ≡ Some v → part_of j vs 2 ≡ field 37 v ∷ []
 unfolding tag_for left_out is_told required required_bits allowed allowed_bits if◌then◌otherwise◌
 part_name j vs v e z = subst (λ (j : ℕ). part_of j vs 2 ≡ field 37 v ∷ []) (sym e) (ap (λ (o : Option (List ℕ)). field_of 37 o []) z)
 
-part_text : (j : ℕ) (vs : Values) (v : List ℕ) → j ≡ 17 → vs 20 ≡ some v → part_of j vs 20 ≡ field 58 v ∷ []
+part_text : (j : ℕ) (vs : Values) (v : List ℕ) → j ≡ 17 → vs 20 ≡ Some v → part_of j vs 20 ≡ field 58 v ∷ []
 unfolding tag_for left_out is_told required required_bits allowed allowed_bits if◌then◌otherwise◌
 part_text j vs v e z = subst (λ (j : ℕ). part_of j vs 20 ≡ field 58 v ∷ []) (sym e) (ap (λ (o : Option (List ℕ)). field_of 58 o []) z)
 
@@ -262,7 +261,7 @@ module _ (s : List ℕ) (n : Session) (room : ℕ) (w : Bytes s) (t : session_ty
   reject_alone : k s ≡ 17 → stands s 2 ≡ false → part_of (k s) (vs s) 2 ≡ field 37 none_word ∷ []
   reject_alone q z =
       part_name (k s) (vs s) none_word q
-      (value_name (k s) (field_at s) ∙ if_true (eqb (k s) 17) _ _ (eq-eqb (k s) 17 q) ∙ ap (λ (o : Option (List ℕ)). some (or_else none_word o)) (at_none s 2 z))
+      (value_name (k s) (field_at s) ∙ if_true (eqb (k s) 17) _ _ (eq-eqb (k s) 17 q) ∙ ap (λ (o : Option (List ℕ)). Some (or_else none_word o)) (at_none s 2 z))
 
   -- where a reject has no text it has a fixed one
   fixed_stands : k s ≡ 17 → stands s 20 ≡ false → stands s 27 ≡ true
@@ -283,7 +282,7 @@ module _ (s : List ℕ) (n : Session) (room : ℕ) (w : Bytes s) (t : session_ty
       (value_text (k s) (field_at s)
       ∙ if_true (eqb (k s) 17) _ _ (eq-eqb (k s) 17 q)
       ∙ (λ i. either (at_none s 20 z i) (over fixed_words (at_some s 27 f i)))
-      ∙ ap {B = Option (List ℕ)} some (holds_words s (fixed_long f)))
+      ∙ ap {B = Option (List ℕ)} Some (holds_words s (fixed_long f)))
 
   abbrev last : Field
   last = trailer (spellings (front (inner (writing_of s n))))

@@ -1,8 +1,7 @@
 -- What holds of the five tables, computed once for each: what a message's kind is known by, which bits a row must have, what is left unsaid.
 -- Rests on Message.
-use Rattle.std.specs.Prelude.{ℕ, suc, ◌<◌, ◌≡◌, refl, List, [], ◌∷◌, Bool, true, false, not, ◌&&◌, ◌||◌, eqb, leb, ltb, length, get_or, take}
+use Rattle.std.specs.Prelude.{ℕ, suc, ◌<◌, ◌≡◌, refl, List, [], ◌∷◌, Bool, true, false, not, ◌&&◌, ◌||◌, eqb, leb, ltb, length, get_or, take, Option, None, Some}
 use Rattle.std.proofs.Common.{sym, subst, ◌∙◌, ⊎_elim, arith, eqb-true, eq-eqb, leb-true, ltb-true}
-use Rattle.std.proofs.Math.Option.{Option, none, some}
 use Rattle.std.proofs.Math.Decide.{ℕ_discrete}
 use Rattle.std.proofs.lemmas.Bool.{not-true}
 use Rattle.prelude.specs.Cases.{if◌then◌otherwise◌, if_false, is_some, clash, both_true, both_hold, either_true}
@@ -125,31 +124,31 @@ unfolding rows tables required required_bits allowed allowed_bits all_below unsa
 unsaid_right =
     by_kind_lem (λ k. (o : Option (List ℕ)) → reasoned k o ≡ true → (b : ℕ) → b < 32 → quiet k o b ≡ true)
     (λ o. elim o as (λ (o : Option (List ℕ)). reasoned 16 o ≡ true → (b : ℕ) → b < 32 → quiet 16 o b ≡ true) [
-      | none ↦ λ e. all_elim (quiet 16 none) 32 refl
-      | some v ↦ λ e. all_elim (quiet 16 (some v)) 32 refl
+      | None ↦ λ e. all_elim (quiet 16 None) 32 refl
+      | Some v ↦ λ e. all_elim (quiet 16 (Some v)) 32 refl
     ])
     (λ o. elim o as (λ (o : Option (List ℕ)). reasoned 17 o ≡ true → (b : ℕ) → b < 32 → quiet 17 o b ≡ true) [
-      | none ↦ λ e. clash false e refl
-      | some v ↦ λ e. all_elim (quiet 17 (some v)) 32 refl
+      | None ↦ λ e. clash false e refl
+      | Some v ↦ λ e. all_elim (quiet 17 (Some v)) 32 refl
     ])
     (λ o. elim o as (λ (o : Option (List ℕ)). reasoned 18 o ≡ true → (b : ℕ) → b < 32 → quiet 18 o b ≡ true) [
-      | none ↦ λ e. all_elim (quiet 18 none) 32 refl
-      | some v ↦ λ e. clash false e refl
+      | None ↦ λ e. all_elim (quiet 18 None) 32 refl
+      | Some v ↦ λ e. clash false e refl
     ])
     (λ o. elim o as (λ (o : Option (List ℕ)). reasoned 19 o ≡ true → (b : ℕ) → b < 32 → quiet 19 o b ≡ true) [
-      | none ↦ λ e. all_elim (quiet 19 none) 32 refl
-      | some v ↦ λ e. clash false e refl
+      | None ↦ λ e. all_elim (quiet 19 None) 32 refl
+      | Some v ↦ λ e. clash false e refl
     ])
     (λ o. elim o as (λ (o : Option (List ℕ)). reasoned 20 o ≡ true → (b : ℕ) → b < 32 → quiet 20 o b ≡ true) [
-      | none ↦ λ e. all_elim (quiet 20 none) 32 refl
-      | some v ↦ λ e. clash false e refl
+      | None ↦ λ e. all_elim (quiet 20 None) 32 refl
+      | Some v ↦ λ e. clash false e refl
     ])
 
 -- ---- fixed texts as texts
 
-pub words_right : (n : ℕ) → n < 18 → right 17 20 (some (words_of (suc n))) ≡ true
+pub words_right : (n : ℕ) → n < 18 → right 17 20 (Some (words_of (suc n))) ≡ true
 unfolding words_of texts required required_bits allowed allowed_bits all_below size range fields in_range value if◌then◌otherwise◌
-words_right = all_elim (λ n. right 17 20 (some (words_of (suc n)))) 18 refl
+words_right = all_elim (λ n. right 17 20 (Some (words_of (suc n)))) 18 refl
 
 -- ---- codes print
 
@@ -181,8 +180,8 @@ code_size : (b : ℕ) → b < 32 → (not (within side status (range b)) || eqb 
 unfolding size range fields all_below
 code_size = all_elim (λ b. not (within side status (range b)) || eqb (size b) 1) 32 refl
 
-pub code_print : (k b : ℕ) (c : List ℕ) → b < 32 → is_text_bit b ≡ false → within side status (range b) ≡ true → shape_at k b (some c) ≡ true
-    → range_at b (some c) ≡ true → every is_print c ≡ true
+pub code_print : (k b : ℕ) (c : List ℕ) → b < 32 → is_text_bit b ≡ false → within side status (range b) ≡ true → shape_at k b (Some c) ≡ true
+    → range_at b (Some c) ≡ true → every is_print c ≡ true
 unfolding value
 code_print k b c h t w e r =
     let z : size b ≡ 1 =

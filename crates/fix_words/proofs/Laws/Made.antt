@@ -1,11 +1,10 @@
 -- Every writing is one of some record. Rests on Taken.
 use Prim.Native.Nat.{ℕ, zero, suc, ◌+◌, ◌/◌, ◌%◌, ◌^◌, ◌≤◌, ◌<◌}
-use Rattle.std.specs.Prelude.{◌≡◌, Bool, not, ◌&&◌, ◌||◌, ◌↔◌, eqb, ltb, take}
+use Rattle.std.specs.Prelude.{◌≡◌, Bool, not, ◌&&◌, ◌||◌, ◌↔◌, eqb, ltb, take, Option, None, Some}
 use Rattle.std.proofs.Math.Path.{refl, sym, ap}
 use Rattle.std.proofs.Common.{subst, ◌∙◌, ⊎_elim, arith, lit<}
 use mathlib.Core.List.{List, [], ◌∷◌, ◌++◌, append-nil}
 use Rattle.std.proofs.Math.Bool.{true, false}
-use Rattle.std.proofs.Math.Option.{Option, none, some}
 use Rattle.std.proofs.Math.Decide.{dec_lt}
 use borrow.Author.Tests.{eqb-true, eq-eqb, leb-true, le-leb, lt-ltb, le-ltb, not-true}
 use Rattle.std.proofs.Math.Dec.{leb}
@@ -59,12 +58,12 @@ map_read : (k m : ℕ) (l : List ℕ) → m < 2 ^ 32 → map_at (k ∷ (bytes_of
 map_read k m l h = let z : m < 4294967296 = h in omega arith
 
 shape_some : (k b : ℕ) (o : Option (List ℕ)) → shape_at k b o ≡ true → bit (required k) b ≡ true → is_some o ≡ true
-shape_some k b none e h = clash (bit (required k) b) h (not-true _ e)
-shape_some k b (some c) e h = refl
+shape_some k b None e h = clash (bit (required k) b) h (not-true _ e)
+shape_some k b (Some c) e h = refl
 
 shape_may : (k b : ℕ) (o : Option (List ℕ)) → shape_at k b o ≡ true → is_some o ≡ true → (bit (required k) b || bit (allowed k) b) ≡ true
-shape_may k b none e h = clash false h refl
-shape_may k b (some c) e h = (both_true (bit (required k) b || bit (allowed k) b) _ e).0
+shape_may k b None e h = clash false h refl
+shape_may k b (Some c) e h = (both_true (bit (required k) b || bit (allowed k) b) _ e).0
 
 sum_bit : (k : ℕ) → within 16 20 k ≡ true → (b : ℕ) → b < 32 → (bit (required k) b || bit (allowed k) b) ≡ true → bit (required k + allowed k) b ≡ true
 sum_bit k i b h e =
@@ -137,8 +136,8 @@ module _ (k : ℕ) (at : Values) (fits : shaped k at ≡ true) where
   sized b e t = go (dec_lt b 32)
     where
       long : (o : Option (List ℕ)) → is_some o ≡ true → shape_at k b o ≡ true → length (or_else [] o) ≡ size b
-      long none q h = clash false q refl
-      long (some c) q h = shape_long k b c h t
+      long None q h = clash false q refl
+      long (Some c) q h = shape_long k b c h t
 
       go : Dec (b < 32) → length (holds b) ≡ size b
       go (yes h) = long (at b) (sym (bit_is b h) ∙ e) (all_elim (λ b. shape_at k b (at b)) 32 asked.1.0 b h)
@@ -168,14 +167,14 @@ module _ (k : ℕ) (at : Values) (fits : shaped k at ≡ true) where
   field_there : (b : ℕ) → b < 32 → field_at record_for b ≡ at b
   unfolding field_at
   field_there b h =
-      ap (λ (m : ℕ). if bit m b then some (content record_for 0 m b) otherwise none) map_there
+      ap (λ (m : ℕ). if bit m b then Some (content record_for 0 m b) otherwise None) map_there
       ∙ go (at b) refl (bit map b) refl
     where
-      go : (o : Option (List ℕ)) → at b ≡ o → (x : Bool) → bit map b ≡ x → (if bit map b then some (content record_for 0 map b) otherwise none) ≡ at b
-      go none z true e = clash false (ap is_some (sym z) ∙ sym (bit_is b h) ∙ e) refl
-      go (some c) z true e = if_true (bit map b) _ _ e ∙ ap {B = Option (List ℕ)} some (content_there b h e ∙ ap (or_else []) z) ∙ sym z
-      go none z false e = if_false (bit map b) _ _ e ∙ sym z
-      go (some c) z false e = clash true refl (ap is_some (sym z) ∙ sym (bit_is b h) ∙ e)
+      go : (o : Option (List ℕ)) → at b ≡ o → (x : Bool) → bit map b ≡ x → (if bit map b then Some (content record_for 0 map b) otherwise None) ≡ at b
+      go None z true e = clash false (ap is_some (sym z) ∙ sym (bit_is b h) ∙ e) refl
+      go (Some c) z true e = if_true (bit map b) _ _ e ∙ ap {B = Option (List ℕ)} Some (content_there b h e ∙ ap (or_else []) z) ∙ sym z
+      go None z false e = if_false (bit map b) _ _ e ∙ sym z
+      go (Some c) z false e = clash true refl (ap is_some (sym z) ∙ sym (bit_is b h) ∙ e)
 
   pub record_is : whole_message record_for ≡ true
   unfolding whole_message message_shaped formShaped record_for bytes
@@ -204,16 +203,16 @@ module _ (k : ℕ) (at : Values) (fits : shaped k at ≡ true) where
         each : (b : ℕ) → b < 32 → (o : Option (List ℕ)) → at b ≡ o → (x : Bool) → bit map b ≡ x
             → (if bit map b then in_range (range b) (value b (content record_for 0 map b)) otherwise true) ≡ true
         each b h o z false e = if_false (bit map b) _ _ e
-        each b h none z true e = clash false (ap is_some (sym z) ∙ sym (bit_is b h) ∙ e) refl
-        each b h (some c) z true e =
+        each b h None z true e = clash false (ap is_some (sym z) ∙ sym (bit_is b h) ∙ e) refl
+        each b h (Some c) z true e =
             if_true (bit map b) _ _ e
             ∙ ap (λ (l : List ℕ). in_range (range b) (value b l)) (content_there b h e ∙ ap (or_else []) z)
             ∙ (both_true (in_range (range b) (value b c)) (not (eqb b 2) || is_name_of c) (ap (range_at b) (sym z) ∙ range_of b h)).0
 
         named : (o : Option (List ℕ)) → at 2 ≡ o → (x : Bool) → bit map 2 ≡ x → (if bit map 2 then is_name (text_of (content record_for 0 map 2)) otherwise true) ≡ true
         named o z false e = if_false (bit map 2) _ _ e
-        named none z true e = clash false (ap is_some (sym z) ∙ sym (bit_is 2 (lit< tt)) ∙ e) refl
-        named (some c) z true e =
+        named None z true e = clash false (ap is_some (sym z) ∙ sym (bit_is 2 (lit< tt)) ∙ e) refl
+        named (Some c) z true e =
             let p = both_true (in_range (range 2) (value 2 c)) (not (eqb 2 2) || is_name_of c) (ap (range_at 2) (sym z) ∙ range_of 2 (lit< tt)) in
             if_true (bit map 2) _ _ e
             ∙ ap (λ (l : List ℕ). is_name (text_of l)) (content_there 2 (lit< tt) e ∙ ap (or_else []) z)
@@ -230,8 +229,8 @@ module _ (k : ℕ) (at : Values) (fits : shaped k at ≡ true) where
         ranges o z = ap (range_at b) (sym z) ∙ range_of b h
 
         go : (o : Option (List ℕ)) → shape_at k b o ≡ true → range_at b o ≡ true → every is_byte (encode b (or_else [] o)) ≡ true
-        go none e r = split_if (λ (l : List ℕ). every is_byte l ≡ true) (is_text_bit b) (λ t. refl) (λ t. refl)
-        go (some c) e r =
+        go None e r = split_if (λ (l : List ℕ). every is_byte l ≡ true) (is_text_bit b) (λ t. refl) (λ t. refl)
+        go (Some c) e r =
             let p : every is_byte c ≡ true = (both_true (every is_byte c) (is_text_bit b || eqb (length c) (size b)) (both_true (bit (required k) b || bit (allowed k) b) _ e).1).0 in
             let v = (both_true (in_range (range b) (value b c)) (not (eqb b 2) || is_name_of c) r).0 in
             split_if (λ (l : List ℕ). every is_byte l ≡ true) (is_text_bit b)
@@ -260,7 +259,7 @@ value_same : (k : ℕ) (at us : Values) → ((b : ℕ) → b < 32 → at b ≡ u
 unfolding value_of
 value_same k at us h b l =
     λ i.
-    if eqb b 2 then (if eqb k 17 then some (or_else none_word (h 2 (lit< tt) i)) otherwise h 2 (lit< tt) i) otherwise
+    if eqb b 2 then (if eqb k 17 then Some (or_else none_word (h 2 (lit< tt) i)) otherwise h 2 (lit< tt) i) otherwise
     if eqb b 20 then (if eqb k 17 then either (h 20 (lit< tt) i) (over fixed_words (h 27 (lit< tt) i)) otherwise h 20 (lit< tt) i) otherwise
     if eqb b 25 then over (exec_id (h 2 (lit< tt) i)) (h 25 (lit< tt) i) otherwise
     if eqb b 27 then over fixed_words (h 27 (lit< tt) i) otherwise

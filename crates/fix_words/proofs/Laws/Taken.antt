@@ -1,10 +1,9 @@
 -- A record that the writer takes is a writing. Rests on Record and records' reading.
-use Rattle.std.specs.Prelude.{ℕ, suc, ◌+◌, ◌-◌, ◌≤◌, ◌<◌, ◌≡◌, Bool, not, ◌&&◌, ◌||◌, ◌⊎◌, leb, ltb, length, get_or, replicate}
+use Rattle.std.specs.Prelude.{ℕ, suc, ◌+◌, ◌-◌, ◌≤◌, ◌<◌, ◌≡◌, Bool, not, ◌&&◌, ◌||◌, ◌⊎◌, leb, ltb, length, get_or, replicate, None, Some}
 use Rattle.std.proofs.Math.Path.{refl}
 use Rattle.std.proofs.Common.{sym, ap, ◌∙◌, inl, inr, ⊎_elim, arith, lit<, get_or-take}
 use mathlib.Core.List.{List, [], ◌∷◌, ◌++◌}
 use Rattle.std.proofs.Math.Bool.{true, false}
-use Rattle.std.proofs.Math.Option.{none, some}
 use Rattle.std.proofs.Math.Decide.{ℕ_discrete}
 use borrow.Author.Tests.{eqb-true, eq-eqb, ne_eqb, leb-true, lt-ltb, not-true}
 use Rattle.std.proofs.Math.Dec.{eqb}
@@ -52,7 +51,7 @@ bytes_every : (c : List ℕ) → Bytes c → every (λ x. ltb x 256) c ≡ true
 bytes_every [] h = refl
 bytes_every (x ∷ c) h = both_hold _ _ (lt-ltb x 256 (h 0)) (bytes_every c (λ k. h (suc k)))
 
-some_bit : (x : Bool) (c : List ℕ) → is_some (if x then some c otherwise none) ≡ x
+some_bit : (x : Bool) (c : List ℕ) → is_some (if x then Some c otherwise None) ≡ x
 unfolding if◌then◌otherwise◌
 some_bit true c = refl
 some_bit false c = refl
@@ -213,12 +212,12 @@ module _ (s : List ℕ) (w : Bytes s) (is : whole_message s ≡ true) where
       fit : bit m b ≡ true → (every (λ x. ltb x 256) (content s 0 m b) && (is_text_bit b || eqb (length (content s 0 m b)) (size b))) ≡ true
       fit e = both_hold (every (λ x. ltb x 256) (content s 0 m b)) (is_text_bit b || eqb (length (content s 0 m b)) (size b)) (bytes_every (content s 0 m b) (content_bytes b)) (long e (is_text_bit b) refl)
 
-      go : (x : Bool) → bit m b ≡ x → shape_at k b (if bit m b then some (content s 0 m b) otherwise none) ≡ true
+      go : (x : Bool) → bit m b ≡ x → shape_at k b (if bit m b then Some (content s 0 m b) otherwise None) ≡ true
       go true e =
-          ap (shape_at k b) (if_true (bit m b) (some (content s 0 m b)) none e)
+          ap (shape_at k b) (if_true (bit m b) (Some (content s 0 m b)) None e)
           ∙ both_hold (bit (required k) b || bit (allowed k) b) (every (λ x. ltb x 256) (content s 0 m b) && (is_text_bit b || eqb (length (content s 0 m b)) (size b))) (may_stand b h e) (fit e)
       go false e =
-          ap (shape_at k b) (if_false (bit m b) (some (content s 0 m b)) none e)
+          ap (shape_at k b) (if_false (bit m b) (Some (content s 0 m b)) None e)
           ∙ absent b e (bit (required k) b) refl
 
   stands : (b : ℕ) → is_some (field_at s b) ≡ bit m b
@@ -246,12 +245,12 @@ module _ (s : List ℕ) (w : Bytes s) (is : whole_message s ≡ true) where
 
         go : (x : Bool) → bit m b ≡ x → (if bit m b then in_range (range b) (value b (content s 0 m b)) otherwise true) ≡ true
             → (if bit m 2 then is_name (text_of (content s 0 m 2)) otherwise true) ≡ true
-            → range_at b (if bit m b then some (content s 0 m b) otherwise none) ≡ true
+            → range_at b (if bit m b then Some (content s 0 m b) otherwise None) ≡ true
         go true e i n =
-            ap (range_at b) (if_true (bit m b) (some (content s 0 m b)) none e)
+            ap (range_at b) (if_true (bit m b) (Some (content s 0 m b)) None e)
             ∙ both_hold (in_range (range b) (value b (content s 0 m b))) (not (eqb b 2) || is_name_of (content s 0 m b))
             (sym (if_true (bit m b) (in_range (range b) (value b (content s 0 m b))) true e) ∙ i) (named e (ℕ_discrete b 2) n)
-        go false e i n = ap (range_at b) (if_false (bit m b) (some (content s 0 m b)) none e)
+        go false e i n = ap (range_at b) (if_false (bit m b) (Some (content s 0 m b)) None e)
 
     pub record_ranged : ranged (field_at s) ≡ true
     unfolding ranged

@@ -1,10 +1,9 @@
 -- The promises of the FIX messages: what is written is read as the fields it was written with; 3 is given exactly for bytes that no writing
 -- yields; 9 is the length of the body and 10 the sum modulo 256. Rests on Again.
-use Rattle.std.specs.Prelude.{ℕ, ◌%◌, ◌<◌, ◌≡◌, Bool, true, false, ◌↔◌, ◌⊎◌, leb, length}
+use Rattle.std.specs.Prelude.{ℕ, ◌%◌, ◌<◌, ◌≡◌, Bool, true, false, ◌↔◌, ◌⊎◌, leb, length, None}
 use Rattle.std.proofs.Math.Path.{refl, ap}
 use Rattle.std.proofs.Common.{sym, ◌∙◌, inl, inr, ⊎_elim, arith}
 use mathlib.Core.List.{List, [], ◌∷◌, ◌++◌, append_assoc}
-use Rattle.std.proofs.Math.Option.{none}
 use Rattle.prelude.specs.Cases.{split_if, if_true, if_false, both_true, both_hold}
 use Rattle.prelude.specs.Below.{all_below, all_elim, all_intro}
 use Rattle.format.specs.Codes.{within}
@@ -131,7 +130,7 @@ module _ (w : Writing) (yes-it-is : is_writing w ≡ true) where
       ∙ value_back (value_of k w.at) t.0 t.1 t.2 (rows k)
       (⊎_elim (λ q. rw q a.0) (λ q. rw q a.1) t.4) (values_stand k w.at kind ok shapes.1.1) b i
 
-  us_none : (b : ℕ) → in_rows (rows k) b ≡ false → us b ≡ none
+  us_none : (b : ℕ) → in_rows (rows k) b ≡ false → us b ≡ None
   us_none b i = value_none (rows k) _ b i
 
   -- ---- it can be written again, and is the same

@@ -1,8 +1,7 @@
 -- Each field's value is read as what the record held: one law for numbers, texts and codes, and one each for the order's name, the ExecID
 -- and the fixed texts. Rests on Message.
-use Rattle.std.specs.Prelude.{ℕ, zero, suc, ◌≤◌, ◌<◌, ◌≡◌, refl, List, [], ◌∷◌, Bool, true, false, ◌&&◌, ◌||◌, eqb, leb, ltb, length, get_or, take}
+use Rattle.std.specs.Prelude.{ℕ, zero, suc, ◌≤◌, ◌<◌, ◌≡◌, refl, List, [], ◌∷◌, Bool, true, false, ◌&&◌, ◌||◌, eqb, leb, ltb, length, get_or, take, Option, None, Some}
 use Rattle.std.proofs.Common.{sym, ap, ◌∙◌, ⊎_elim, arith, eqb-true, ne_eqb, leb-true, ltb-true}
-use Rattle.std.proofs.Math.Option.{Option, none, some}
 use Rattle.std.proofs.Math.Decide.{ℕ_discrete}
 use Rattle.std.proofs.lemmas.Bool.{not-true}
 use Rattle.prelude.specs.Cases.{if◌then◌otherwise◌, if_true, if_false, maybe, clash, both_true, either_true, either_false}
@@ -27,7 +26,7 @@ every_bytes (x ∷ c) e zero = ltb-true x 256 (both_true (ltb x 256) (every (λ 
 every_bytes (x ∷ c) e (suc k) = every_bytes c (both_true (ltb x 256) (every (λ y. ltb y 256) c) e).1 k
 
 -- what the shape of a field says
-module _ (k b : ℕ) (c : List ℕ) (e : shape_at k b (some c) ≡ true) where
+module _ (k b : ℕ) (c : List ℕ) (e : shape_at k b (Some c) ≡ true) where
   fit : (every (λ x. ltb x 256) c && (is_text_bit b || eqb (length c) (size b))) ≡ true
   fit = (both_true (bit (required k) b || bit (allowed k) b) _ e).1
 
@@ -49,7 +48,7 @@ not_text : (b : ℕ) → is_plain b ≡ false → is_text_bit b ≡ false
 unfolding is_plain
 not_text b f = (either_false (is_text_bit b) _ f).0
 
-unspelled_back : (k b : ℕ) (c : List ℕ) → shape_at k b (some c) ≡ true → unspelled b (spelling b c) ≡ c
+unspelled_back : (k b : ℕ) (c : List ℕ) → shape_at k b (Some c) ≡ true → unspelled b (spelling b c) ≡ c
 unfolding unspelled spelling
 unspelled_back k b c e = go (is_plain b) refl
   where
@@ -64,19 +63,19 @@ unspelled_back k b c e = go (is_plain b) refl
 pub held_plain : (k b : ℕ) (o : Option (List ℕ)) → eqb b 2 ≡ false → eqb b 25 ≡ false → eqb b 27 ≡ false → shape_at k b o ≡ true
     → held_in b (over (spelling b) o) ≡ o
 unfolding held_in if◌then◌otherwise◌
-held_plain k b none x y z e = rw (x, y, z) refl
-held_plain k b (some c) x y z e = rw (x, y, z) (ap {B = Option (List ℕ)} some (unspelled_back k b c e))
+held_plain k b None x y z e = rw (x, y, z) refl
+held_plain k b (Some c) x y z e = rw (x, y, z) (ap {B = Option (List ℕ)} Some (unspelled_back k b c e))
 
 -- ---- the order's name
 
 pub held_name : (o : Option (List ℕ)) → range_at 2 o ≡ true → unless_none o ≡ o
-held_name none e = refl
-held_name (some c) e = if_false (same c none_word) _ _ (not-true _ (both_true (every is_alnum c) _ (both_true (in_range (range 2) (value 2 c)) _ e).1).1)
+held_name None e = refl
+held_name (Some c) e = if_false (same c none_word) _ _ (not-true _ (both_true (every is_alnum c) _ (both_true (in_range (range 2) (value 2 c)) _ e).1).1)
 
-pub held_none : (o : Option (List ℕ)) → range_at 2 o ≡ true → unless_none (some (or_else none_word o)) ≡ o
+pub held_none : (o : Option (List ℕ)) → range_at 2 o ≡ true → unless_none (Some (or_else none_word o)) ≡ o
 unfolding if◌then◌otherwise◌
-held_none none e = refl
-held_none (some c) e = held_name (some c) e
+held_none None e = refl
+held_none (Some c) e = held_name (Some c) e
 
 -- ---- the ExecID
 
@@ -89,14 +88,14 @@ alnum_point c e = go (ℕ_discrete c 46)
     go (yes q) = clash (is_alnum c) e (ap is_alnum q)
 
 name_point : (o : Option (List ℕ)) → range_at 2 o ≡ true → every (is_not 46) (or_else [] o) ≡ true
-name_point none e = refl
-name_point (some c) e = every_map is_alnum (is_not 46) alnum_point c (both_true (every is_alnum c) _ (both_true (in_range (range 2) (value 2 c)) _ e).1).0
+name_point None e = refl
+name_point (Some c) e = every_map is_alnum (is_not 46) alnum_point c (both_true (every is_alnum c) _ (both_true (in_range (range 2) (value 2 c)) _ e).1).0
 
 pub held_exec : (k : ℕ) (name o : Option (List ℕ)) → range_at 2 name ≡ true → shape_at k 25 o ≡ true → held_in 25 (over (exec_id name) o) ≡ o
 unfolding held_in if◌then◌otherwise◌ size fields
-held_exec k name none r e = refl
-held_exec k name (some c) r e =
-    ap {B = Option (List ℕ)} some
+held_exec k name None r e = refl
+held_exec k name (Some c) r e =
+    ap {B = Option (List ℕ)} Some
     (ap (λ (v : List ℕ). bytes_of 8 (number_in v)) (after_cut 46 (or_else [] name) (digits (number c)) (name_point name r))
     ∙ ap (bytes_of 8) (digits_back (number c))
     ∙ shape_number k 25 c e refl)
@@ -117,10 +116,10 @@ number_one c e = ap (λ (l : List ℕ). number (take 8 l)) (one_byte c e) ∙ om
 
 pub held_words : (k : ℕ) (o : Option (List ℕ)) → shape_at k 27 o ≡ true → range_at 27 o ≡ true → held_in 27 (over fixed_words o) ≡ o
 unfolding held_in if◌then◌otherwise◌ size range fields in_range value
-held_words k none e r = refl
-held_words k (some c) e r =
+held_words k None e r = refl
+held_words k (Some c) e r =
     let l : length c ≡ 1 = shape_long k 27 c e refl in
     let w : within 1 18 (number (take 8 c)) ≡ true = (both_true (within 1 18 (number (take 8 c))) _ r).0 in
     let m : number (take 8 c) ≤ 18 = leb-true _ 18 (both_true (leb 1 (number (take 8 c))) (leb (number (take 8 c)) 18) w).1 in
-    ap {B = Option (List ℕ)} some
+    ap {B = Option (List ℕ)} Some
     (ap (λ (n : ℕ). n ∷ []) (word_back (get_or c 0 0) (omega (arith, number_one c l))) ∙ sym (one_byte c l))

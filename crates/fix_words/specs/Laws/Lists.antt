@@ -1,5 +1,7 @@
 -- Laws of Lists.
-use Rattle.std.specs.Prelude.{ℕ, zero, suc, ◌<◌, ◌≡◌, refl, List, [], ◌∷◌, ◌++◌, Bool, true, false, eqb, length, get_or}
+use Rattle.std.specs.Prelude.{ℕ, zero, suc, ◌<◌, ◌≡◌, refl, List, [], ◌∷◌, ◌++◌, Bool, true, false, ◌&&◌, eqb, nat_eq, length, get_or}
+use Rattle.std.specs.List.{list_all}
+use Rattle.std.specs.Cmp.Lexicographic.{pointwise}
 use Rattle.std.proofs.Common.{ap, ◌∙◌, arith, eqb-true, eq-eqb}
 use Rattle.std.proofs.lemmas.Bool.{not-true}
 use Rattle.prelude.specs.Cases.{if_true, if_false, clash, both_true, both_hold}
@@ -58,3 +60,14 @@ every_below p (x ∷ c) e (suc i) h = every_below p c (both_true (p x) (every p 
 pub below_every : (p : ℕ → Bool) (c : List ℕ) → ((i : ℕ) → i < length c → p (get_or c i 0) ≡ true) → every p c ≡ true
 below_every p [] f = refl
 below_every p (x ∷ c) f = both_hold _ _ (f 0 (omega arith)) (below_every p c (λ i h. f (suc i) (omega arith)))
+
+-- std's tests of a slice are ours
+pub every_list : (p : ℕ → Bool) (s : List ℕ) → list_all p s ≡ every p s
+every_list p [] = refl
+every_list p (c ∷ s) = ap (λ b. p c && b) (every_list p s)
+
+pub same_list : (s t : List ℕ) → pointwise nat_eq s t ≡ same s t
+same_list [] [] = refl
+same_list [] (y ∷ t) = refl
+same_list (x ∷ s) [] = refl
+same_list (x ∷ s) (y ∷ t) = ap (λ b. nat_eq x y && b) (same_list s t)

@@ -1,12 +1,11 @@
 -- One law for every table: what a row wrote is found again, if no row that may be missing shares its tag with what can follow it.
 -- Rests on Rows.
-use Rattle.std.specs.Prelude.{ℕ, ◌≡◌, Bool, ◌&&◌, ◌||◌}
+use Rattle.std.specs.Prelude.{ℕ, ◌≡◌, Bool, ◌&&◌, ◌||◌, Option, None, Some}
 use Rattle.std.proofs.Math.Path.{refl, sym, ap}
 use Rattle.std.proofs.Common.{◌∙◌}
 use mathlib.Core.List.{List, [], ◌∷◌, ◌++◌}
 use Rattle.std.proofs.Math.Bool.{true, false, not}
 use Rattle.std.proofs.Math.Logic.{⊎_elim}
-use Rattle.std.proofs.Math.Option.{Option, none, some}
 use borrow.Author.Tests.{eqb-true, eq-eqb, not-true}
 use Rattle.std.proofs.Math.Dec.{eqb}
 use Rattle.prelude.specs.Cases.{if◌then◌otherwise◌, split_if, if_true, if_false, is_some, clash, both_true, both_hold, either_true, either_false}
@@ -55,8 +54,8 @@ module _ (vs : Values) (last : ℕ) (w : List ℕ) (fs : List Field) where
     where
       go : (o : Option (List ℕ)) → not (eqb t r.tag) ≡ true → (not r.must || is_some o) ≡ true → (r.must || apart t rows last) ≡ true
           → (apart t rows last ≡ true → leads t (body rows vs behind) ≡ false) → leads t (field_of r.tag o (body rows vs behind)) ≡ false
-      go (some v) p q c later = not-true (eqb t r.tag) p
-      go none p q c later = ⊎_elim (λ m. clash r.must m (missing r.must q)) later (either_true r.must (apart t rows last) c)
+      go (Some v) p q c later = not-true (eqb t r.tag) p
+      go None p q c later = ⊎_elim (λ m. clash r.must m (missing r.must q)) later (either_true r.must (apart t rows last) c)
 
   pub value_back : (rows : List Row) → all_apart rows last ≡ true → stand rows vs ≡ true → (b : ℕ) → in_rows rows b ≡ true
       → value_in rows (body rows vs behind) b ≡ vs b
@@ -76,11 +75,11 @@ module _ (vs : Values) (last : ℕ) (w : List ℕ) (fs : List Field) where
 
       go : (o : Option (List ℕ)) → vs r.bit ≡ o → (r.must || apart r.tag rows last) ≡ true → (not r.must || is_some o) ≡ true → stand rows vs ≡ true
           → (in_rows rows b ≡ true → value_in rows (body rows vs behind) b ≡ vs b) → value_in (r ∷ rows) (field_of r.tag o (body rows vs behind)) b ≡ vs b
-      go (some v) z p q d later = if_true (eqb r.tag r.tag) _ _ (eq-eqb r.tag r.tag refl) ∙ at (some v) z later (eqb r.bit b) refl
-      go none z p q d later =
+      go (Some v) z p q d later = if_true (eqb r.tag r.tag) _ _ (eq-eqb r.tag r.tag refl) ∙ at (Some v) z later (eqb r.bit b) refl
+      go None z p q d later =
           let l : leads r.tag (body rows vs behind) ≡ false =
           ⊎_elim (λ m. clash r.must m (missing r.must q)) (λ m. leads_apart r.tag rows m d) (either_true r.must (apart r.tag rows last) p) in
-          if_false (leads r.tag (body rows vs behind)) _ _ l ∙ at none z later (eqb r.bit b) refl
+          if_false (leads r.tag (body rows vs behind)) _ _ l ∙ at None z later (eqb r.bit b) refl
 
 -- the body asks only the bits of its rows
 pub body_same : (vs us : Values) (fs : List Field) (rows : List Row) → ((b : ℕ) → in_rows rows b ≡ true → vs b ≡ us b) → body rows vs fs ≡ body rows us fs
@@ -93,8 +92,8 @@ body_same vs us fs (r ∷ rows) h =
 
 -- the values print, so the fields do
 abbrev pub prints : Option (List ℕ) → Bool
-prints none = true
-prints (some v) = every is_print v
+prints None = true
+prints (Some v) = every is_print v
 
 pub body_prints : (vs : Values) (fs : List Field) (rows : List Row) → ((b : ℕ) → in_rows rows b ≡ true → prints (vs b) ≡ true) → printable fs ≡ true
     → printable (body rows vs fs) ≡ true
@@ -104,8 +103,8 @@ body_prints vs fs (r ∷ rows) h p =
     go (vs r.bit) (h r.bit (rw (eq-eqb r.bit r.bit refl) refl)) (body_prints vs fs rows (λ b q. h b (or_right (eqb r.bit b) (in_rows rows b) q)) p)
   where
     go : (o : Option (List ℕ)) → prints o ≡ true → printable (body rows vs fs) ≡ true → printable (field_of r.tag o (body rows vs fs)) ≡ true
-    go none q i = i
-    go (some v) q i = both_hold _ _ q i
+    go None q i = i
+    go (Some v) q i = both_hold _ _ q i
 
 pub body_append : (vs : Values) (fs gs : List Field) (rows : List Row) → body rows vs fs ++ gs ≡ body rows vs (fs ++ gs)
 unfolding body
@@ -114,15 +113,15 @@ body_append vs fs gs (r ∷ rows) = go (vs r.bit) (body_append vs fs gs rows)
   where
     go : (o : Option (List ℕ)) → body rows vs fs ++ gs ≡ body rows vs (fs ++ gs)
         → field_of r.tag o (body rows vs fs) ++ gs ≡ field_of r.tag o (body rows vs (fs ++ gs))
-    go none e = e
-    go (some v) e = ap (λ (l : List Field). field r.tag v ∷ l) e
+    go None e = e
+    go (Some v) e = ap (λ (l : List Field). field r.tag v ∷ l) e
 
 -- a bit of no row has no value
-pub value_none : (rows : List Row) (fs : List Field) (b : ℕ) → in_rows rows b ≡ false → value_in rows fs b ≡ none
+pub value_none : (rows : List Row) (fs : List Field) (b : ℕ) → in_rows rows b ≡ false → value_in rows fs b ≡ None
 unfolding value_in
 value_none [] fs b e = refl
 value_none (r ∷ rows) fs b e =
     let h = either_false (eqb r.bit b) (in_rows rows b) e in
-    split_if (λ (o : Option (List ℕ)). o ≡ none) (leads r.tag fs)
+    split_if (λ (o : Option (List ℕ)). o ≡ None) (leads r.tag fs)
     (λ l. if_false (eqb r.bit b) (first fs) (value_in rows (rest fs) b) h.0 ∙ value_none rows (rest fs) b h.1)
-    (λ l. if_false (eqb r.bit b) none (value_in rows fs b) h.0 ∙ value_none rows fs b h.1)
+    (λ l. if_false (eqb r.bit b) None (value_in rows fs b) h.0 ∙ value_none rows fs b h.1)

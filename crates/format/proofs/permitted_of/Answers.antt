@@ -1,8 +1,6 @@
--- `format::permitted_of` is the table, computed for each kind. Assumes nothing.
-use borrow.Author.Rules.{rules}
-use mathlib.Core.Path.{refl}
-use mathlib.Core.List.{List, [], ◌∷◌}
-use Prim.Native.Nat.{ℕ, ◌+◌}
+-- `format::permitted_of` is the table, computed for each byte. Assumes nothing.
+use Rattle.std.specs.Prelude.{ℕ, ◌+◌, List, [], ◌∷◌}
+use Rattle.std.proofs.Common.{rules, refl, ◌∙◌}
 use Rattle.prelude.specs.Below.{all_below}
 use Rattle.format.specs.Format.{required, allowed, required_bits, allowed_bits}
 use Rattle.format.specs.Laws.Format.{at_each}
@@ -14,4 +12,4 @@ maps =
 
 pub returns : goal.returns
 unfolding maps required allowed required_bits allowed_bits all_below
-returns c = at_each maps (λ k. required k + allowed k) 21 refl c.args.kind (search rules)
+returns c = c.entry.ensures ∙ at_each maps (λ k. required k + allowed k) 256 refl c.args.kind (search rules)

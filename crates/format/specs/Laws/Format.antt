@@ -1,11 +1,11 @@
 -- Laws of the table. Rests on Format.
-use Rattle.std.specs.Prelude.{ℕ, ◌≤◌, ◌<◌, ◌≡◌, refl, List, true, ◌||◌, get_or, eqb, leb, ltb}
-use Rattle.std.proofs.Common.{ap, ⊎_elim, arith, eqb-true, leb-true, ltb-true}
+use Rattle.std.specs.Prelude.{ℕ, ◌≤◌, ◌<◌, ◌≡◌, refl, List, true, ◌||◌, get_or, eqb, leb}
+use Rattle.std.proofs.Common.{ap, ⊎_elim, arith, eqb-true, leb-true}
 use Rattle.std.proofs.Math.ListN.{get_or-eq_default}
 use Rattle.prelude.specs.Cases.{both_true, either_true}
 use Rattle.prelude.specs.Below.{all_below, all_elim}
 use Rattle.format.specs.Codes.{within}
-use Rattle.format.specs.Format.{Field, fields, size, range, is_kind}
+use Rattle.format.specs.Format.{Field, fields, size, is_kind}
 
 pub kind_small : (k : ℕ) → is_kind k ≡ true → k < 21
 unfolding is_kind
@@ -29,15 +29,7 @@ size_small b h =
     (λ p. let q : size b ≡ 255 = eqb-true (size b) 255 p in (omega arith, λ l. absurd (omega arith)))
     (either_true (leb (size b) 16) (eqb (size b) 255) t)
 
-pub range_small : (b : ℕ) → b < 32 → range b < 17
-unfolding range fields all_below
-range_small b h = ltb-true (range b) 17 (all_elim (λ k. ltb (range k) 17) 32 refl b h)
-
 -- past the last field
 pub size_out : (b : ℕ) → 32 ≤ b → size b ≡ 0
 unfolding size fields
 size_out b h = ap (λ (f : Field). f.size) (get_or-eq_default fields _ h)
-
-pub range_out : (b : ℕ) → 32 ≤ b → range b ≡ 0
-unfolding range fields
-range_out b h = ap (λ (f : Field). f.range) (get_or-eq_default fields _ h)

@@ -1,23 +1,15 @@
 -- `event` is `event_of`: what the call comes to, refused or written. Assumes nothing.
-use borrow.Author.Tests.{eq-eqb, ne_eqb}
+use borrow.Author.Tests.{eq-eqb}
+use Rattle.machine.specs.Changes.{refusing}
+use Rattle.step.specs.Laws.Taken.{numbered}
 use Rattle.gateway.specs.Laws.Entered.{left_refused, left_0}
 use Rattle.gateway.proofs.event.Goals as goal
 
-pub returns-then-c-ne0 : goal.returns-then-c-ne0
-returns-then-c-ne0 c =
-    let w = c in
-    left_refused _ _ _ _ c.call_of-c.ensures (ne_eqb _ _ w.if-c-ne0.true)
+pub returns-in-Err : goal.returns-in-Err
+unfolding refusing
+returns-in-Err c = rw c.number.ensures (left_refused _ _ _ _ c.in-Err.ensures.is (numbered c.in-Err.refusal))
 
 pub returns : goal.returns
 returns c =
-    let a = c in
-    let o = c in
-    let q = c in
-    let p = c in
-    let g = c in
-    let s = c in
-    let n = c in
-    let v = c in
-    let w = c in
-    left_0 _ _ _ _ c.call_of-c.ensures (eq-eqb _ _ w.if-c-ne0.false) _ _ _ _ _ _ _ _ v.leaves_qty-leaves.ensures n.opening-opening.ensures s.outcome-outcome.ensures
-    g.origin-origin.ensures p.place_order.ensures q.place_requests.ensures o.place_open.ensures a.write_answer.ensures.1
+    left_0 _ _ _ _ c.in-Ok.ensures.is (eq-eqb _ _ c.in-Ok.ensures.taken) _ _ _ _ _ _ _ _ c.leaves_qty-leaves.ensures c.opening-opening.ensures c.outcome-outcome.ensures
+    c.origin-origin.ensures c.place_order.ensures c.place_requests.ensures c.place_open.ensures c.write_answer.ensures.1

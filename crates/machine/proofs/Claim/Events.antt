@@ -4,7 +4,7 @@ use native.Mathlib.Omega.{arith}
 use mathlib.Core.Path.{◌≡◌, refl, sym, ap, ◌∙◌}
 use mathlib.Core.Logic.{◌⊎◌, inl, inr}
 use mathlib.Core.Bool.{Bool, true, false, not, ◌&&◌}
-use mathlib.Core.Option.{some}
+use Rattle.std.specs.Prelude.{Some}
 use lib.Dec.{eqb}
 use lib.ListN.{length}
 use borrow.Author.Tests.{eq-eqb, ne_eqb}
@@ -65,7 +65,7 @@ module _ (b : Book) (r : Ruled b) (e : Event) (above : 0 < e.kind) (below : e.ki
   rule : (i : ℕ) → i < length b.orders → tries_rule (order_in b i).gateway ≡ true
   rule i h = (order_ruled b r i h).tries
 
-  rule_of : (k : ℕ) → find_downstream b e.ids.downstream ≡ some k → tries_rule (requests_order b k).gateway ≡ true
+  rule_of : (k : ℕ) → find_downstream b e.ids.downstream ≡ Some k → tries_rule (requests_order b k).gateway ≡ true
   rule_of k w = rule (request_in b k).order (request_ruled b r k (found_request b e.ids.downstream k w)).placed
 
   -- a cancel or replace of the client's
@@ -78,7 +78,7 @@ module _ (b : Book) (r : Ruled b) (e : Event) (above : 0 < e.kind) (below : e.ki
   amended_shaped n₇ n₉ i order full (replace_sent t u) = replaced_shaped b e i n₉ n₇
 
   -- an event that names a request
-  module _ (n₂ : eqb e.kind 2 ≡ false) (n₉ : eqb e.kind 9 ≡ false) (k : ℕ) (w : find_downstream b e.ids.downstream ≡ some k) where
+  module _ (n₂ : eqb e.kind 2 ≡ false) (n₉ : eqb e.kind 9 ≡ false) (k : ℕ) (w : find_downstream b e.ids.downstream ≡ Some k) where
     -- nothing is answered
     still_shaped : {y : Order} {out : Output} → Near (order_in b (request_in b k).order) y × Mute out → {p : ℕ} → Shaped b e (request_in b k).order (left p y 0 0 out)
     still_shaped n = record {
@@ -154,7 +154,7 @@ module _ (b : Book) (r : Ruled b) (e : Event) (above : 0 < e.kind) (below : e.ki
     made_shaped (resumes n₇ r h t) = sent_shaped b e _ _ n₉ n₇ n₂ (resumed_sent _ _ (rule_of k w) _ _ _ (refuses_near r) h t)
 
   -- event 9
-  asks_at_lem : (i j : ℕ) → find_name b e.ids.name ≡ some i → e.kind ≡ 9 → asks_at j b (read_as e) ≡ eqb i j && starts b i
+  asks_at_lem : (i j : ℕ) → find_name b e.ids.name ≡ Some i → e.kind ≡ 9 → asks_at j b (read_as e) ≡ eqb i j && starts b i
   asks_at_lem i j w k =
       ap (λ (x : ℕ). eqb x 9 && maybe false (λ i. eqb i j && starts b i) (find_name b e.ids.name)) k ∙ maybe_some _ i _ _ w
 
@@ -167,7 +167,7 @@ module _ (b : Book) (r : Ruled b) (e : Event) (above : 0 < e.kind) (below : e.ki
   unfolding starts
   started i d g = both_hold _ _ (ap not d) (ap not g)
 
-  asked_shaped : e.kind ≡ 9 → (i : ℕ) (w : find_name b e.ids.name ≡ some i) {c c' : Change} → AskedBy (findings_of b (i + 1)) (order_in b i) c c' → Shaped b e i c
+  asked_shaped : e.kind ≡ 9 → (i : ℕ) (w : find_name b e.ids.name ≡ Some i) {c c' : Change} → AskedBy (findings_of b (i + 1)) (order_in b i) c c' → Shaped b e i c
   asked_shaped z i w s = record {
     alone = λ j n. asks_at_lem i j w z ∙ ap (λ (x : Bool). x && starts b i) (ne_eqb i j (λ y. n (sym y)));
     spares = λ y. clash _ y n₇;

@@ -5,7 +5,7 @@ use native.Mathlib.Omega.{arith}
 use mathlib.Core.Path.{◌≡◌, refl, sym, ap, ◌∙◌, subst}
 use mathlib.Core.Logic.{◌⊎◌, inl, inr}
 use mathlib.Core.Bool.{Bool, true, false}
-use mathlib.Core.Option.{Option, none, some}
+use Rattle.std.specs.Prelude.{Option, None, Some}
 use mathlib.Core.List.{List, [], ◌∷◌, ◌++◌}
 use lib.Dec.{eqb}
 use lib.ListN.{length, get_or, set, length-append, length-set, get_or-append}
@@ -85,7 +85,7 @@ module _ (b b' : Book) (p : Persists b b') where
   pub same_name : (i : ℕ) → i < length b.orders → (order_in b' i).names.name ≡ (order_in b i).names.name
   same_name i h = ap (λ (w : Whose). w.name) (p.same i h)
 
-  pub name_stays : (t : Text) (i : ℕ) → find_name b t ≡ some i → find_name b' t ≡ some i
+  pub name_stays : (t : Text) (i : ℕ) → find_name b t ≡ Some i → find_name b' t ≡ Some i
   unfolding find_name
   name_stays t i h =
       let f : First (λ k. same_text (order_in b k).names.name t) (length b.orders) i = first_some _ _ i h in
@@ -95,16 +95,16 @@ module _ (b b' : Book) (p : Persists b b') where
       ∙ f.least)
       (ap (λ (x : Text). same_text x t) (same_name i f.below) ∙ f.passes)
 
-  pub status_stays : (t : Text) (s : ℕ) → status_of t b ≡ some s → is_done s ≡ true → status_of t b' ≡ some s
+  pub status_stays : (t : Text) (s : ℕ) → status_of t b ≡ Some s → is_done s ≡ true → status_of t b' ≡ Some s
   unfolding maybe
   status_stays t s h d = go (find_name b t) refl h
     where
-      go : (x : Option ℕ) → find_name b t ≡ x → maybe none (λ i. some (order_in b i).state.status) x ≡ some s → status_of t b' ≡ some s
-      go none e z = none_some refl z
-      go (some i) e z =
+      go : (x : Option ℕ) → find_name b t ≡ x → maybe None (λ i. Some (order_in b i).state.status) x ≡ Some s → status_of t b' ≡ Some s
+      go None e z = none_some refl z
+      go (Some i) e z =
           let w : (order_in b i).state.status ≡ s = cc in
-          ap (maybe none (λ (j : ℕ). some (order_in b' j).state.status)) (name_stays t i e)
-          ∙ ap some (p.done i (found_order b t i e) (ap is_done w ∙ d) ∙ w)
+          ap (maybe None (λ (j : ℕ). Some (order_in b' j).state.status)) (name_stays t i e)
+          ∙ ap Some (p.done i (found_order b t i e) (ap is_done w ∙ d) ∙ w)
 
 pub persists_trans : (a b c : Book) → Persists a b → Persists b c → Persists a c
 persists_trans a b c p q = record {
@@ -277,7 +277,7 @@ call_advances b (read_as e) =
 pub record Steady (image : Book) (s : State) : Type 0 where
   pub since : Persists image s.book
   pub ordered : Each s (λ o. o.state.cumqty ≤ o.terms.qty)
-  pub done : Every (λ e. (name : Text) (st : ℕ) → status_of name e.left ≡ some st → is_done st ≡ true → status_of name s.book ≡ some st) s.past
+  pub done : Every (λ e. (name : Text) (st : ℕ) → status_of name e.left ≡ Some st → is_done st ≡ true → status_of name s.book ≡ Some st) s.past
 
 filled_within : (o : Order) → filled_rule o ≡ true → o.state.cumqty ≤ o.terms.qty
 unfolding filled_rule

@@ -5,7 +5,7 @@ use native.Mathlib.Omega.{arith}
 use mathlib.Core.Path.{◌≡◌, refl, ap, subst}
 use mathlib.Core.Logic.{◌⊎◌, inl, inr, ⊎_elim}
 use mathlib.Core.Bool.{Bool, true, false}
-use mathlib.Core.Option.{Option, none, some}
+use Rattle.std.specs.Prelude.{Option, None, Some}
 use lib.Dec.{eqb}
 use lib.ListN.{length}
 use borrow.Author.Tests.{eqb-true, eqb-false, eq-eqb}
@@ -71,7 +71,7 @@ pub above_zero : (n : ℕ) → eqb n 0 ≡ false → 0 < n
 above_zero n e = let z : (n ≡ 0 → ⊥) = eqb-false n 0 e in omega arith
 
 module _ (laws : NumberedLaws) (b : Book) (r : Ruled b) (i : ℕ) (h : i < length b.orders) (room : length b.requests < 256) where
-  taken : (k : ℕ) → find_downstream b (next_downstream (order_in b i)) ≡ some k → ⊥
+  taken : (k : ℕ) → find_downstream b (next_downstream (order_in b i)) ≡ Some k → ⊥
   taken k w =
       let l : k < length b.requests = found_request b (next_downstream (order_in b i)) k w in
       let o = order_ruled b r i h in
@@ -102,9 +102,9 @@ module _ (laws : NumberedLaws) (b : Book) (r : Ruled b) (i : ℕ) (h : i < lengt
           let a : (order_in b (request_in b k).order).links.amendments ≡ (order_in b i).links.amendments = ap (λ (j : ℕ). (order_in b j).links.amendments) v in
           omega (arith, w.1)
 
-  pub fresh_text : find_downstream b (next_downstream (order_in b i)) ≡ none
+  pub fresh_text : find_downstream b (next_downstream (order_in b i)) ≡ None
   fresh_text = go (find_downstream b (next_downstream (order_in b i))) refl
     where
-      go : (x : Option ℕ) → find_downstream b (next_downstream (order_in b i)) ≡ x → x ≡ none
-      go none w = refl
-      go (some k) w = absurd (taken k w)
+      go : (x : Option ℕ) → find_downstream b (next_downstream (order_in b i)) ≡ x → x ≡ None
+      go None w = refl
+      go (Some k) w = absurd (taken k w)

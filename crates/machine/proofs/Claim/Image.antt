@@ -5,7 +5,7 @@ use native.Mathlib.Omega.{arith}
 use mathlib.Core.Path.{◌≡◌, refl, ap, ◌∙◌}
 use mathlib.Core.Logic.{◌⊎◌, inl, inr}
 use mathlib.Core.Bool.{Bool, true, false, ◌||◌}
-use mathlib.Core.Option.{Option, none, some}
+use Rattle.std.specs.Prelude.{Option, None, Some}
 use mathlib.Core.List.{List, [], ◌∷◌}
 use lib.ListN.{length, get_or}
 use borrow.Author.Tests.{eqb-true, eq-eqb}
@@ -77,13 +77,13 @@ downstreams_same p r (q ∷ qs) f =
 
 -- ---- the start
 
-held_found : (b : Book) (d : Text) → is_held b d ≡ true → (k : ℕ) × (find_downstream b d ≡ some k)
+held_found : (b : Book) (d : Text) → is_held b d ≡ true → (k : ℕ) × (find_downstream b d ≡ Some k)
 unfolding maybe
 held_found b d h = go (find_downstream b d) refl h
   where
-    go : (x : Option ℕ) → find_downstream b d ≡ x → maybe false (λ k. true) x ≡ true → (k : ℕ) × (find_downstream b d ≡ some k)
-    go none e z = clash false z refl
-    go (some k) e z = (k, e)
+    go : (x : Option ℕ) → find_downstream b d ≡ x → maybe false (λ k. true) x ≡ true → (k : ℕ) × (find_downstream b d ≡ Some k)
+    go None e z = clash false z refl
+    go (Some k) e z = (k, e)
 
 none_failed : (l : List Text) → how_many (failed []) l ≡ 0
 unfolding if◌then◌otherwise◌
@@ -98,7 +98,7 @@ module _ (laws : NumberedLaws) (image : Book) (good : BookKept image) where
     fail_answered = λ d h. clash false h refl;
   }
     where
-      has : (d : Text) → (is_held image d ≡ true) ⊎ (false ≡ true) → (k : ℕ) × (find_downstream image d ≡ some k)
+      has : (d : Text) → (is_held image d ≡ true) ⊎ (false ≡ true) → (k : ℕ) × (find_downstream image d ≡ Some k)
       has d (inl h) = held_found image d h
       has d (inr h) = clash false h refl
 

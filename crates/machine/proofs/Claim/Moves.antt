@@ -31,7 +31,7 @@ use Rattle.records.specs.Answer.{chosen}
 use Rattle.machine.specs.Claim.{last_qty}
 use Rattle.machine.specs.declared.Findings.{Findings}
 use Rattle.machine.specs.declared.Note.{Note}
-use Rattle.machine.specs.declared.Refusal.{Refusal}
+use Rattle.machine.specs.declared.Reject.{Reject}
 use Rattle.machine.specs.declared.Refused.{Refused}
 use Rattle.machine.specs.declared.Output.{Output}
 use Rattle.machine.specs.declared.Change.{Change}
@@ -298,7 +298,7 @@ module _ (f : Findings) (o : Order) (e : Event) where
   unfolding redelivered_report telling unchanged if◌then◌otherwise◌
   status_moves = left_moves (told_keeps o) (says_hush (quiet_report _ _ _ _ _ _))
 
-  pub told_refusal : (responseto : ℕ) (r : Refusal) → Moves 2 f.place o (refuse f responseto o e r)
+  pub told_refusal : (responseto : ℕ) (r : Reject) → Moves 2 f.place o (refuse f responseto o e r)
   unfolding refuse telling unchanged if◌then◌otherwise◌
   told_refusal responseto r = left_moves (same_keeps o) (says_hush (quiet_reject _ _ _ _ _ _ _))
 

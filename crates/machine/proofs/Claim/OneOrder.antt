@@ -6,7 +6,7 @@ use native.Mathlib.Omega.{arith}
 use mathlib.Core.Path.{◌≡◌, refl, sym, ap, ◌∙◌, subst}
 use mathlib.Core.Logic.{◌⊎◌, inl, inr}
 use mathlib.Core.Bool.{true, false}
-use mathlib.Core.Option.{Option, none, some}
+use Rattle.std.specs.Prelude.{Option, None, Some}
 use mathlib.Core.List.{List, []}
 use lib.Dec.{eqb}
 use lib.ListN.{length, set}
@@ -95,11 +95,11 @@ still_alone b i ms q = record {
   silent = λ client name n. q client name;
 }
 
-module _ (b : Book) (r : Ruled b) (e : Event) (low : 4 ≤ e.kind) (high : e.kind ≤ 8) (k : ℕ) (w : find_downstream b e.ids.downstream ≡ some k) where
+module _ (b : Book) (r : Ruled b) (e : Event) (low : 4 ≤ e.kind) (high : e.kind ≤ 8) (k : ℕ) (w : find_downstream b e.ids.downstream ≡ Some k) where
   Alike : ℕ → Change → Type 0
   Alike i c = Moved b e i c × (i ≡ (request_in b k).order) × Touches (findings_of b (i + 1)) (k + 1) (order_in b i) c
 
-  alike : (j : ℕ) (c : Change) → find_downstream b e.ids.downstream ≡ some j → Either (Moved b e (request_in b j).order c) c
+  alike : (j : ℕ) (c : Change) → find_downstream b e.ids.downstream ≡ Some j → Either (Moved b e (request_in b j).order c) c
       → Touches (findings_of b (order_link b j)) (j + 1) (order_in b (request_in b j).order) c → Either (Alike (request_in b j).order c) c
   unfolding Either Alike
   alike j c v (inl z) t = inl z
@@ -166,12 +166,12 @@ module _ (b : Book) (r : Ruled b) (e : Event) (low : 4 ≤ e.kind) (high : e.kin
   did_alone c (new_order z u) = let q : e.kind ≡ 1 = eqb-true e.kind 1 z in absurd (omega arith)
 
 -- a text that a request bears is found
-found : (b : Book) (d : Text) (k : ℕ) → k < length b.requests → same_text (request_in b k).downstream d ≡ true → (j : ℕ) × (find_downstream b d ≡ some j)
+found : (b : Book) (d : Text) (k : ℕ) → k < length b.requests → same_text (request_in b k).downstream d ≡ true → (j : ℕ) × (find_downstream b d ≡ Some j)
 found b d k l e = go (find_downstream b d) refl
   where
-    go : (x : Option ℕ) → find_downstream b d ≡ x → (j : ℕ) × (find_downstream b d ≡ some j)
-    go none h = unfold find_downstream in clash _ e (first_elim (λ j. same_text (request_in b j).downstream d) (length b.requests) h k l)
-    go (some j) h = (j, h)
+    go : (x : Option ℕ) → find_downstream b d ≡ x → (j : ℕ) × (find_downstream b d ≡ Some j)
+    go None h = unfold find_downstream in clash _ e (first_elim (λ j. same_text (request_in b j).downstream d) (length b.requests) h k l)
+    go (Some j) h = (j, h)
 
 call_alone : (laws : NumberedLaws) (b : Book) (e : Event) → 4 ≤ e.kind → e.kind ≤ 8 → (k : ℕ) → k < length b.requests → same_text (request_in b k).downstream e.ids.downstream ≡ true
     → Alone b (request_in b k).order (line_of b (read_as e) (comes_to b (read_as e))).messages (line_of b (read_as e) (comes_to b (read_as e))).left

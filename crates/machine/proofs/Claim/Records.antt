@@ -4,7 +4,7 @@ use native.Mathlib.Decide.{ℕ_discrete, dec_lt}
 use native.Mathlib.Omega.{arith}
 use mathlib.Core.Path.{◌≡◌, refl, sym, ap, ◌∙◌, subst}
 use mathlib.Core.Bool.{true}
-use mathlib.Core.Option.{none, some}
+use Rattle.std.specs.Prelude.{None, Some}
 use mathlib.Core.List.{List, [], ◌∷◌, ◌++◌}
 use lib.Dec.{eqb}
 use lib.ListN.{length, get_or, set, length-append, length-set, get_or-append}
@@ -144,7 +144,7 @@ module _ (b : Book) (c : Change) where
 
   -- ---- lookups
 
-  pub find_stays : (d : Text) (k : ℕ) → find_downstream b d ≡ some k → find_downstream (after b c) d ≡ some k
+  pub find_stays : (d : Text) (k : ℕ) → find_downstream b d ≡ Some k → find_downstream (after b c) d ≡ Some k
   unfolding find_downstream
   find_stays d k h =
       let f : First (λ j. same_text (request_in b j).downstream d) (length b.requests) k = first_some _ _ k h in
@@ -159,7 +159,7 @@ module _ (b : Book) (c : Change) where
     pub at : k ≡ length b.requests
     pub same : same_text c.requests.request.downstream d ≡ true
 
-  pub find_new : (d : Text) (k : ℕ) → find_downstream (after b c) d ≡ some k → find_downstream b d ≡ none → New d k
+  pub find_new : (d : Text) (k : ℕ) → find_downstream (after b c) d ≡ Some k → find_downstream b d ≡ None → New d k
   find_new d k h w = go (dec_lt k (length b.requests))
     where
       t : same_text (request_in (after b c) k).downstream d ≡ true
@@ -174,8 +174,8 @@ module _ (b : Book) (c : Change) where
           record { adds = n; at = z; same = subst (λ (q : Request). same_text q.downstream d ≡ true) (ap (λ (j : ℕ). request_in (after b c) j) z ∙ added_at n) t }
 
   -- the record that was added is found by its text, where it was free
-  pub find_added : (c.requests.added ≡ 0 → ⊥) → (d : Text) → same_text c.requests.request.downstream d ≡ true → find_downstream b d ≡ none
-      → find_downstream (after b c) d ≡ some (length b.requests)
+  pub find_added : (c.requests.added ≡ 0 → ⊥) → (d : Text) → same_text c.requests.request.downstream d ≡ true → find_downstream b d ≡ None
+      → find_downstream (after b c) d ≡ Some (length b.requests)
   unfolding find_downstream
   find_added e d s w =
       first_hit (λ j. same_text (request_in (after b c) j).downstream d) (length (after b c).requests) (length b.requests) (omega (arith, added_long e))

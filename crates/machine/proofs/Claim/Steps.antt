@@ -5,7 +5,7 @@ use native.Mathlib.Omega.{arith}
 use mathlib.Core.Path.{◌≡◌, refl, sym, ap, ◌∙◌, subst}
 use mathlib.Core.Logic.{◌⊎◌, inl, inr}
 use mathlib.Core.Bool.{Bool, true, false, not, ◌&&◌, ◌||◌}
-use mathlib.Core.Option.{Option, none, some}
+use Rattle.std.specs.Prelude.{Option, None, Some}
 use mathlib.Core.List.{[], ◌∷◌}
 use lib.Dec.{eqb, leb, ltb}
 use lib.ListN.{length, set}
@@ -48,19 +48,19 @@ line b i c = record { before = b; input = i; refusal = c.refusal; messages = tel
 -- ---- the requests
 
 module _ (b : Book) (i : Decoded) (c : Change) where
-  pub grown : (d : Text) (k : ℕ) → find_downstream b d ≡ some k → (find_downstream (after b c) d ≡ some k) × Same (request_in b k) (request_in (after b c) k)
+  pub grown : (d : Text) (k : ℕ) → find_downstream b d ≡ Some k → (find_downstream (after b c) d ≡ Some k) × Same (request_in b k) (request_in (after b c) k)
   grown d k h =
       let l = there_like b c k (found_request b d k h) in
       (find_stays b c d k h, record { kind = l.kind; order = l.order; answered = l.answered })
 
-  pub none_new : (c.requests.added ≡ 0) ⊎ (is_cancel c.requests.request ≡ false) → (d : Text) (k : ℕ) → find_downstream (after b c) d ≡ some k → find_downstream b d ≡ none
+  pub none_new : (c.requests.added ≡ 0) ⊎ (is_cancel c.requests.request ≡ false) → (d : Text) (k : ℕ) → find_downstream (after b c) d ≡ Some k → find_downstream b d ≡ None
       → is_cancel (request_in (after b c) k) ≡ false
   none_new (inl z) d k h w = absurd ((find_new b c d k h w).adds z)
   none_new (inr z) d k h w =
       let n = find_new b c d k h w in
       ap is_cancel (ap (λ (j : ℕ). request_in (after b c) j) n.at ∙ added_at b c n.adds) ∙ z
 
-  pub goes_fresh : (f : Findings) (o : Order) → Out f o c → find_downstream b (next_downstream o) ≡ none → is_gateway c.requests.request ≡ not (of_kind 2 i) → Goes (line b i c)
+  pub goes_fresh : (f : Findings) (o : Order) → Out f o c → find_downstream b (next_downstream o) ≡ None → is_gateway c.requests.request ≡ not (of_kind 2 i) → Goes (line b i c)
   goes_fresh f o u w g =
       let a : (c.requests.added ≡ 0 → ⊥) = (λ z. omega (arith, u.adds)) in
       fresh (next_downstream o) (length b.requests) u.says w
@@ -69,7 +69,7 @@ module _ (b : Book) (i : Decoded) (c : Change) where
       (λ d k h v. subst (λ (t : Text). same_text t d ≡ true) u.text (find_new b c d k h v).same)
 
   -- the order of the request that goes out
-  module _ (f : Findings) (o : Order) (j : ℕ) (u : Out f o c) (w : find_downstream b (next_downstream o) ≡ none) (g : is_gateway c.requests.request ≡ not (of_kind 2 i)) where
+  module _ (f : Findings) (o : Order) (j : ℕ) (u : Out f o c) (w : find_downstream b (next_downstream o) ≡ None) (g : is_gateway c.requests.request ≡ not (of_kind 2 i)) where
     of_added : (request_in (after b c) (length b.requests)).order ≡ f.place - 1
     of_added = ap (λ (q : Request). q.order) (added_at b c (λ z. omega (arith, u.adds))) ∙ u.of_order
 
@@ -92,7 +92,7 @@ module _ (b : Book) (e : Event) (c : Change) where
   calm_fails : eqb e.kind 7 ≡ false → (d : Text) → fails (line b (read_as e) c) d ≡ false
   calm_fails n d = ap (λ (x : Bool). x && (not (answered_in b d) && answered_in (after b c) d)) n
 
-  still_fails : (d : Text) (k : ℕ) → find_downstream b d ≡ some k → is_answered (request_in (after b c) k) ≡ is_answered (request_in b k) → fails (line b (read_as e) c) d ≡ false
+  still_fails : (d : Text) (k : ℕ) → find_downstream b d ≡ Some k → is_answered (request_in (after b c) k) ≡ is_answered (request_in b k) → fails (line b (read_as e) c) d ≡ false
   still_fails d k h s =
       ap (λ (x : Bool). eqb e.kind 7 && (not x && answered_in (after b c) d)) (answered_at b d k h)
       ∙ ap (λ (x : Bool). eqb e.kind 7 && (not (is_answered (request_in b k)) && x)) (answered_at (after b c) d k (find_stays b c d k h) ∙ s)
@@ -102,12 +102,12 @@ module _ (b : Book) (e : Event) (c : Change) where
       never true = refl
       never false = refl
 
-  none_fails : (d : Text) → find_downstream b d ≡ none → answered_in (after b c) d ≡ false → fails (line b (read_as e) c) d ≡ false
+  none_fails : (d : Text) → find_downstream b d ≡ None → answered_in (after b c) d ≡ false → fails (line b (read_as e) c) d ≡ false
   none_fails d h a =
       ap (λ (x : Bool). eqb e.kind 7 && (not (answered_in b d) && x)) a
       ∙ ap (λ (x : Bool). eqb e.kind 7 && x) (both_false (not (answered_in b d))) ∙ both_false (eqb e.kind 7)
 
-  now_fails : (d : Text) (k : ℕ) → find_downstream b d ≡ some k → eqb e.kind 7 ≡ true → is_answered (request_in b k) ≡ false → is_answered (request_in (after b c) k) ≡ true
+  now_fails : (d : Text) (k : ℕ) → find_downstream b d ≡ Some k → eqb e.kind 7 ≡ true → is_answered (request_in b k) ≡ false → is_answered (request_in (after b c) k) ≡ true
       → fails (line b (read_as e) c) d ≡ true
   now_fails d k h s u a =
       both_hold _ _ s (both_hold _ _ (ap not (answered_at b d k h ∙ u)) (answered_at (after b c) d k (find_stays b c d k h) ∙ a))
@@ -119,8 +119,8 @@ unfolding maybe
 asks_starts i b e h = go (find_name b e.ids.name) (both_true (eqb e.kind 9) _ h).1
   where
     go : (x : Option ℕ) → maybe false (λ j. eqb j i && starts b j) x ≡ true → starts b i ≡ true
-    go none z = clash false z refl
-    go (some j) z = let (p, q) = both_true (eqb j i) (starts b j) z in sym (ap (starts b) (eqb-true j i p)) ∙ q
+    go None z = clash false z refl
+    go (Some j) z = let (p, q) = both_true (eqb j i) (starts b j) z in sym (ap (starts b) (eqb-true j i p)) ∙ q
 
 starts_parts : (b : Book) (i : ℕ) → starts b i ≡ true → (is_done (order_in b i).state.status ≡ false) × (gateway_cancel_in_flight (findings_of b (i + 1)) (order_in b i) ≡ false)
 unfolding starts
@@ -161,7 +161,7 @@ pub data Shape (b : Book) (e : Event) (i : ℕ) (c : Change) : Type 0 where
       × (eqb e.kind 7 ≡ true → (k : ℕ) → c.requests.answered ≡ k + 1 → is_gateway (request_in b k) ≡ false))
       → Shape b e i c
   -- one goes out again
-  repeats : asks_at i b (read_as e) ≡ false → eqb e.kind 7 ≡ false → (d : Text) (k : ℕ) → find_downstream b d ≡ some k → is_cancel (request_in b k) ≡ true
+  repeats : asks_at i b (read_as e) ≡ false → eqb e.kind 7 ≡ false → (d : Text) (k : ℕ) → find_downstream b d ≡ Some k → is_cancel (request_in b k) ≡ true
       → cancels_in (tells c) ≡ d ∷ [] → c.requests.added ≡ 0 → c.order ≡ order_in b i → Shape b e i c
   -- the client's goes out
   client : asks_at i b (read_as e) ≡ false → eqb e.kind 7 ≡ false → eqb e.kind 2 ≡ true → Out (findings_of b (i + 1)) (order_in b i) c
@@ -174,7 +174,7 @@ pub data Shape (b : Book) (e : Event) (i : ℕ) (c : Change) : Type 0 where
   -- the gateway's begins, and waits
   begins! : asks_at i b (read_as e) ≡ true → cancels_in (tells c) ≡ [] → c.requests.added ≡ 0 → c.order.gateway.tries ≡ 0 → Shape b e i c
   -- a send of the gateway's failed
-  fails! : asks_at i b (read_as e) ≡ false → eqb e.kind 7 ≡ true → (d : Text) (k : ℕ) → find_downstream b d ≡ some k → (request_in b k).order ≡ i
+  fails! : asks_at i b (read_as e) ≡ false → eqb e.kind 7 ≡ true → (d : Text) (k : ℕ) → find_downstream b d ≡ Some k → (request_in b k).order ≡ i
       → is_gateway (request_in b k) ≡ true → is_answered (request_in b k) ≡ false → c.requests.answered ≡ k + 1 → c.requests.superseded ≡ 0
       → cancels_in (tells c) ≡ [] → c.requests.added ≡ 0 → has_gateway (order_in b i) ≡ true → c.order.gateway.tries ≡ (order_in b i).gateway.tries - 1 → Shape b e i c
 
@@ -227,7 +227,7 @@ module _ (laws : NumberedLaws) (b : Book) (r : Ruled b) (e : Event) (i : ℕ) (h
       (λ d w. kept_fails j d w (λ y x. n (sym w.of_order ∙ (s.spares y).1 w.at x)))
       (let t : (order_in (after b c) j).gateway.tries ≡ (order_in b j).gateway.tries = ap (λ (o : Order). o.gateway.tries) same in omega arith))
 
-  free : Out (findings_of b (i + 1)) (order_in b i) c → find_downstream b (next_downstream (order_in b i)) ≡ none
+  free : Out (findings_of b (i + 1)) (order_in b i) c → find_downstream b (next_downstream (order_in b i)) ≡ None
   free u = fresh_text laws b r i h (has_room_lem b c room (λ z. omega (arith, u.adds)))
 
   turn_of : (g : Goes (line b (read_as e) c)) → ((j : ℕ) → (j ≡ i → ⊥) → new_of g j ≡ [])
@@ -296,12 +296,12 @@ module _ (laws : NumberedLaws) (b : Book) (r : Ruled b) (e : Event) (i : ℕ) (h
       others d' ne = by (find_downstream b d') refl
         where
           by : (v : Option ℕ) → find_downstream b d' ≡ v → fails (line b (read_as e) c) d' ≡ false
-          by none v = none_fails b e c d' v (unanswered (find_downstream (after b c) d') refl)
+          by None v = none_fails b e c d' v (unanswered (find_downstream (after b c) d') refl)
             where
               unanswered : (v' : Option ℕ) → find_downstream (after b c) d' ≡ v' → maybe false (λ k. is_answered (request_in (after b c) k)) v' ≡ false
-              unanswered none v' = unfold maybe in refl
-              unanswered (some k') v' = absurd ((find_new b c d' k' v' v).adds n)
-          by (some k') v =
+              unanswered None v' = unfold maybe in refl
+              unanswered (Some k') v' = absurd ((find_new b c d' k' v' v).adds n)
+          by (Some k') v =
               still_fails b e c d' k' v
               (ap is_answered (there_other b c k' (found_request b d' k' v)
               (λ p. clash (same_text d d') (same_key p) ne)

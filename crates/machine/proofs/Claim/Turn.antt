@@ -5,7 +5,7 @@ use native.Mathlib.Omega.{arith}
 use mathlib.Core.Path.{◌≡◌, refl, sym, ap, ◌∙◌, subst}
 use mathlib.Core.Logic.{◌⊎◌, inl, inr}
 use mathlib.Core.Bool.{Bool, true, false, not, ◌&&◌, ◌||◌}
-use mathlib.Core.Option.{Option, none, some}
+use Rattle.std.specs.Prelude.{Option, None, Some}
 use mathlib.Core.List.{List, [], ◌∷◌, ◌++◌, append-nil}
 use lib.Dec.{eqb}
 use lib.ListN.{length, length-append}
@@ -108,19 +108,19 @@ pub find_cong : (b : Book) (d d' : Text) → same_text d d' ≡ true → find_do
 unfolding find_downstream
 find_cong b d d' s = first_ext _ _ _ (λ k l. same_right (request_in b k).downstream d d' s)
 
-pub answered_at : (b : Book) (d : Text) (k : ℕ) → find_downstream b d ≡ some k → answered_in b d ≡ is_answered (request_in b k)
+pub answered_at : (b : Book) (d : Text) (k : ℕ) → find_downstream b d ≡ Some k → answered_in b d ≡ is_answered (request_in b k)
 answered_at b d k h = maybe_some _ k _ _ h
 
-pub answered_none : (b : Book) (d : Text) → find_downstream b d ≡ none → answered_in b d ≡ false
+pub answered_none : (b : Book) (d : Text) → find_downstream b d ≡ None → answered_in b d ≡ false
 answered_none b d h = maybe_none _ _ _ h
 
-answered_some : (b : Book) (d : Text) → answered_in b d ≡ true → (k : ℕ) × (find_downstream b d ≡ some k) × (is_answered (request_in b k) ≡ true)
+answered_some : (b : Book) (d : Text) → answered_in b d ≡ true → (k : ℕ) × (find_downstream b d ≡ Some k) × (is_answered (request_in b k) ≡ true)
 unfolding maybe
 answered_some b d e = go (find_downstream b d) refl e
   where
-    go : (r : Option ℕ) → find_downstream b d ≡ r → maybe false (λ k. is_answered (request_in b k)) r ≡ true → (k : ℕ) × (find_downstream b d ≡ some k) × (is_answered (request_in b k) ≡ true)
-    go none h a = clash false a refl
-    go (some k) h a = (k, h, a)
+    go : (r : Option ℕ) → find_downstream b d ≡ r → maybe false (λ k. is_answered (request_in b k)) r ≡ true → (k : ℕ) × (find_downstream b d ≡ Some k) × (is_answered (request_in b k) ≡ true)
+    go None h a = clash false a refl
+    go (Some k) h a = (k, h, a)
 
 fails_cong : (e : Entry) (d d' : Text) → same_text d d' ≡ true → fails e d ≡ fails e d'
 fails_cong e d d' s =
@@ -135,15 +135,15 @@ gateway_cancels q g = let z : q.kind ≡ 3 = eqb-true _ 3 g in rw z
 
 pub record Base (image b : Book) (past : List Entry) : Type 0 where
   -- what is held or was sent has its record, and a cancel's record is held or was sent
-  pub sent_has : (d : Text) → known image d past ≡ true → (k : ℕ) × (find_downstream b d ≡ some k)
-  pub cancel_sent : (d : Text) (k : ℕ) → find_downstream b d ≡ some k → is_cancel (request_in b k) ≡ true → known image d past ≡ true
+  pub sent_has : (d : Text) → known image d past ≡ true → (k : ℕ) × (find_downstream b d ≡ Some k)
+  pub cancel_sent : (d : Text) (k : ℕ) → find_downstream b d ≡ Some k → is_cancel (request_in b k) ≡ true → known image d past ≡ true
   -- a failed send's record is answered
-  pub fail_answered : (d : Text) → failed past d ≡ true → (k : ℕ) × (find_downstream b d ≡ some k) × (is_answered (request_in b k) ≡ true)
+  pub fail_answered : (d : Text) → failed past d ≡ true → (k : ℕ) × (find_downstream b d ≡ Some k) × (is_answered (request_in b k) ≡ true)
 
 -- the record is a gateway cancel's of the order
 pub record Own (j : ℕ) (b : Book) (d : Text) : Type 0 where
   pub at : ℕ
-  pub found : find_downstream b d ≡ some at
+  pub found : find_downstream b d ≡ Some at
   pub by_gateway : is_gateway (request_in b at) ≡ true
   pub of_order : (request_in b at).order ≡ j
 
@@ -172,12 +172,12 @@ pub record Same (q q' : Request) : Type 0 where
 
 -- the cancel requests in the answer: none, one that went out before, or a new one
 pub data Goes (e : Entry) : Type 0 where
-  silent : cancels_in e.messages ≡ [] → ((d : Text) (k : ℕ) → find_downstream e.left d ≡ some k → find_downstream e.before d ≡ none → is_cancel (request_in e.left k) ≡ false) → Goes e
-  repeated : (d : Text) (k : ℕ) → cancels_in e.messages ≡ d ∷ [] → find_downstream e.before d ≡ some k → is_cancel (request_in e.before k) ≡ true
-      → ((d : Text) (k : ℕ) → find_downstream e.left d ≡ some k → find_downstream e.before d ≡ none → is_cancel (request_in e.left k) ≡ false) → Goes e
-  fresh : (d : Text) (k : ℕ) → cancels_in e.messages ≡ d ∷ [] → find_downstream e.before d ≡ none → find_downstream e.left d ≡ some k
+  silent : cancels_in e.messages ≡ [] → ((d : Text) (k : ℕ) → find_downstream e.left d ≡ Some k → find_downstream e.before d ≡ None → is_cancel (request_in e.left k) ≡ false) → Goes e
+  repeated : (d : Text) (k : ℕ) → cancels_in e.messages ≡ d ∷ [] → find_downstream e.before d ≡ Some k → is_cancel (request_in e.before k) ≡ true
+      → ((d : Text) (k : ℕ) → find_downstream e.left d ≡ Some k → find_downstream e.before d ≡ None → is_cancel (request_in e.left k) ≡ false) → Goes e
+  fresh : (d : Text) (k : ℕ) → cancels_in e.messages ≡ d ∷ [] → find_downstream e.before d ≡ None → find_downstream e.left d ≡ Some k
       → is_gateway (request_in e.left k) ≡ not (of_kind 2 e.input) → is_answered (request_in e.left k) ≡ false
-      → ((d' : Text) (k' : ℕ) → find_downstream e.left d' ≡ some k' → find_downstream e.before d' ≡ none → same_text d d' ≡ true) → Goes e
+      → ((d' : Text) (k' : ℕ) → find_downstream e.left d' ≡ Some k' → find_downstream e.before d' ≡ None → same_text d d' ≡ true) → Goes e
 
 -- those that the gateway puts out for the order
 unfoldable pub new_of : {e : Entry} → Goes e → ℕ → List Text
@@ -196,7 +196,7 @@ pub data Tried (j : ℕ) (e : Entry) (l : List Text) : Type 0 where
       → (order_in e.left j).gateway.tries ≡ (order_in e.before j).gateway.tries - 1 → Tried j e l
 
 pub record Turn (e : Entry) : Type 0 where
-  pub grows : (d : Text) (k : ℕ) → find_downstream e.before d ≡ some k → (find_downstream e.left d ≡ some k) × Same (request_in e.before k) (request_in e.left k)
+  pub grows : (d : Text) (k : ℕ) → find_downstream e.before d ≡ Some k → (find_downstream e.left d ≡ Some k) × Same (request_in e.before k) (request_in e.left k)
   pub goes : Goes e
   pub tried : (j : ℕ) → has_gateway (order_in e.left j) ≡ true → Tried j e (new_of goes j)
 
@@ -220,28 +220,28 @@ once_none = refl
 
 module _ (image : Book) (e : Entry) (past : List Entry) (s : Base image e.before past) where
   -- a request that has no record has not gone out, and has not failed
-  unsent : (d : Text) → find_downstream e.before d ≡ none → known image d past ≡ false
+  unsent : (d : Text) → find_downstream e.before d ≡ None → known image d past ≡ false
   unsent d h = go (true_or_false (known image d past))
     where
       go : (known image d past ≡ true) ⊎ (known image d past ≡ false) → known image d past ≡ false
       go (inl w) = none_some h (s.sent_has d w).1
       go (inr w) = w
 
-  unfailed : (d : Text) → find_downstream e.before d ≡ none → failed past d ≡ false
+  unfailed : (d : Text) → find_downstream e.before d ≡ None → failed past d ≡ false
   unfailed d h = go (true_or_false (failed past d))
     where
       go : (failed past d ≡ true) ⊎ (failed past d ≡ false) → failed past d ≡ false
       go (inl w) = none_some h (s.fail_answered d w).1
       go (inr w) = w
 
-  unfailed_yet : (d : Text) (k : ℕ) → find_downstream e.before d ≡ some k → is_answered (request_in e.before k) ≡ false → failed past d ≡ false
+  unfailed_yet : (d : Text) (k : ℕ) → find_downstream e.before d ≡ Some k → is_answered (request_in e.before k) ≡ false → failed past d ≡ false
   unfailed_yet d k h a = go (true_or_false (failed past d))
     where
       go : (failed past d ≡ true) ⊎ (failed past d ≡ false) → failed past d ≡ false
       go (inl w) = let (k', x, y) = s.fail_answered d w in clash _ (ap (λ (n : ℕ). is_answered (request_in e.before n)) (same_some h x) ∙ y) a
       go (inr w) = w
 
-  for_at : (j : ℕ) (d : Text) (k : ℕ) → find_downstream e.left d ≡ some k → is_for_at j e.left d ≡ eqb (request_in e.left k).order j
+  for_at : (j : ℕ) (d : Text) (k : ℕ) → find_downstream e.left d ≡ Some k → is_for_at j e.left d ≡ eqb (request_in e.left k).order j
   unfolding is_for_at
   for_at j d k h = maybe_some _ k _ _ h
 
@@ -274,19 +274,19 @@ module _ (image : Book) (e : Entry) (past : List Entry) (s : Base image e.before
 
   module _ (t : Turn e) where
     -- a record after the call was there before, or is new
-    comes : (d : Text) (k : ℕ) → find_downstream e.left d ≡ some k → (find_downstream e.before d ≡ some k) ⊎ (find_downstream e.before d ≡ none)
+    comes : (d : Text) (k : ℕ) → find_downstream e.left d ≡ Some k → (find_downstream e.before d ≡ Some k) ⊎ (find_downstream e.before d ≡ None)
     comes d k h = go (find_downstream e.before d) refl
       where
-        go : (x : Option ℕ) → find_downstream e.before d ≡ x → (find_downstream e.before d ≡ some k) ⊎ (find_downstream e.before d ≡ none)
-        go none w = inr w
-        go (some k') w = inl (w ∙ ap some (same_some (t.grows d k' w).0 h))
+        go : (x : Option ℕ) → find_downstream e.before d ≡ x → (find_downstream e.before d ≡ Some k) ⊎ (find_downstream e.before d ≡ None)
+        go None w = inr w
+        go (Some k') w = inl (w ∙ ap Some (same_some (t.grows d k' w).0 h))
 
-    gone : Goes e → (d : Text) → holds d (cancels_in e.messages) ≡ true → (k : ℕ) × (find_downstream e.left d ≡ some k)
+    gone : Goes e → (d : Text) → holds d (cancels_in e.messages) ≡ true → (k : ℕ) × (find_downstream e.left d ≡ Some k)
     gone (silent m n) d h = clash false (ap (holds d) (sym m) ∙ h) refl
     gone (repeated d₀ k m w c n) d h = (k, find_cong e.left d d₀ (holds_one d d₀ (ap (holds d) (sym m) ∙ h)) ∙ (t.grows d₀ k w).0)
     gone (fresh d₀ k m w v g a n) d h = (k, find_cong e.left d d₀ (holds_one d d₀ (ap (holds d) (sym m) ∙ h)) ∙ v)
 
-    new_cancel : Goes e → (d : Text) (k : ℕ) → find_downstream e.left d ≡ some k → find_downstream e.before d ≡ none → is_cancel (request_in e.left k) ≡ true
+    new_cancel : Goes e → (d : Text) (k : ℕ) → find_downstream e.left d ≡ Some k → find_downstream e.before d ≡ None → is_cancel (request_in e.left k) ≡ true
         → holds d (cancels_in e.messages) ≡ true
     new_cancel (silent m n) d k h w c = clash _ c (n d k h w)
     new_cancel (repeated d₀ k₀ m w₀ c₀ n) d k h w c = clash _ c (n d k h w)
@@ -299,24 +299,24 @@ module _ (image : Book) (e : Entry) (past : List Entry) (s : Base image e.before
       fail_answered = λ d h. answered d (either_true (fails e d) (failed past d) h);
     }
       where
-        had : (d : Text) → known image d past ≡ true → (k : ℕ) × (find_downstream e.left d ≡ some k)
+        had : (d : Text) → known image d past ≡ true → (k : ℕ) × (find_downstream e.left d ≡ Some k)
         had d p = let (k, w) = s.sent_has d p in (k, (t.grows d k w).0)
 
-        sends : (d : Text) → (holds d (cancels_in e.messages) ≡ true) ⊎ (sent d past ≡ true) → (k : ℕ) × (find_downstream e.left d ≡ some k)
+        sends : (d : Text) → (holds d (cancels_in e.messages) ≡ true) ⊎ (sent d past ≡ true) → (k : ℕ) × (find_downstream e.left d ≡ Some k)
         sends d (inl p) = gone t.goes d p
         sends d (inr p) = had d (or_right (is_held image d) p)
 
-        has : (d : Text) → (is_held image d ≡ true) ⊎ (sent d (e ∷ past) ≡ true) → (k : ℕ) × (find_downstream e.left d ≡ some k)
+        has : (d : Text) → (is_held image d ≡ true) ⊎ (sent d (e ∷ past) ≡ true) → (k : ℕ) × (find_downstream e.left d ≡ Some k)
         has d (inl p) = had d (or_left (sent d past) p)
         has d (inr p) = sends d (either_true (holds d (cancels_in e.messages)) (sent d past) p)
 
-        was : (d : Text) (k : ℕ) → find_downstream e.left d ≡ some k → is_cancel (request_in e.left k) ≡ true
-            → (find_downstream e.before d ≡ some k) ⊎ (find_downstream e.before d ≡ none) → known image d (e ∷ past) ≡ true
+        was : (d : Text) (k : ℕ) → find_downstream e.left d ≡ Some k → is_cancel (request_in e.left k) ≡ true
+            → (find_downstream e.before d ≡ Some k) ⊎ (find_downstream e.before d ≡ None) → known image d (e ∷ past) ≡ true
         was d k h c (inl w) =
             or_map (is_held image d) (sent d past) (λ p. p) (λ p. or_right (holds d (cancels_in e.messages)) p) (s.cancel_sent d k w (sym (cancel_same _ _ (t.grows d k w).1) ∙ c))
         was d k h c (inr w) = or_right (is_held image d) (or_left (sent d past) (new_cancel t.goes d k h w c))
 
-        answered : (d : Text) → (fails e d ≡ true) ⊎ (failed past d ≡ true) → (k : ℕ) × (find_downstream e.left d ≡ some k) × (is_answered (request_in e.left k) ≡ true)
+        answered : (d : Text) → (fails e d ≡ true) ⊎ (failed past d ≡ true) → (k : ℕ) × (find_downstream e.left d ≡ Some k) × (is_answered (request_in e.left k) ≡ true)
         answered d (inl p) = answered_some e.left d (both_true (not (answered_in e.before d)) (answered_in e.left d) (both_true (of_kind 7 e.input) _ p).1).1
         answered d (inr p) = let (k, w, a) = s.fail_answered d p in let (v, m) = t.grows d k w in (k, v, m.answered a)
 
@@ -350,13 +350,13 @@ module _ (image : Book) (e : Entry) (past : List Entry) (s : Base image e.before
           go true z p = mine z (either_true (same_text d d₀) (holds d l) (unfold if◌then◌otherwise◌ in p))
           go false z p = f d (unfold if◌then◌otherwise◌ in p)
 
-      distinct_new : (g : Goes e) (l : List Text) → Distinct l → ((d : Text) → find_downstream e.before d ≡ none → holds d l ≡ false) → Distinct (new_of g j ++ l)
+      distinct_new : (g : Goes e) (l : List Text) → Distinct l → ((d : Text) → find_downstream e.before d ≡ None → holds d l ≡ false) → Distinct (new_of g j ++ l)
       unfolding new_of Distinct
       distinct_new (silent m n) l u f = u
       distinct_new (repeated d₀ k m w c n) l u f = u
       distinct_new (fresh d₀ k m w v g a n) l u f = split_if (λ (x : List Text). Distinct (x ++ l)) _ (λ z. (f d₀ w, u)) (λ z. u)
 
-      unheld : (d : Text) → find_downstream e.before d ≡ none → holds d (out_at image j past) ≡ false
+      unheld : (d : Text) → find_downstream e.before d ≡ None → holds d (out_at image j past) ≡ false
       unheld d w = go (true_or_false (holds d (out_at image j past)))
         where
           go : (holds d (out_at image j past) ≡ true) ⊎ (holds d (out_at image j past) ≡ false) → holds d (out_at image j past) ≡ false
@@ -376,7 +376,7 @@ module _ (image : Book) (e : Entry) (past : List Entry) (s : Base image e.before
           go (inr p) r = or_right (same_text d x) (r p)
 
       -- a new gateway request is put out
-      new_put : (g : Goes e) (d : Text) (w : Own j e.left d) → find_downstream e.before d ≡ none → holds d (new_of g j) ≡ true
+      new_put : (g : Goes e) (d : Text) (w : Own j e.left d) → find_downstream e.before d ≡ None → holds d (new_of g j) ≡ true
       unfolding new_of
       new_put (silent m n) d w h = clash _ (gateway_cancels _ w.by_gateway) (n d w.at w.found h)
       new_put (repeated d₀ k m v c n) d w h = clash _ (gateway_cancels _ w.by_gateway) (n d w.at w.found h)
@@ -396,7 +396,7 @@ module _ (image : Book) (e : Entry) (past : List Entry) (s : Base image e.before
           old v x (goes_on_lem b g f m) = ap (holds d) (counted b) ∙ still_held (new_of t.goes j) (out_at image j past) d (a.unanswered g d v x)
           old v x (fell b g z l d₀ w₀ u₀ f fs m) = ap (holds d) (counted b) ∙ still_held (new_of t.goes j) (out_at image j past) d (a.unanswered g d v x)
 
-          go : (find_downstream e.before d ≡ some w.at) ⊎ (find_downstream e.before d ≡ none) → holds d (out_at image j (e ∷ past)) ≡ true
+          go : (find_downstream e.before d ≡ Some w.at) ⊎ (find_downstream e.before d ≡ None) → holds d (out_at image j (e ∷ past)) ≡ true
           go (inl h) =
               let m = (t.grows d w.at h).1 in
               old (record { at = w.at; found = h; by_gateway = sym (gateway_same _ _ m) ∙ w.by_gateway; of_order = sym m.order ∙ w.of_order })

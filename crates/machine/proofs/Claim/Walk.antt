@@ -5,7 +5,7 @@ use native.Mathlib.Omega.{arith}
 use mathlib.Core.Path.{◌≡◌, refl, ap, ◌∙◌}
 use mathlib.Core.Logic.{◌⊎◌, inl, inr}
 use mathlib.Core.Bool.{Bool, true, false, not, ◌&&◌}
-use mathlib.Core.Option.{Option, none, some}
+use Rattle.std.specs.Prelude.{Option, None, Some}
 use mathlib.Core.List.{[]}
 use lib.Dec.{eqb}
 use lib.ListN.{length}
@@ -24,7 +24,7 @@ use Rattle.store.specs.Finds.{find_name, find_downstream, find_clordid}
 use Rattle.machine.specs.Machine.{order_link, findings_of, booked_order, first_request, unused, nothing, unknown_report, change_of, has_room, step_of}
 use Rattle.machine.specs.Claim.{cancels_in}
 use Rattle.machine.specs.declared.Findings.{Findings}
-use Rattle.machine.specs.declared.Refusal.{Refusal}
+use Rattle.machine.specs.declared.Reject.{Reject}
 use Rattle.machine.specs.declared.Change.{Change}
 use Rattle.machine.proofs.Made.{repeated, turned, unpriced, cancel_sent, replace_sent}
 use Rattle.machine.proofs.Stepped.{MadeBy, AskedBy, AmendedBy, ByRequest, ByName, change_made}
@@ -47,9 +47,9 @@ booking b e = adding (first_request (length b.orders) e) (unchanged (length b.or
 
 pub data Did (P : ℕ → Change → Type 0) (b : Book) (e : Event) : Change → Type 0 where
   turned_away : {c : Change} → eqb c.refusal 0 ≡ false → Did P b e c
-  no_order_lem : {c : Change} → Bystands c → (eqb e.kind 9 ≡ false) ⊎ (find_name b e.ids.name ≡ none) → Did P b e c
+  no_order_lem : {c : Change} → Bystands c → (eqb e.kind 9 ≡ false) ⊎ (find_name b e.ids.name ≡ None) → Did P b e c
   on_order : {c : Change} (i : ℕ) → i < length b.orders → c.refusal ≡ 0 → P i c → Did P b e c
-  new_order : eqb e.kind 1 ≡ true → find_name b e.ids.name ≡ none → Did P b e (booking b e)
+  new_order : eqb e.kind 1 ≡ true → find_name b e.ids.name ≡ None → Did P b e (booking b e)
 
 -- and there is room for it
 unfoldable pub Roomy : (ℕ → Change → Type 0) → Book → ℕ → Change → Type 0
@@ -57,23 +57,23 @@ Roomy P b i c = P i c × (has_room b c ≡ true)
 
 -- ---- lookups
 
-pub found_request : (b : Book) (d : Text) (k : ℕ) → find_downstream b d ≡ some k → k < length b.requests
+pub found_request : (b : Book) (d : Text) (k : ℕ) → find_downstream b d ≡ Some k → k < length b.requests
 unfolding find_downstream
 found_request b d k h = (first_some _ _ k h).below
 
-pub found_text : (b : Book) (d : Text) (k : ℕ) → find_downstream b d ≡ some k → same_text (request_in b k).downstream d ≡ true
+pub found_text : (b : Book) (d : Text) (k : ℕ) → find_downstream b d ≡ Some k → same_text (request_in b k).downstream d ≡ true
 unfolding find_downstream
 found_text b d k h = (first_some _ _ k h).passes
 
-pub found_order : (b : Book) (t : Text) (i : ℕ) → find_name b t ≡ some i → i < length b.orders
+pub found_order : (b : Book) (t : Text) (i : ℕ) → find_name b t ≡ Some i → i < length b.orders
 unfolding find_name
 found_order b t i h = (first_some _ _ i h).below
 
-pub found_name : (b : Book) (t : Text) (i : ℕ) → find_name b t ≡ some i → same_text (order_in b i).names.name t ≡ true
+pub found_name : (b : Book) (t : Text) (i : ℕ) → find_name b t ≡ Some i → same_text (order_in b i).names.name t ≡ true
 unfolding find_name
 found_name b t i h = (first_some _ _ i h).passes
 
-found_clordid : (b : Book) (client : ℕ) (t : Text) (k : ℕ) → find_clordid b client t ≡ some k → k < length b.requests
+found_clordid : (b : Book) (client : ℕ) (t : Text) (k : ℕ) → find_clordid b client t ≡ Some k → k < length b.requests
 unfolding find_clordid
 found_clordid b client t k h = (first_some _ _ k h).below
 
@@ -88,12 +88,12 @@ none_taken f order e p = ap (λ (n : ℕ). has e 21 && not (eqb order 0) && eqb 
     go true false = refl
     go false y = refl
 
-pub none_refused : (f : Findings) (order : ℕ) (full : Bool) (o : Order) (e : Event) (own : Refusal) → f.place ≡ 0
+pub none_refused : (f : Findings) (order : ℕ) (full : Bool) (o : Order) (e : Event) (own : Reject) → f.place ≡ 0
     → eqb (amend_refusal f order full o e own).fixedtext 0 ≡ false
 unfolding amend_refusal if◌then◌otherwise◌
 none_refused f order full o e own p =
-    split_if (λ (r : Refusal). eqb r.fixedtext 0 ≡ false) (not (eqb order 0)) (λ h. refl)
-    (λ h. split_if (λ (r : Refusal). eqb r.fixedtext 0 ≡ false) (eqb f.place 0) (λ k. refl) (λ k. clash _ (eq-eqb f.place 0 p) k))
+    split_if (λ (r : Reject). eqb r.fixedtext 0 ≡ false) (not (eqb order 0)) (λ h. refl)
+    (λ h. split_if (λ (r : Reject). eqb r.fixedtext 0 ≡ false) (eqb f.place 0) (λ k. refl) (λ k. clash _ (eq-eqb f.place 0 p) k))
 
 none_bystands : {f : Findings} {order : ℕ} {full : Bool} {o : Order} {e : Event} {c c' : Change} → f.place ≡ 0 → AmendedBy f order full o e c c' → Bystands c
 none_bystands {f} {order} {full} {o} {e} p (repeated t) = clash _ t (none_taken f order e p)
@@ -131,21 +131,21 @@ requests_order b k = order_in b (request_in b k).order
 pub record Handles (P : ℕ → Change → Type 0) (b : Book) (e : Event) : Type 0 where
   pub amends : e.kind ≤ 3 → eqb e.kind 7 ≡ false → eqb e.kind 9 ≡ false → (i : ℕ) → i < length b.orders → (order : ℕ) (full : Bool) {c c' : Change}
       → AmendedBy (findings_of b (i + 1)) order full (order_in b i) e c c' → Either (P i c) c
-  pub answers : eqb e.kind 2 ≡ false → eqb e.kind 9 ≡ false → (k : ℕ) → find_downstream b e.ids.downstream ≡ some k → {c c' : Change}
+  pub answers : eqb e.kind 2 ≡ false → eqb e.kind 9 ≡ false → (k : ℕ) → find_downstream b e.ids.downstream ≡ Some k → {c c' : Change}
       → MadeBy (findings_of b (order_link b k)) (k + 1) (request_in b k) (requests_order b k) e c c' → Either (P (request_in b k).order c) c
-  pub asks : (0 < e.kind → 8 < e.kind) → (i : ℕ) → find_name b e.ids.name ≡ some i → {c c' : Change} → AskedBy (findings_of b (i + 1)) (order_in b i) c c' → Either (P i c) c
+  pub asks : (0 < e.kind → 8 < e.kind) → (i : ℕ) → find_name b e.ids.name ≡ Some i → {c c' : Change} → AskedBy (findings_of b (i + 1)) (order_in b i) c c' → Either (P i c) c
 
 findings_none : (b : Book) → (findings_of b 0).place ≡ 0
 unfolding findings_of
 findings_none b = refl
 
-name_unused : (b : Book) (e : Event) → unused b e ≡ true → find_name b e.ids.name ≡ none
+name_unused : (b : Book) (e : Event) → unused b e ≡ true → find_name b e.ids.name ≡ None
 unfolding unused maybe
 name_unused b e h = go (find_name b e.ids.name) (both_true _ _ h).0
   where
-    go : (x : Option ℕ) → maybe true (λ k. false) x ≡ true → x ≡ none
-    go none z = refl
-    go (some i) z = clash false z refl
+    go : (x : Option ℕ) → maybe true (λ k. false) x ≡ true → x ≡ None
+    go None z = refl
+    go (Some i) z = clash false z refl
 
 module _ (P : ℕ → Change → Type 0) (b : Book) (e : Event) (r : Ruled b) (h : Handles P b e) where
   handled : (i : ℕ) (c : Change) → i < length b.orders → Either (P i c) c → Did P b e c
@@ -174,7 +174,7 @@ module _ (P : ℕ → Change → Type 0) (b : Book) (e : Event) (r : Ruled b) (h
       not_named : ByRequest e → eqb e.kind 9 ≡ false
       not_named z = let l : e.kind ≤ 8 = z.1 in ne_eqb e.kind 9 (λ y. omega arith)
 
-      by : ByRequest e ⊎ (ByName e × (find_name b e.ids.name ≡ none)) → (eqb e.kind 9 ≡ false) ⊎ (find_name b e.ids.name ≡ none)
+      by : ByRequest e ⊎ (ByName e × (find_name b e.ids.name ≡ None)) → (eqb e.kind 9 ≡ false) ⊎ (find_name b e.ids.name ≡ None)
       by (inl z) = inl (not_named z)
       by (inr z) = inr z.1
 

@@ -5,7 +5,7 @@ use native.Mathlib.Omega.{arith}
 use mathlib.Core.Path.{◌≡◌, refl, sym, ap, ◌∙◌, subst}
 use mathlib.Core.Logic.{◌⊎◌, inl, inr}
 use mathlib.Core.Bool.{Bool, true, false, not, ◌&&◌, ◌||◌}
-use mathlib.Core.Option.{Option, none, some}
+use Rattle.std.specs.Prelude.{Option, None, Some}
 use mathlib.Core.List.{List, [], ◌∷◌, ◌++◌, append-nil, append_assoc}
 use lib.Dec.{eqb}
 use lib.ListN.{length, length-append, set, get_or-eq_default}
@@ -121,7 +121,7 @@ bystands_round b i c s a =
     (subst (λ (x : Book). Round (record { before = b; input = i; refusal = c.refusal; messages = tells c; left = x })) (sym (after_same b c s))
     (still_round b i c.refusal (tells c) s.no_cancel (λ j. unfold begins_at in ap (λ (x : Bool). eqb c.refusal 0 && x) (a j) ∙ both_false (eqb c.refusal 0))))
 
-unknown_asks : (b : Book) (e : Event) → (eqb e.kind 9 ≡ false) ⊎ (find_name b e.ids.name ≡ none) → (j : ℕ) → asks_at j b (read_as e) ≡ false
+unknown_asks : (b : Book) (e : Event) → (eqb e.kind 9 ≡ false) ⊎ (find_name b e.ids.name ≡ None) → (j : ℕ) → asks_at j b (read_as e) ≡ false
 unknown_asks b e (inl z) j = asks_none b e z j
 unknown_asks b e (inr z) j = ap (λ (x : Bool). eqb e.kind 9 && x) (maybe_none _ _ _ z) ∙ both_false (eqb e.kind 9)
 
@@ -182,7 +182,7 @@ booking_request : (b : Book) (e : Event) → ((booking b e).requests.request.ord
 unfolding adding first_request is_cancel is_first is_replace
 booking_request b e = (refl, refl, refl)
 
-module _ (b : Book) (r : Ruled b) (e : Event) (k : eqb e.kind 1 ≡ true) (u : find_name b e.ids.name ≡ none) where
+module _ (b : Book) (r : Ruled b) (e : Event) (k : eqb e.kind 1 ≡ true) (u : find_name b e.ids.name ≡ None) where
   more_orders : (after b (booking b e)).orders ≡ b.orders ++ (booked_order (length b.requests + 1) e ∷ [])
   more_orders =
       let p = booking_place b e in
@@ -370,8 +370,8 @@ module _ (b : Book) (a : Apart b) (j : ℕ) (h : j < length b.orders) where
     where
       go : (x : Option ℕ) → find_downstream e.left d ≡ x
           → maybe false (λ n. bears_name (order_in b j).names.name (order_in e.left (request_in e.left n).order)) x ≡ maybe false (λ n. eqb (request_in e.left n).order j) x
-      go none w = refl
-      go (some n) w = same_order e.left k.left (request_in e.left n).order (k.placed n (found_request e.left d n w))
+      go None w = refl
+      go (Some n) w = same_order e.left k.left (request_in e.left n).order (k.placed n (found_request e.left d n w))
 
   asks_same : (c : Book) → Persists c b → (i : Decoded) → asks (order_in b j).names.name c i ≡ asks_at j c i
   unfolding maybe
@@ -380,8 +380,8 @@ module _ (b : Book) (a : Apart b) (j : ℕ) (h : j < length b.orders) where
     where
       go : (x : Option ℕ) → find_name c e.ids.name ≡ x
           → maybe false (λ i. bears_name (order_in b j).names.name (order_in c i) && starts c i) x ≡ maybe false (λ i. eqb i j && starts c i) x
-      go none w = refl
-      go (some i) w = ap (λ (y : Bool). y && starts c i) (same_order c p i (found_order c e.ids.name i w))
+      go None w = refl
+      go (Some i) w = ap (λ (y : Bool). y && starts c i) (same_order c p i (found_order c e.ids.name i w))
 
   by_same : (image : Book) (e : Entry) (past : List Entry) → Known b e → put_out_by (known image) (order_in b j).names.name e past ≡ new_by_at image j e past
   unfolding put_out_by new_by_at
@@ -407,14 +407,14 @@ module _ (b : Book) (a : Apart b) (j : ℕ) (h : j < length b.orders) where
     unfolding maybe
     held_at_lem g z = go (find_name image (order_in b j).names.name) refl
       where
-        absent : find_name image (order_in b j).names.name ≡ none → Dec (j < length image.orders) → 0 ≡ g (order_in image j)
+        absent : find_name image (order_in b j).names.name ≡ None → Dec (j < length image.orders) → 0 ≡ g (order_in image j)
         absent w (yes l) = unfold find_name in
             clash _ (same_order image p j l ∙ eq-eqb j j refl) (first_elim (λ i. bears_name (order_in b j).names.name (order_in image i)) (length image.orders) w j l)
         absent w (no l) = sym (ap g (get_or-eq_default image.orders no_order (omega arith)) ∙ z)
 
         go : (x : Option ℕ) → find_name image (order_in b j).names.name ≡ x → maybe 0 (λ i. g (order_in image i)) x ≡ g (order_in image j)
-        go none w = absent w (dec_lt j (length image.orders))
-        go (some i) w = ap (λ (k : ℕ). g (order_in image k)) (eqb-true i j (sym (same_order image p i (found_order image _ i w)) ∙ found_name image _ i w))
+        go None w = absent w (dec_lt j (length image.orders))
+        go (Some i) w = ap (λ (k : ℕ). g (order_in image k)) (eqb-true i j (sym (same_order image p i (found_order image _ i w)) ∙ found_name image _ i w))
 
     -- the new ones and the image's are all that count
     out_same : (past : List Entry) → Every (Known b) past → new_out image (order_in b j).names.name past ++ base_out image (order_in b j).names.name past ≡ out_at image j past

@@ -5,7 +5,7 @@ use native.Mathlib.Omega.{arith}
 use mathlib.Core.Path.{◌≡◌, refl, sym, ap, subst, ◌∙◌}
 use mathlib.Core.Logic.{◌⊎◌, inl, inr, ⊎_elim}
 use mathlib.Core.Bool.{Bool, true, false, not, ◌&&◌}
-use mathlib.Core.Option.{some}
+use Rattle.std.specs.Prelude.{Some}
 use mathlib.Core.List.{List}
 use lib.Dec.{eqb, leb, ltb}
 use lib.ListN.{length, get_or, set, length-set}
@@ -118,7 +118,7 @@ module _ (b b' : Book) (i : ℕ) (a : Apart b b' i) where
       ap (first_below (λ k. same_text (order_in b' k).names.name t)) a.count
       ∙ first_ext (λ k. same_text (order_in b' k).names.name t) (λ k. same_text (order_in b k).names.name t) (length b.orders) (λ k l. ap (λ (x : Text). same_text x t) (a.names k))
 
-  pub downstream_stays : (t : Text) (k : ℕ) → find_downstream b t ≡ some k → find_downstream b' t ≡ some k
+  pub downstream_stays : (t : Text) (k : ℕ) → find_downstream b t ≡ Some k → find_downstream b' t ≡ Some k
   unfolding find_downstream
   downstream_stays t k h =
       let f : First (λ j. same_text (request_in b j).downstream t) (length b.requests) k = first_some _ _ k h in

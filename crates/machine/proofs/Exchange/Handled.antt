@@ -6,7 +6,7 @@ use native.Mathlib.Omega.{arith}
 use mathlib.Core.Path.{◌≡◌, refl, sym, ap, subst, ◌∙◌}
 use mathlib.Core.Logic.{◌⊎◌, inl, inr}
 use mathlib.Core.Bool.{Bool, false, ◌&&◌}
-use mathlib.Core.Option.{Option, none, some}
+use Rattle.std.specs.Prelude.{Option, None, Some}
 use lib.Dec.{eqb, leb, ltb}
 use lib.ListN.{length}
 use borrow.Author.Tests.{eqb-true, eq-eqb, ne_eqb}
@@ -60,10 +60,10 @@ taken_moves {f} {o = o} {c = c} m z = by (amended_moves m)
 
 pub data Handled (b : Book) (e : Event) (i : ℕ) : Type 0 where
   by_clordid : (handle : Amending) → Client handle e → ((x : Book) → change_of x e ≡ amending handle x e)
-      → (k : ℕ) → find_clordid b e.client e.ids.origclordid ≡ some k → (request_in b k).order ≡ i → Handled b e i
+      → (k : ℕ) → find_clordid b e.client e.ids.origclordid ≡ Some k → (request_in b k).order ≡ i → Handled b e i
   by_request : (unknown : Change) (handle : Findings → ℕ → Request → Order → Change) → Venue handle e → ((x : Book) → change_of x e ≡ on_request unknown handle x e)
-      → (k : ℕ) → find_downstream b e.ids.downstream ≡ some k → (request_in b k).order ≡ i → Handled b e i
-  by_name : ((x : Book) → change_of x e ≡ on_name x e) → find_name b e.ids.name ≡ some i → Handled b e i
+      → (k : ℕ) → find_downstream b e.ids.downstream ≡ Some k → (request_in b k).order ≡ i → Handled b e i
+  by_name : ((x : Book) → change_of x e ≡ on_name x e) → find_name b e.ids.name ≡ Some i → Handled b e i
 
 module _ (e : Event) where
   change_2 : e.kind ≡ 2 → (x : Book) → change_of x e ≡ amending cancel x e
@@ -99,10 +99,10 @@ module _ (e : Event) where
   change_9 z x = rw z
 
 -- what a link that is not 0 was found by
-found : (o : Option ℕ) (f : ℕ → ℕ) (i : ℕ) → maybe 0 (λ k. f k + 1) o ≡ i + 1 → (k : ℕ) × (o ≡ some k) × (f k ≡ i)
+found : (o : Option ℕ) (f : ℕ → ℕ) (i : ℕ) → maybe 0 (λ k. f k + 1) o ≡ i + 1 → (k : ℕ) × (o ≡ Some k) × (f k ≡ i)
 unfolding maybe
-found none f i e = absurd (omega arith)
-found (some k) f i e = (k, refl, omega arith)
+found None f i e = absurd (omega arith)
+found (Some k) f i e = (k, refl, omega arith)
 
 dec_cases : {A X : Type 0} → Dec X → (X → A) → ((X → ⊥) → A) → A
 dec_cases (yes x) f g = f x
@@ -137,7 +137,7 @@ module _ (b : Book) (e : Event) (i : ℕ) where
     name : e.kind ≡ 9 → Handled b e i
     name z =
         let (k, w, o) = found (find_name b e.ids.name) (λ k. k) i (concerns_name z c) in
-        by_name (change_9 e z) (w ∙ ap some o)
+        by_name (change_9 e z) (w ∙ ap Some o)
 
     pub handled : Handled b e i
     handled =
@@ -159,12 +159,12 @@ module _ (b : Book) (e : Event) (i : ℕ) where
 -- ---- the change, by what was found
 
 module _ (b : Book) (e : Event) where
-  on_request_lem : (unknown : Change) (handle : Findings → ℕ → Request → Order → Change) (k : ℕ) → find_downstream b e.ids.downstream ≡ some k
+  on_request_lem : (unknown : Change) (handle : Findings → ℕ → Request → Order → Change) (k : ℕ) → find_downstream b e.ids.downstream ≡ Some k
       → on_request unknown handle b e ≡ handle (findings_of b (order_link b k)) (k + 1) (request_in b k) (order_in b (request_in b k).order)
   unfolding on_request
   on_request_lem unknown handle k w = maybe_some _ k _ _ w
 
-  on_name_lem : (i : ℕ) → find_name b e.ids.name ≡ some i → on_name b e ≡ cancel_order (findings_of b (i + 1)) (order_in b i)
+  on_name_lem : (i : ℕ) → find_name b e.ids.name ≡ Some i → on_name b e ≡ cancel_order (findings_of b (i + 1)) (order_in b i)
   unfolding on_name
   on_name_lem i w = maybe_some _ i _ _ w
 
@@ -175,7 +175,7 @@ module _ (b : Book) (e : Event) where
       ap (λ (p : ℕ). handle (findings_of b p) (order_of b e.client e.ids.clordid) (leb b.setting (count_clordids b e.client)) (order_at_link b p) e) w
       ∙ ap (λ (o : Order). handle (findings_of b (i + 1)) (order_of b e.client e.ids.clordid) (leb b.setting (count_clordids b e.client)) o e) (at_link b i)
 
-  order_of_lem : (client : ℕ) (t : Text) (k : ℕ) → find_clordid b client t ≡ some k → order_of b client t ≡ (request_in b k).order + 1
+  order_of_lem : (client : ℕ) (t : Text) (k : ℕ) → find_clordid b client t ≡ Some k → order_of b client t ≡ (request_in b k).order + 1
   unfolding order_of
   order_of_lem client t k w = maybe_some _ k _ _ w
 
@@ -184,7 +184,7 @@ record ClordidFound (b : Book) (client k : ℕ) : Type 0 where
   below : k < length b.requests
   client_of : (order_in b (request_in b k).order).client ≡ client
 
-clordid_found : (b : Book) (client : ℕ) (t : Text) (k : ℕ) → find_clordid b client t ≡ some k → ClordidFound b client k
+clordid_found : (b : Book) (client : ℕ) (t : Text) (k : ℕ) → find_clordid b client t ≡ Some k → ClordidFound b client k
 unfolding find_clordid of_client
 clordid_found b client t k h =
     let f = first_some _ _ k h in
@@ -256,7 +256,7 @@ module _ (b : Book) (r : Ruled b) (good : BookKept b) where
           (owned_from _ i 0 (placed e i v) (omega arith) (asked_moves (asked_made _ _ _ _ _)) (asked_touches (asked_made _ _ _ _ _)) (λ j y. absurd (omega arith)))
 
 -- the client of an order that a client's own event concerns
-client_of : (b : Book) (e : Event) (i k : ℕ) → find_clordid b e.client e.ids.origclordid ≡ some k → (request_in b k).order ≡ i → (order_in b i).client ≡ e.client
+client_of : (b : Book) (e : Event) (i k : ℕ) → find_clordid b e.client e.ids.origclordid ≡ Some k → (request_in b k).order ≡ i → (order_in b i).client ≡ e.client
 client_of b e i k w o = sym (ap (λ (j : ℕ). (order_in b j).client) o) ∙ (clordid_found b e.client e.ids.origclordid k w).client_of
 
 -- ---- another order's change is no matter to it, but for the link of the request that it adds
@@ -286,8 +286,8 @@ module _ (b b' : Book) (i : ℕ) (a : Apart b b' i) (r : Ruled b) (good : BookKe
   order_same client n t = ap (maybe 0 (order_link b')) (clordid_same b b' i a client n t) ∙ go (find_clordid b client t) refl
     where
       go : (o : Option ℕ) → find_clordid b client t ≡ o → maybe 0 (order_link b') o ≡ maybe 0 (order_link b) o
-      go none w = unfold maybe in refl
-      go (some k) w = unfold maybe in ap (λ (x : ℕ). x + 1) (a.orders k (clordid_found b client t k w).below)
+      go None w = unfold maybe in refl
+      go (Some k) w = unfold maybe in ap (λ (x : ℕ). x + 1) (a.orders k (clordid_found b client t k w).below)
 
   pub seen : ((order_in b j).client ≡ (order_in b i).client → ⊥) → Seen (change_of b e) (change_of b' e)
   seen apart = go v

@@ -7,7 +7,7 @@ use native.Mathlib.Decide.{ℕ_discrete, dec_lt}
 use mathlib.Core.Path.{◌≡◌, sym, subst, ◌∙◌}
 use mathlib.Core.Logic.{⊎_elim}
 use mathlib.Core.Bool.{Bool, true, false, not}
-use mathlib.Core.Option.{none, some}
+use Rattle.std.specs.Prelude.{None, Some}
 use lib.Dec.{eqb, ltb}
 use lib.ListN.{length}
 use borrow.Author.Tests.{eqb-true, eqb-false, eq-eqb, ne_eqb, ltb-true}
@@ -28,12 +28,12 @@ use Rattle.machine.proofs.Kept.Lift.{BookKept}
 use Rattle.machine.proofs.Numbered.{NumberedLaws}
 
 -- the first of those that pass
-first_at : (p : ℕ → Bool) (n i : ℕ) → i < n → p i ≡ true → ((k : ℕ) → k < i → p k ≡ false) → first_below p n ≡ some i
+first_at : (p : ℕ → Bool) (n i : ℕ) → i < n → p i ≡ true → ((k : ℕ) → k < i → p k ≡ false) → first_below p n ≡ Some i
 first_at p n i h t f = first_hit p n i h (go i f) t
   where
-    go : (m : ℕ) → ((k : ℕ) → k < m → p k ≡ false) → first_below p m ≡ none
+    go : (m : ℕ) → ((k : ℕ) → k < m → p k ≡ false) → first_below p m ≡ None
     go zero f = first_none p
-    go (suc m) f = subst (λ (x : ℕ). first_below p x ≡ none) (omega arith) (first_more p m (go m (λ k l. f k (omega arith))) (f m (omega arith)))
+    go (suc m) f = subst (λ (x : ℕ). first_below p x ≡ None) (omega arith) (first_more p m (go m (λ k l. f k (omega arith))) (f m (omega arith)))
 
 -- one that passes counts for those behind it
 count_passed : (p : ℕ → Bool) (i j : ℕ) → i < j → p i ≡ true → count_below p i < count_below p j
@@ -69,7 +69,7 @@ module _ (b : Book) (good : BookKept b) where
       go (yes z) = good.names i j h z
       go (no z) = untrue _ (λ s. clash _ (same_back (order_in b i).names.name (order_in b j).names.name s) (good.names j i l (let e : i ≡ j → ⊥ = d in omega arith)))
 
-  pub found_name : (i : ℕ) → i < length b.orders → find_name b (order_in b i).names.name ≡ some i
+  pub found_name : (i : ℕ) → i < length b.orders → find_name b (order_in b i).names.name ≡ Some i
   unfolding find_name
   found_name i h = first_at (λ k. bears_name (order_in b i).names.name (order_in b k)) (length b.orders) i h (same_self (order_in b i).names.name)
       (λ k l. names_apart_lem k i (omega arith) h (λ z. omega arith))
@@ -137,7 +137,7 @@ module _ (b : Book) (good : BookKept b) where
             (number_below i h) (number_below j l) t in
             one (same n (ℕ_discrete (request_in b i).order (request_in b j).order)) e (dec_lt i j)
 
-    pub found_downstream : (j : ℕ) → j < length b.requests → find_downstream b (request_in b j).downstream ≡ some j
+    pub found_downstream : (j : ℕ) → j < length b.requests → find_downstream b (request_in b j).downstream ≡ Some j
     unfolding find_downstream
     found_downstream j h = first_at (λ k. bears_downstream (request_in b j).downstream (request_in b k)) (length b.requests) j h (same_self (request_in b j).downstream)
         (λ k l. downstreams_apart k j (omega arith) h (λ z. omega arith))

@@ -3,7 +3,7 @@ use Prim.Native.Nat.{ℕ, zero, suc, ◌+◌, ◌-◌, ◌≤◌, ◌<◌}
 use native.Mathlib.Omega.{arith}
 use mathlib.Core.Path.{◌≡◌, refl, sym, ap, subst, ◌∙◌}
 use mathlib.Core.Bool.{Bool, true, false, not, ◌&&◌}
-use mathlib.Core.Option.{Option, none, some}
+use Rattle.std.specs.Prelude.{Option, None, Some}
 use mathlib.Core.List.{List, [], ◌∷◌, ◌++◌}
 use lib.Dec.{eqb, ltb}
 use lib.ListN.{length}
@@ -28,7 +28,7 @@ use Rattle.machine.specs.Rules.{pending_range, request_range, current_test, curr
 use Rattle.machine.specs.Events.{Booking, Amendment, Ranged}
 use Rattle.machine.specs.Kept.{StartKeeps, StepKeeps}
 use Rattle.machine.specs.declared.Findings.{Findings}
-use Rattle.machine.specs.declared.Refusal.{Refusal}
+use Rattle.machine.specs.declared.Reject.{Reject}
 use Rattle.machine.specs.declared.Output.{Output}
 use Rattle.machine.specs.declared.Change.{Change}
 use Rattle.machine.proofs.Made.{left, repeated, turned, unpriced, cancel_sent, replace_sent}
@@ -131,8 +131,8 @@ never_used b client t e = go (first_below (λ k. bears_clordid b.orders client t
   where
     go : (r : Option ℕ) → first_below (λ k. bears_clordid b.orders client t (request_in b k)) (length b.requests) ≡ r → eqb (maybe 0 (order_link b) r) 0 ≡ true
         → (j : ℕ) → j < length b.requests → bears_clordid b.orders client t (request_in b j) ≡ false
-    go none z e j h = first_elim (λ k. bears_clordid b.orders client t (request_in b k)) (length b.requests) z j h
-    go (some k) z e j h = let n : (request_in b k).order + 1 ≡ 0 = eqb-true ((request_in b k).order + 1) 0 (unfold maybe in e) in absurd (omega arith)
+    go None z e j h = first_elim (λ k. bears_clordid b.orders client t (request_in b k)) (length b.requests) z j h
+    go (Some k) z e j h = let n : (request_in b k).order + 1 ≡ 0 = eqb-true ((request_in b k).order + 1) 0 (unfold maybe in e) in absurd (omega arith)
 
 -- so it is new to the client
 fresh_key : (b : Book) (client : ℕ) (t : Text) → text_within 1 32 t ≡ true → eqb (order_of b client t) 0 ≡ true
@@ -140,23 +140,23 @@ fresh_key : (b : Book) (client : ℕ) (t : Text) → text_within 1 32 t ≡ true
 fresh_key b client t w e j h booked = untrue _ (λ z.
     let (c, s) = both_true (eqb client (client_of b j)) (same_text t (request_in b j).clordid) z in
     let n : t.len ≡ (request_in b j).clordid.len = same_length t (request_in b j).clordid s in
-    let some : 1 ≤ t.len = (text_kept 1 32 t w).above in
+    let Some : 1 ≤ t.len = (text_kept 1 32 t w).above in
     clash (bears_clordid b.orders client t (request_in b j))
     (both (not_is (ne_eqb (request_in b j).clordid.len 0 (λ y. omega arith)))
     (both (same_back t (request_in b j).clordid s) (of_client_lem b client j booked (sym (eqb-true client (client_of b j) c)))))
     (never_used b client t e j h))
 
 -- what holds of a cancel or replace that is not refused
-record Passes (f : Findings) (order : ℕ) (o : Order) (own : Refusal) : Type 0 where
+record Passes (f : Findings) (order : ℕ) (o : Order) (own : Reject) : Type 0 where
   unused : eqb order 0 ≡ true
   found : eqb f.place 0 ≡ false
   live : is_done o.state.status ≡ false
   silent : eqb own.fixedtext 0 ≡ true
 
-amend_passes : (f : Findings) (order : ℕ) (full : Bool) (o : Order) (e : Event) (own : Refusal) → not (eqb (amend_refusal f order full o e own).fixedtext 0) ≡ false → Passes f order o own
+amend_passes : (f : Findings) (order : ℕ) (full : Bool) (o : Order) (e : Event) (own : Reject) → not (eqb (amend_refusal f order full o e own).fixedtext 0) ≡ false → Passes f order o own
 unfolding amend_refusal
 amend_passes f order full o e own =
-    let P : Refusal → Type 0 = λ r. not (eqb r.fixedtext 0) ≡ false → Passes f order o own in
+    let P : Reject → Type 0 = λ r. not (eqb r.fixedtext 0) ≡ false → Passes f order o own in
     split_if P _ (λ t z. clash true refl z)
     (λ unused. split_if P _ (λ t z. clash true refl z)
     (λ found. split_if P _ (λ t z. clash true refl z)
@@ -164,7 +164,7 @@ amend_passes f order full o e own =
     (λ t. split_if P _ (λ t z. clash true refl z)
     (λ t z. record { unused = not-false (eqb order 0) unused; found = found; live = live; silent = not-false (eqb own.fixedtext 0) z })))))
 
-silent_if : (t : Bool) (r : Refusal) → eqb r.fixedtext 0 ≡ false → (q : Refusal) → eqb (if t then r otherwise q).fixedtext 0 ≡ true → (t ≡ false) × (eqb q.fixedtext 0 ≡ true)
+silent_if : (t : Bool) (r : Reject) → eqb r.fixedtext 0 ≡ false → (q : Reject) → eqb (if t then r otherwise q).fixedtext 0 ≡ true → (t ≡ false) × (eqb q.fixedtext 0 ≡ true)
 unfolding if◌then◌otherwise◌
 silent_if true r n q e = clash (eqb r.fixedtext 0) e n
 silent_if false r n q e = (refl, e)
@@ -281,8 +281,8 @@ booking_keeps b e good booking ranged u priced z r =
     apart t j h = untrue _ (λ s. clash (bears_name e.ids.name (order_in b j)) (same_back e.ids.name (order_in b j).names.name s) (go (find_name b e.ids.name) refl t))
       where
         go : (r : Option ℕ) → find_name b e.ids.name ≡ r → maybe true (λ k. false) r ≡ true → bears_name e.ids.name (order_in b j) ≡ false
-        go none z u = first_elim (λ k. bears_name e.ids.name (order_in b k)) (length b.orders) (unfold find_name in z) j h
-        go (some k) z u = clash false (unfold maybe in u) refl
+        go None z u = first_elim (λ k. bears_name e.ids.name (order_in b k)) (length b.orders) (unfold find_name in z) j h
+        go (Some k) z u = clash false (unfold maybe in u) refl
 
 -- ---- every event
 

@@ -28,7 +28,7 @@ use Rattle.machine.specs.Report.{is_rejection, pending_here, status_taken, accep
 use Rattle.machine.specs.Events.{Ranged}
 use Rattle.machine.specs.Rules.{force_range, priced_range, terms_range}
 use Rattle.machine.specs.declared.Note.{Note}
-use Rattle.machine.specs.declared.Refusal.{Refusal}
+use Rattle.machine.specs.declared.Reject.{Reject}
 use Rattle.machine.specs.declared.Refused.{Refused}
 use Rattle.machine.specs.declared.Output.{Output}
 use Rattle.machine.specs.declared.Change.{Change}
@@ -344,12 +344,12 @@ asked_says {f} {o} t c c' (goes d g) = send_says _ _ _ _ _ (gateway_tellable (be
 -- ---- a client's cancel or replace
 
 -- a refusal of ours that is told
-record Turns (r : Refusal) : Type 0 where
+record Turns (r : Reject) : Type 0 where
   reason : r.reason < 2 ^ 32
   fixedtext : r.fixedtext ≤ 18
 
 -- one of known numbers, or else the next
-or_known : (t : Bool) (r : Refusal) {s : Refusal} → leb r.reason 99 && leb r.fixedtext 18 ≡ true → Turns s → Turns (if t then r otherwise s)
+or_known : (t : Bool) (r : Reject) {s : Reject} → leb r.reason 99 && leb r.fixedtext 18 ≡ true → Turns s → Turns (if t then r otherwise s)
 or_known t r e k =
     let (a, c) = both_true (leb r.reason 99) (leb r.fixedtext 18) e in
     split_if Turns t (λ z. record { reason = omega (arith, leb-true r.reason 99 a); fixedtext = leb-true r.fixedtext 18 c }) (λ z. k)
@@ -357,7 +357,7 @@ or_known t r e k =
 no_refusal : Turns passes
 no_refusal = record { reason = omega arith; fixedtext = omega arith }
 
-amend_refuses : (f : Findings) (order : ℕ) (full : Bool) (o : Order) (e : Event) (own : Refusal) → Turns own → Turns (amend_refusal f order full o e own)
+amend_refuses : (f : Findings) (order : ℕ) (full : Bool) (o : Order) (e : Event) (own : Reject) → Turns own → Turns (amend_refusal f order full o e own)
 unfolding amend_refusal
 amend_refuses f order full o e own r = or_known _ _ refl (or_known _ _ refl (or_known _ _ refl (or_known _ _ refl (or_known _ _ refl r))))
 
@@ -382,7 +382,7 @@ pub data Seen (place : ℕ) (o : Order) : Type 0 where
   some_order : Tellable o → Seen place o
 
 module _ (f : Findings) (order : ℕ) (full : Bool) (o : Order) (e : Event) (h : Right e) (clordid : Fine 1 32 e.ids.clordid) (origclordid : Fine 1 32 e.ids.origclordid) where
-  own_refuses : {kind : ℕ} {own : Refusal} → Own order full o e f.place f.cancel f.requests f.requests kind own → (within 1 2 kind ≡ true) × Turns own
+  own_refuses : {kind : ℕ} {own : Reject} → Own order full o e f.place f.cancel f.requests f.requests kind own → (within 1 2 kind ≡ true) × Turns own
   own_refuses of_cancel = (refl, cancel_refuses f o)
   own_refuses of_replace = (refl, replace_refuses f o e (ranges e h).verdict)
 
@@ -404,7 +404,7 @@ module _ (f : Findings) (order : ℕ) (full : Bool) (o : Order) (e : Event) (h :
     status = ap (λ (x : ℕ). is_status (if eqb x 0 then rejected otherwise o.state.status)) p ∙ (unfold is_status statuses if◌then◌otherwise◌ in refl);
   }
 
-  refuse_heard : {kind : ℕ} {own : Refusal} → Own order full o e f.place f.cancel f.requests f.requests kind own → Named
+  refuse_heard : {kind : ℕ} {own : Reject} → Own order full o e f.place f.cancel f.requests f.requests kind own → Named
       → not (eqb (amend_refusal f order full o e own).fixedtext 0) ≡ true → is_message (refusal_told f.place kind o e (amend_refusal f order full o e own)) ≡ true
   refuse_heard {kind} {own} w n some =
       let (x, y) = own_refuses w in

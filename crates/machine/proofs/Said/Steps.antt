@@ -3,7 +3,7 @@ use Prim.Native.Nat.{ℕ, ◌+◌, ◌-◌, ◌≤◌, ◌<◌}
 use native.Mathlib.Omega.{arith}
 use mathlib.Core.Path.{◌≡◌, refl, subst}
 use mathlib.Core.Bool.{true, false}
-use mathlib.Core.Option.{some}
+use Rattle.std.specs.Prelude.{Some}
 use mathlib.Core.List.{List}
 use lib.Dec.{eqb}
 use lib.ListN.{length}
@@ -76,7 +76,7 @@ module _ (b : Book) (e : Event) (good : BookKept b) (whole : WholeBook b) (h : R
       (pending_parts i o b.requests (ne_eqb o.pending.request 0 (λ y. omega arith)) (good.order i (good.request j l).order)).link.passes in
       (both_true (is_replace (request_in b j)) _ (subst (λ (n : ℕ). pending_test (at b.requests n) ≡ true) (omega arith) t)).0
 
-  found_clordid : (j : ℕ) → find_clordid b e.client e.ids.origclordid ≡ some j → j < length b.requests
+  found_clordid : (j : ℕ) → find_clordid b e.client e.ids.origclordid ≡ Some j → j < length b.requests
   unfolding find_clordid
   found_clordid j z = (first_some _ (length b.requests) j z).below
 

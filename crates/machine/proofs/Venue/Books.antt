@@ -4,7 +4,7 @@ use native.Mathlib.Omega.{arith}
 use mathlib.Core.Path.{◌≡◌, refl, sym, ap, ◌∙◌, subst}
 use mathlib.Core.Logic.{◌⊎◌, inl, inr}
 use mathlib.Core.Bool.{Bool, true, false, not}
-use mathlib.Core.Option.{Option, none, some}
+use Rattle.std.specs.Prelude.{Option, None, Some}
 use lib.Dec.{eqb}
 use lib.ListN.{length}
 use borrow.Author.Tests.{eqb-true, eqb-false, eq-eqb}
@@ -79,19 +79,19 @@ record Mute (c : Change) : Type 0 where
   alarm : eqb c.output.alarm filled_short ≡ false
   count : eqb c.output.count 0 ≡ true
 
-mute : (b : Book) (e : Event) → find_downstream b e.ids.downstream ≡ none → (handle : Findings → ℕ → Request → Order → Change) → Mute (on_request unknown_report handle b e)
+mute : (b : Book) (e : Event) → find_downstream b e.ids.downstream ≡ None → (handle : Findings → ℕ → Request → Order → Change) → Mute (on_request unknown_report handle b e)
 unfolding on_request unchanged alarming if◌then◌otherwise◌
 mute b e w handle = subst Mute (sym (maybe_none (find_downstream b e.ids.downstream) _ _ w)) (record { alarm = refl; count = refl })
 
 -- or one of the book: the change is of its order, and is right
-module _ (b : Book) (e : Event) (k : ℕ) (w : find_downstream b e.ids.downstream ≡ some k) where
+module _ (b : Book) (e : Event) (k : ℕ) (w : find_downstream b e.ids.downstream ≡ Some k) where
   abbrev q : Request
   q = request_in b k
 
   abbrev o : Order
   o = order_in b q.order
 
-  mine : (j : ℕ) → find_downstream b e.ids.downstream ≡ some j → order_in b (request_in b j).order ≡ o
+  mine : (j : ℕ) → find_downstream b e.ids.downstream ≡ Some j → order_in b (request_in b j).order ≡ o
   mine j v = ap (λ (n : ℕ). order_in b (request_in b n).order) (same_some v w)
 
   record Found (c : Change) : Type 0 where
@@ -149,11 +149,11 @@ unfolding taken_short
 venue_six b e keeps z low high = go (find_downstream b e.ids.downstream) refl
   where
     go : (x : Option ℕ) → find_downstream b e.ids.downstream ≡ x → eqb (step_of b e).output.alarm filled_short ≡ taken_short b e (after b (step_of b e))
-    go none w =
+    go None w =
         ap (λ (c : Change). eqb c.output.alarm filled_short) (step_change b e z)
         ∙ (venues Mute b e low high (λ y. mute b e w _) (λ y. mute b e w _) (λ y. mute b e w _)).alarm
         ∙ sym (maybe_none (find_downstream b e.ids.downstream) _ _ w)
-    go (some k) w =
+    go (Some k) w =
         (step_found b e k w keeps z low high).right.alarm ∙ short_left b e k w keeps z low high
         ∙ sym (maybe_some (find_downstream b e.ids.downstream) k _ _ w)
 
@@ -180,10 +180,10 @@ change_said : (b : Book) (e : Event) → AllSaid b e (change_of b e)
 change_said b e = by_kind_lem e venue (λ no no'. record { all = all_said _ (change_quiet b e no no') })
   where
     go : 4 ≤ e.kind → e.kind ≤ 6 → (x : Option ℕ) → find_downstream b e.ids.downstream ≡ x → AllSaid b e (change_of b e)
-    go low high none w =
+    go low high None w =
         let m = venues Mute b e low high (λ y. mute b e w _) (λ y. mute b e w _) (λ y. mute b e w _) in
         record { all = subst (Every (Said b e)) (sym (if_true _ _ _ m.count)) every[] }
-    go low high (some k) w = record { all = all_said _ (found b e k w low high).right }
+    go low high (Some k) w = record { all = all_said _ (found b e k w low high).right }
 
     venue : 4 ≤ e.kind → e.kind ≤ 6 → AllSaid b e (change_of b e)
     venue low high = go low high (find_downstream b e.ids.downstream) refl

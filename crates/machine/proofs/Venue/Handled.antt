@@ -4,7 +4,7 @@ use native.Mathlib.Omega.{arith}
 use mathlib.Core.Path.{◌≡◌, refl, sym, ap, ◌∙◌}
 use mathlib.Core.Logic.{◌⊎◌, inl, inr}
 use mathlib.Core.Bool.{Bool, true, false, not, ◌&&◌, ◌||◌}
-use mathlib.Core.Option.{some}
+use Rattle.std.specs.Prelude.{Some}
 use lib.Dec.{eqb, ltb}
 use borrow.Author.Tests.{ne_eqb, not-true, not-false, ltb-false}
 use Rattle.prelude.specs.Cases.{if◌then◌otherwise◌, split_if, if_true, if_false, clash, either_false, true_or_false}
@@ -220,7 +220,7 @@ module _ (b : Book) (k : ℕ) (q : Request) (o : Order) (e : Event) where
 
   -- ---- event 4
 
-  module _ (f : Findings) (four : eqb e.kind 4 ≡ true) (mine : (j : ℕ) → find_downstream b e.ids.downstream ≡ some j → order_in b (request_in b j).order ≡ o) where
+  module _ (f : Findings) (four : eqb e.kind 4 ≡ true) (mine : (j : ℕ) → find_downstream b e.ids.downstream ≡ Some j → order_in b (request_in b j).order ≡ o) where
     told_right : (answers : Bool) (rise : ℕ) (x : Order) → Said b e (client_report answers rise q (fill_price_of o e) x e)
     unfolding client_report report
     told_right answers rise x z = record {

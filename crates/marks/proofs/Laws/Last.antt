@@ -1,8 +1,7 @@
 -- THE PROOF that the last part of a buffer, shorter than a place, is neither read nor written. Rests on Calls and Written.
-use Rattle.std.specs.Prelude.{ℕ, ◌+◌, ◌*◌, ◌≤◌, ◌<◌, ◌≡◌, ◌&&◌, length}
+use Rattle.std.specs.Prelude.{ℕ, ◌+◌, ◌*◌, ◌≤◌, ◌<◌, ◌≡◌, ◌&&◌, length, Some}
 use Rattle.std.proofs.Math.Path.{sym, ap}
 use Rattle.std.proofs.Common.{◌∙◌, arith, length-append}
-use Rattle.std.proofs.Math.Option.{some}
 use mathlib.Core.List.{List, ◌++◌, append_assoc}
 use Rattle.std.proofs.Math.ListN.{take, drop, length-drop}
 use Rattle.std.proofs.Math.Seq.{take-append-le}
@@ -55,7 +54,7 @@ module _ (p rest : List ℕ) (n : ℕ) (whole : length p ≡ n * place_size) (sh
 
   set_same : (name : List ℕ) → set_place (p ++ rest) name ≡ set_place p name
   unfolding set_place
-  set_same name = λ k. maybe (first_same (zeros name_size) k) some (first_same (name_bytes name) k)
+  set_same name = λ k. maybe (first_same (zeros name_size) k) Some (first_same (name_bytes name) k)
 
   mark_same : (name : List ℕ) (i : ℕ) → i < place_count p → is_mark (p ++ rest) name i ≡ is_mark p name i
   unfolding is_mark

@@ -1,17 +1,17 @@
 -- What stands in a buffer of places: their lengths, names as bytes, and where a set and a return go. Rests on Marks.
-use Rattle.std.specs.Prelude.{ℕ, ◌+◌, ◌≤◌, ◌<◌, ◌≡◌, Bool, true, false, ◌&&◌, leb, length}
+use Rattle.std.specs.Prelude.{ℕ, ◌+◌, ◌≤◌, ◌<◌, ◌≡◌, Bool, true, ◌&&◌, leb, length, Option, None, Some}
 use Rattle.std.proofs.Math.Path.{refl, sym, ap}
 use Rattle.std.proofs.Common.{◌∙◌, arith, length-append, length-take}
-use Rattle.std.proofs.Math.Option.{Option, none, some}
 use mathlib.Core.List.{List}
-use borrow.Author.Tests.{eq-eqb, ne_eqb, eqb-true, leb-true}
+use borrow.Author.Tests.{eq-eqb, eqb-true, leb-true}
 use Rattle.std.proofs.Math.Dec.{eqb}
 use Rattle.std.proofs.Math.ListN.{get_or}
 use Rattle.std.proofs.lemmas.List.{length-replicate}
 use Rattle.std.proofs.Math.Seq.{ext_get_or}
-use Rattle.prelude.specs.Below.{all_below, first_below, all_elim, all_intro, all_miss, First, first_some}
-use Rattle.prelude.specs.Cases.{maybe, maybe_none, maybe_some, both_true}
-use Rattle.prelude.specs.Span.{length_span, get_span}
+use lib.Pointwise.{pointwise, bytes_decides}
+use Rattle.prelude.specs.Below.{all_below, first_below, all_elim, all_intro, First, first_some}
+use Rattle.prelude.specs.Cases.{maybe, maybe_none, maybe_some, both_true, test_same}
+use Rattle.prelude.specs.Span.{length_span}
 use Rattle.prelude.specs.Texts.{agree_at}
 use Rattle.store.specs.Layout.{book_size}
 use Rattle.opens.specs.Keeps.{keeps_of}
@@ -43,19 +43,7 @@ module _ (places : List ℕ) (i : ℕ) (h : i < place_count places) where
 -- ---- names
 
 module _ (places bytes : List ℕ) (i : ℕ) where
-  agree_is : (k : ℕ) → k < name_size → agree_at (name_at places i) bytes k ≡ eqb (get_or places (place i + k) 0) (get_or bytes k 0)
-  unfolding name_at
-  agree_is k l = ap (λ (x : ℕ). eqb x (get_or bytes k 0)) (get_span places (place i) name_size k l)
-
-  -- as the code compares them, byte by byte
-  pub agrees : (k : ℕ) → k < name_size → get_or places (place i + k) 0 ≡ get_or bytes k 0 → agree_at (name_at places i) bytes k ≡ true
-  agrees k l e = agree_is k l ∙ eq-eqb _ _ e
-
-  pub differs : (k : ℕ) → k < name_size → (get_or places (place i + k) 0 ≡ get_or bytes k 0 → ⊥) → has_name places bytes i ≡ false
-  unfolding has_name
-  differs k l e = all_miss (agree_at (name_at places i) bytes) name_size k l (agree_is k l ∙ ne_eqb _ _ e)
-
-  -- and what the comparison says
+  -- what the comparison says
   pub has_name_lem : i < place_count places → length bytes ≡ name_size → has_name places bytes i ≡ true → name_at places i ≡ bytes
   unfolding has_name
   has_name_lem h l e =
@@ -66,24 +54,30 @@ module _ (places bytes : List ℕ) (i : ℕ) where
   unfolding has_name
   name_has e = all_intro (agree_at (name_at places i) bytes) name_size (λ k l. eq-eqb _ _ (ap (λ (s : List ℕ). get_or s k 0) e))
 
+  -- as the code compares them
+  pub name_same : i < place_count places → length bytes ≡ name_size → pointwise eqb (name_at places i) bytes ≡ has_name places bytes i
+  name_same h l =
+      test_same (pointwise eqb (name_at places i) bytes) (has_name places bytes i)
+      (λ e. name_has ((bytes_decides (name_at places i) bytes).0 e)) (λ e. (bytes_decides (name_at places i) bytes).1 (has_name_lem h l e))
+
 -- ---- where a set goes
 
 -- the first place of its name, or the first free one where none is of its name
 pub data Goes (places name : List ℕ) (i : ℕ) : Type 0 where
   again : First (is_of places name) (place_count places) i → Goes places name i
-  fresh : first_below (is_of places name) (place_count places) ≡ none → First (is_free places) (place_count places) i → Goes places name i
+  fresh : first_below (is_of places name) (place_count places) ≡ None → First (is_free places) (place_count places) i → Goes places name i
 
 module _ (places name : List ℕ) where
-  pub set_goes : (i : ℕ) → set_place places name ≡ some i → Goes places name i
+  pub set_goes : (i : ℕ) → set_place places name ≡ Some i → Goes places name i
   unfolding set_place
   set_goes i = go (first_below (is_of places name) (place_count places)) refl
     where
       go : (o : Option ℕ) → first_below (is_of places name) (place_count places) ≡ o
-          → maybe (first_below (is_free places) (place_count places)) some (first_below (is_of places name) (place_count places)) ≡ some i → Goes places name i
-      go none e z = fresh e (first_some _ _ i (sym (maybe_none _ _ _ e) ∙ z))
-      go (some k) e z = again (first_some _ _ i (e ∙ sym (maybe_some _ k _ _ e) ∙ z))
+          → maybe (first_below (is_free places) (place_count places)) Some (first_below (is_of places name) (place_count places)) ≡ Some i → Goes places name i
+      go None e z = fresh e (first_some _ _ i (sym (maybe_none _ _ _ e) ∙ z))
+      go (Some k) e z = again (first_some _ _ i (e ∙ sym (maybe_some _ k _ _ e) ∙ z))
 
-  pub set_below : (i : ℕ) → set_place places name ≡ some i → i < place_count places
+  pub set_below : (i : ℕ) → set_place places name ≡ Some i → i < place_count places
   set_below i e = go (set_goes i e)
     where
       go : Goes places name i → i < place_count places
@@ -91,21 +85,21 @@ module _ (places name : List ℕ) where
       go (fresh n f) = f.below
 
   -- as the code looks: for the name, then for a free place
-  pub set_again : (i : ℕ) → first_below (is_of places name) (place_count places) ≡ some i → set_place places name ≡ some i
+  pub set_again : (i : ℕ) → first_below (is_of places name) (place_count places) ≡ Some i → set_place places name ≡ Some i
   unfolding set_place
   set_again i e = maybe_some _ i _ _ e
 
-  pub set_fresh : first_below (is_of places name) (place_count places) ≡ none → set_place places name ≡ first_below (is_free places) (place_count places)
+  pub set_fresh : first_below (is_of places name) (place_count places) ≡ None → set_place places name ≡ first_below (is_free places) (place_count places)
   unfolding set_place
   set_fresh e = maybe_none _ _ _ e
 
   -- ---- where a return goes
 
-  pub return_first : (i : ℕ) → return_place places name ≡ some i → First (is_mark places name) (place_count places) i
+  pub return_first : (i : ℕ) → return_place places name ≡ Some i → First (is_mark places name) (place_count places) i
   unfolding return_place
   return_first i e = first_some _ _ i e
 
-  pub return_kept : (i : ℕ) → return_place places name ≡ some i → keeps_of (image_at places i) ≡ true
+  pub return_kept : (i : ℕ) → return_place places name ≡ Some i → keeps_of (image_at places i) ≡ true
   unfolding is_mark
   return_kept i e = (both_true (is_of places name i) (keeps_of (image_at places i)) (return_first i e).passes).1
 

@@ -1,8 +1,7 @@
 -- THE PROOFS that the calls do what Promise says of the places' own bytes. Rests on Calls and Written.
-use Rattle.std.specs.Prelude.{ℕ, ◌+◌, ◌<◌, ◌≡◌, refl, Bool, true, false, length}
+use Rattle.std.specs.Prelude.{ℕ, ◌+◌, ◌<◌, ◌≡◌, refl, Bool, true, false, length, None, Some}
 use Rattle.std.proofs.Math.Path.{sym, ap, subst}
 use Rattle.std.proofs.Common.{◌∙◌, arith}
-use Rattle.std.proofs.Math.Option.{none, some}
 use mathlib.Core.List.{List}
 use Rattle.std.proofs.Math.ListN.{get_or}
 use Rattle.prelude.specs.Below.{first_below, first_none, first_hit, first_past}
@@ -12,7 +11,7 @@ use Rattle.prelude.specs.Span.{get_span}
 use Rattle.store.specs.Layout.{book_size}
 use Rattle.opens.specs.Keeps.{keeps_of}
 use Rattle.marks.specs.Marks.{name_size, place, place_count, name_at, image_at, is_mark_name, name_bytes, has_name, is_of, is_free, set_place, is_mark, return_place, set_mark_of}
-use Rattle.marks.specs.Promise.{NameIs, Earliest, None, SetAt, SoundSet, MarkIs, SoundReturn}
+use Rattle.marks.specs.Promise.{NameIs, Earliest, Nowhere, SetAt, SoundSet, MarkIs, SoundReturn}
 use Rattle.marks.proofs.Laws.Places.{length_name, has_name_lem, name_has, set_again, set_fresh, set_below}
 use Rattle.marks.specs.Laws.Calls.{set_bad, set_malformed, set_full, set_done, return_bad, return_malformed, return_none, return_done}
 use Rattle.marks.proofs.Laws.Written.{length_written, written_name, written_image, written_rest, name_letter}
@@ -28,10 +27,10 @@ module _ (p : ℕ → Bool) (Passes : ℕ → Type 0) (n : ℕ) (says : (k : ℕ
       go true e = absurd (d (says k h e))
       go false e = refl
 
-  none_is : None Passes n → first_below p n ≡ none
+  none_is : Nowhere Passes n → first_below p n ≡ None
   none_is d = first_past p 0 n (omega arith) (λ k _ h. miss k h (d k h)) ∙ first_none p
 
-  first_is : (i : ℕ) → p i ≡ true → Earliest Passes n i → first_below p n ≡ some i
+  first_is : (i : ℕ) → p i ≡ true → Earliest Passes n i → first_below p n ≡ Some i
   first_is i e f =
       first_hit p n i f.below (first_past p 0 i (omega arith) (λ k _ h. miss k (omega (arith, f.below)) (f.before k h)) ∙ first_none p) e
 
@@ -41,22 +40,22 @@ module _ (book name places : List ℕ) where
   named : (bytes : List ℕ) → length bytes ≡ name_size → (k : ℕ) → k < place_count places → has_name places bytes k ≡ true → NameIs places bytes k
   named bytes l k h e = has_name_lem places bytes k h l e
 
-  of_first : (i : ℕ) → Earliest (NameIs places (name_bytes name)) (place_count places) i → set_place places name ≡ some i
+  of_first : (i : ℕ) → Earliest (NameIs places (name_bytes name)) (place_count places) i → set_place places name ≡ Some i
   of_first i f =
       set_again places name i
       (first_is (is_of places name) (NameIs places (name_bytes name)) (place_count places) (named (name_bytes name) (length_name name)) i (name_has places (name_bytes name) i f.is) f)
 
-  of_none : None (NameIs places (name_bytes name)) (place_count places) → set_place places name ≡ first_below (is_free places) (place_count places)
+  of_none : Nowhere (NameIs places (name_bytes name)) (place_count places) → set_place places name ≡ first_below (is_free places) (place_count places)
   of_none d =
       set_fresh places name (none_is (is_of places name) (NameIs places (name_bytes name)) (place_count places) (named (name_bytes name) (length_name name)) d)
 
-  free_first : (i : ℕ) → Earliest (NameIs places (zeros name_size)) (place_count places) i → first_below (is_free places) (place_count places) ≡ some i
+  free_first : (i : ℕ) → Earliest (NameIs places (zeros name_size)) (place_count places) i → first_below (is_free places) (place_count places) ≡ Some i
   free_first i f = first_is (is_free places) (NameIs places (zeros name_size)) (place_count places) (named (zeros name_size) refl) i (name_has places (zeros name_size) i f.is) f
 
-  free_none : None (NameIs places (zeros name_size)) (place_count places) → first_below (is_free places) (place_count places) ≡ none
+  free_none : Nowhere (NameIs places (zeros name_size)) (place_count places) → first_below (is_free places) (place_count places) ≡ None
   free_none d = none_is (is_free places) (NameIs places (zeros name_size)) (place_count places) (named (zeros name_size) refl) d
 
-  set_at : keeps_of book ≡ true → is_mark_name name ≡ true → (i : ℕ) → set_place places name ≡ some i → SetAt book name places i (set_mark_of book name places)
+  set_at : keeps_of book ≡ true → is_mark_name name ≡ true → (i : ℕ) → set_place places name ≡ Some i → SetAt book name places i (set_mark_of book name places)
   unfolding name_at image_at
   set_at k n i e =
       let h = set_below places name i e in
@@ -95,11 +94,11 @@ module _ (name places : List ℕ) where
   unfolding is_mark
   is_mark_lem k m = both_hold _ _ (name_has places (name_bytes name) k m.named) m.keeps
 
-  mark_first : (i : ℕ) → Earliest (MarkIs places name) (place_count places) i → return_place places name ≡ some i
+  mark_first : (i : ℕ) → Earliest (MarkIs places name) (place_count places) i → return_place places name ≡ Some i
   unfolding return_place
   mark_first i f = first_is (is_mark places name) (MarkIs places name) (place_count places) says i (is_mark_lem i f.is) f
 
-  mark_none : None (MarkIs places name) (place_count places) → return_place places name ≡ none
+  mark_none : Nowhere (MarkIs places name) (place_count places) → return_place places name ≡ None
   unfolding return_place
   mark_none d = none_is (is_mark places name) (MarkIs places name) (place_count places) says d
 

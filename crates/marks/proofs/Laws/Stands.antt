@@ -1,8 +1,7 @@
 -- THE PROOFS that a call keeps what it has to keep, and that a mark stands until its name is set again. Rests on Calls and Written.
-use Rattle.std.specs.Prelude.{ℕ, ◌+◌, ◌/◌, ◌≤◌, ◌<◌, ◌≡◌, refl, Bool, true, false, ◌&&◌, ◌||◌, List, ◌++◌, leb, length, get_or}
+use Rattle.std.specs.Prelude.{ℕ, ◌+◌, ◌/◌, ◌≤◌, ◌<◌, ◌≡◌, refl, Bool, true, false, ◌&&◌, ◌||◌, List, ◌++◌, leb, length, get_or, Some}
 use Rattle.std.proofs.Common.{sym, ◌∙◌, ⊎_elim, arith, leb-true}
 use Rattle.std.proofs.Math.Path.{ap, subst}
-use Rattle.std.proofs.Math.Option.{some}
 use Rattle.std.proofs.Math.Decide.{ℕ_discrete, dec_lt}
 use Rattle.std.proofs.Math.ListN.{get_or-eq_default}
 use Rattle.prelude.specs.Below.{first_below, first_none, first_hit, first_past, first_elim, first_ext}
@@ -25,7 +24,7 @@ book_long b k = (keeps_held b k).long
 
 -- ---- a set
 
-module _ (places name book : List ℕ) (k : keeps_of book ≡ true) (n : is_mark_name name ≡ true) (i : ℕ) (e : set_place places name ≡ some i) where
+module _ (places name book : List ℕ) (k : keeps_of book ≡ true) (n : is_mark_name name ≡ true) (i : ℕ) (e : set_place places name ≡ Some i) where
   abbrev p' : List ℕ
   p' = splice places (place i) (name_bytes name ++ book)
 
@@ -80,7 +79,7 @@ not_of places name bytes i h e d = go (is_of places name i) refl
     go false z = refl
 
 module _ (places name another book : List ℕ) (k : keeps_of book ≡ true) (n : is_mark_name name ≡ true) (m : is_mark_name another ≡ true) (d : another ≡ name → ⊥)
-    (i : ℕ) (e : set_place places another ≡ some i) where
+    (i : ℕ) (e : set_place places another ≡ Some i) where
   abbrev q' : List ℕ
   q' = splice places (place i) (name_bytes another ++ book)
 

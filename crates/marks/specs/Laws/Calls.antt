@@ -1,6 +1,5 @@
 -- How the two calls end: as the code comes to each end, and that there is no other. Rests on Marks.
-use Rattle.std.specs.Prelude.{ℕ, ◌≡◌, true, false, List, ◌++◌}
-use Rattle.std.proofs.Math.Option.{none, some}
+use Rattle.std.specs.Prelude.{ℕ, ◌≡◌, true, false, List, ◌++◌, None, Some}
 use Rattle.std.proofs.lemmas.Bool.{not-true, not-false}
 use Rattle.prelude.specs.Cases.{if◌then◌otherwise◌, maybe, split_if, split_maybe}
 use Rattle.prelude.specs.Span.{splice}
@@ -26,26 +25,26 @@ module _ (b name p : List ℕ) where
     return_malformed e = rw (k, e)
 
     module _ (n : is_mark_name name ≡ true) where
-      pub set_full : set_place p name ≡ none → marked 15 b p ≡ set_mark_of b name p
+      pub set_full : set_place p name ≡ None → marked 15 b p ≡ set_mark_of b name p
       unfolding set_mark_of if◌then◌otherwise◌ maybe
       set_full e = rw (k, n, e)
 
-      pub set_done : (i : ℕ) → set_place p name ≡ some i → marked 0 b (splice p (place i) (name_bytes name ++ b)) ≡ set_mark_of b name p
+      pub set_done : (i : ℕ) → set_place p name ≡ Some i → marked 0 b (splice p (place i) (name_bytes name ++ b)) ≡ set_mark_of b name p
       unfolding set_mark_of if◌then◌otherwise◌ maybe
       set_done i e = rw (k, n, e)
 
-      pub return_none : return_place p name ≡ none → marked 14 b p ≡ return_of b name p
+      pub return_none : return_place p name ≡ None → marked 14 b p ≡ return_of b name p
       unfolding return_of if◌then◌otherwise◌ maybe
       return_none e = rw (k, n, e)
 
-      pub return_done : (i : ℕ) → return_place p name ≡ some i → marked 0 (image_at p i) p ≡ return_of b name p
+      pub return_done : (i : ℕ) → return_place p name ≡ Some i → marked 0 (image_at p i) p ≡ return_of b name p
       unfolding return_of if◌then◌otherwise◌ maybe
       return_done i e = rw (k, n, e)
 
   -- what holds of each end holds of the call
   module _ (P : Marked → Type 0) (bad : keeps_of b ≡ false → P (marked 1 b p)) (malformed : keeps_of b ≡ true → is_mark_name name ≡ false → P (marked 13 b p)) where
-    pub set_ends : (keeps_of b ≡ true → is_mark_name name ≡ true → set_place p name ≡ none → P (marked 15 b p))
-        → (keeps_of b ≡ true → is_mark_name name ≡ true → (i : ℕ) → set_place p name ≡ some i → P (marked 0 b (splice p (place i) (name_bytes name ++ b))))
+    pub set_ends : (keeps_of b ≡ true → is_mark_name name ≡ true → set_place p name ≡ None → P (marked 15 b p))
+        → (keeps_of b ≡ true → is_mark_name name ≡ true → (i : ℕ) → set_place p name ≡ Some i → P (marked 0 b (splice p (place i) (name_bytes name ++ b))))
         → P (set_mark_of b name p)
     unfolding set_mark_of
     set_ends full done =
@@ -53,8 +52,8 @@ module _ (b name p : List ℕ) where
         (λ e. split_if P _ (λ f. malformed (not-false _ e) (not-true _ f))
         (λ f. split_maybe P (set_place p name) (full (not-false _ e) (not-false _ f)) (done (not-false _ e) (not-false _ f))))
 
-    pub return_ends : (keeps_of b ≡ true → is_mark_name name ≡ true → return_place p name ≡ none → P (marked 14 b p))
-        → (keeps_of b ≡ true → is_mark_name name ≡ true → (i : ℕ) → return_place p name ≡ some i → P (marked 0 (image_at p i) p))
+    pub return_ends : (keeps_of b ≡ true → is_mark_name name ≡ true → return_place p name ≡ None → P (marked 14 b p))
+        → (keeps_of b ≡ true → is_mark_name name ≡ true → (i : ℕ) → return_place p name ≡ Some i → P (marked 0 (image_at p i) p))
         → P (return_of b name p)
     unfolding return_of
     return_ends missing done =

@@ -1,4 +1,4 @@
--- `needs::answer_length`: what the writer returns, over a buffer that is long enough. Assumes nothing.
+-- `answer_length` is the length of what its writer writes. Assumes nothing.
 use Rattle.needs.specs.Laws.Needs.{written_length}
 use Rattle.needs.proofs.answer_length.Goals as goal
 

@@ -1,14 +1,15 @@
--- `needs::needs_of` is `needs_call`: refused, or the change counted. Assumes nothing.
-use borrow.Author.Tests.{eq-eqb, ne_eqb}
+-- `needs_of` is `needs_call`: of the change that the event makes, or its refusal. Assumes nothing.
+use mathlib.Core.Path.{ap, ◌∙◌}
+use borrow.Author.Tests.{eq-eqb}
+use Rattle.machine.specs.Changes.{refusing}
+use Rattle.step.specs.Laws.Taken.{numbered}
+use Rattle.needs.specs.Needs.{refused}
 use Rattle.needs.specs.Laws.Needs.{call_refused, call_taken}
 use Rattle.needs.proofs.needs_of.Goals as goal
 
-pub returns-then-c-ne0 : goal.returns-then-c-ne0
-returns-then-c-ne0 c =
-    let w = c in
-    call_refused _ _ _ c.call_of-c.ensures (ne_eqb _ _ w.if-c-ne0.true) _ c.refused.ensures
+pub returns-in-Ok : goal.returns-in-Ok
+returns-in-Ok c = call_taken _ _ _ c.in-Ok.ensures.is (eq-eqb _ _ c.in-Ok.ensures.taken) _ c.needed.ensures
 
-pub returns : goal.returns
-returns c =
-    let w = c in
-    call_taken _ _ _ c.call_of-c.ensures (eq-eqb _ _ w.if-c-ne0.false) _ c.needed.ensures
+pub returns-in-Err : goal.returns-in-Err
+unfolding refusing
+returns-in-Err c = call_refused _ _ _ c.in-Err.ensures.is (numbered c.in-Err.refusal) _ (c.refused.ensures ∙ ap refused c.number.ensures)

@@ -1,72 +1,41 @@
--- `net::net_position` is `net_call`: refused three ways, or written. Assumes nothing.
-use mathlib.Core.Path.{◌≡◌, refl, sym, ap, ◌∙◌}
-use mathlib.Core.Bool.{true}
-use native.Mathlib.Omega.{arith}
-use lib.ListN.{length}
-use Rattle.counted.specs.declared.Counted.{Counted}
+-- `net::net_position` is `net_call`: refused two ways, or written. Rests on Call.
+use Rattle.std.proofs.Common.{refl, ap, ap₂, ◌∙◌, arith}
+use Rattle.std.proofs.lemmas.Result.{err_from_is_err_and}
 use Rattle.counted.specs.Counted.{counting}
-use Rattle.store.specs.Book.{book_of}
-use Rattle.opens.specs.Keeps.{keeps_of}
-use Rattle.net.specs.Net.{net_of, written}
+use Rattle.net.specs.Net.{written}
 use Rattle.net.specs.Laws.Call.{net_few, net_bad, net_scratch, net_short, net_done}
 use Rattle.net.proofs.net_position.Goals as goal
-use Rattle.net.proofs.net_position.Goals.{Else-not-keeps}
+use Rattle.net.proofs.net_position.Goals.{then-scratch-lt-LEAST_SCRATCH-via-then-scratch-lt-LEAST_SCRATCH, then-scratch-lt-LEAST_SCRATCH-via-else-scratch-lt-LEAST_SCRATCH+then-lines-lt-LEAST_LINES}
 
--- the book keeps its rules where the first question is passed
-kept : (c : Else-not-keeps) → keeps_of c.args.book.now ≡ true
-kept c = sym c.keeps.ensures ∙ c.if-not-keeps.false
-
-pub returns-then-not-keeps : goal.returns-then-not-keeps
-returns-then-not-keeps c =
-    let k = c in
-    let a = c.args in
-    record {
-      is = ap (λ (r : Counted). written r a.lines.now) c.refusing.ensures
-          ∙ net_bad a.book.now a.lines.now (length a.scratch.now) (sym k.keeps.ensures ∙ c.if-not-keeps.true);
-      long = refl;
-      same = λ n. refl;
-    }
+pub returns-in_err-book : goal.returns-in_err-book
+returns-in_err-book c =
+    let p = err_from_is_err_and c.from_residual.result c.from_residual.ensures.1 in
+    rw (p.1, p.2, c.in_err-book.ensures.err.0)
+    (record { is = net_bad _ _ _ c.in_err-book.ensures.err.1; long = refl; same = λ n. refl })
 
 pub returns-then-scratch-lt-LEAST_SCRATCH : goal.returns-then-scratch-lt-LEAST_SCRATCH
 returns-then-scratch-lt-LEAST_SCRATCH c =
-    let i = c in
-    let a = c.args in
-    record {
-      is = ap (λ (r : Counted). written r a.lines.now) c.refusing-then-scratch-lt-LEAST_SCRATCH.ensures
-          ∙ net_scratch a.book.now (kept (goal.at.returns-then-scratch-lt-LEAST_SCRATCH c).Else-not-keeps) a.lines.now (length a.scratch.now) (omega (arith, c.if-scratch-lt-LEAST_SCRATCH.true));
+    let k = c.in_ok-book.book in
+    rw (← c.in_ok-book.ensures.ok)
+    (record {
+      is = elim c.then-scratch-lt-LEAST_SCRATCH.branch [
+        | then-scratch-lt-LEAST_SCRATCH-via-then-scratch-lt-LEAST_SCRATCH w ↦ net_scratch k.bytes.now k.kept _ _ w.if-scratch-lt-LEAST_SCRATCH.true
+        | then-scratch-lt-LEAST_SCRATCH-via-else-scratch-lt-LEAST_SCRATCH+then-lines-lt-LEAST_LINES w ↦ net_short k.bytes.now k.kept _ _ w.if-scratch-lt-LEAST_SCRATCH.false w.if-lines-lt-LEAST_LINES.true
+      ];
       long = refl;
       same = λ n. refl;
-    }
+    })
 
-pub returns-then-lines-lt-LEAST_LINES : goal.returns-then-lines-lt-LEAST_LINES
-returns-then-lines-lt-LEAST_LINES c =
-    let i = c in
-    let a = c.args in
-    record {
-      is = ap (λ (r : Counted). written r a.lines.now) c.refusing-then-lines-lt-LEAST_LINES.ensures
-          ∙ net_short a.book.now (kept (goal.at.returns-then-lines-lt-LEAST_LINES c).Else-not-keeps) a.lines.now (length a.scratch.now) (omega (arith, c.if-scratch-lt-LEAST_SCRATCH.false)) (omega (arith, c.if-lines-lt-LEAST_LINES.true));
-      long = refl;
-      same = λ n. refl;
-    }
-
-pub put_lines-count-requires : goal.put_lines-count-requires
-put_lines-count-requires c = (kept (goal.at.put_lines-count-requires c).Else-not-keeps, c.order_count-n.ensures, omega arith)
-
-pub overflow_cast-count : goal.overflow_cast-count
-overflow_cast-count c =
-    let p = c in
-    let i = c in
-    omega (arith, p.put_lines-count.ensures.0, net_few c.args.book.now (kept (goal.at.overflow_cast-count c).Else-not-keeps))
+pub overflow_cast-result : goal.overflow_cast-result
+overflow_cast-result c = omega (arith, c.put_lines-count.ensures.0, net_few c.in_ok-book.book.bytes.now c.in_ok-book.book.kept)
 
 pub returns : goal.returns
 returns c =
-    let p = c in
-    let i = c in
-    let a = c.args in
-    let r : c.counting.result ≡ counting (length (net_of (book_of a.book.now))) = c.counting.ensures ∙ ap counting p.put_lines-count.ensures.0 in
-    record {
-      is = (λ k. written (r k) (p.put_lines-count.ensures.1 k))
-          ∙ net_done a.book.now (kept (goal.at.returns c).Else-not-keeps) a.lines.now (length a.scratch.now) (omega (arith, c.if-scratch-lt-LEAST_SCRATCH.false)) (omega (arith, c.if-lines-lt-LEAST_LINES.false));
+    let k = c.in_ok-book.book in
+    rw (← c.in_ok-book.ensures.ok)
+    (record {
+      is = ap₂ written (ap counting c.put_lines-count.ensures.0) c.put_lines-count.ensures.1
+          ∙ net_done k.bytes.now k.kept c.args.lines.now _ c.if-scratch-lt-LEAST_SCRATCH.false c.if-lines-lt-LEAST_LINES.false;
       long = refl;
       same = λ n. refl;
-    }
+    })

@@ -35,8 +35,14 @@ pub record InUse (b : List ℕ) (k : ℕ) : Type 0 where
   pub few : k < most_orders
   pub used : k < order_count b
 
+pub used_long : (b : List ℕ) (k : ℕ) → k < order_count b → length b ≡ book_size
+used_long b k h = count_book header·orders most_orders b k h
+
+pub used_few : (b : List ℕ) (k : ℕ) → k < order_count b → k < most_orders
+used_few b k h = omega (arith, count_most header·orders most_orders b)
+
 pub in_use : (b : List ℕ) (k : ℕ) → k < order_count b → InUse b k
-in_use b k h = record { long = count_book header·orders most_orders b k h; few = omega (arith, count_most header·orders most_orders b); used = h }
+in_use b k h = record { long = used_long b k h; few = used_few b k h; used = h }
 
 module _ (b : List ℕ) (k : ℕ) (u : InUse b k) where
   pub filled_at_lem : (order_in (book_of b) k).state.cumqty ≡ word64 b (order_base k + state·cumqty)

@@ -1,21 +1,18 @@
--- `open_quantity` is `open_call`: refused, or the word of the client's first order, or 0. Assumes nothing.
+-- `open_quantity` is `open_call`: refused, or the word of the client's first order, or 0. Rests on Keeps.
 use Rattle.std.proofs.Common.{sym, ◌∙◌}
-use Rattle.outcomes.specs.Laws.Found.{found_at, found_none}
+use Rattle.std.proofs.lemmas.Result.{err_from_is_err_and}
 use Rattle.opens.specs.Laws.Keeps.{call_bad, call_found, call_none}
 use Rattle.opens.proofs.open_quantity.Goals as goal
 
-pub returns-then-not-keeps : goal.returns-then-not-keeps
-returns-then-not-keeps c = call_bad _ _ (sym c.keeps.ensures ∙ c.if-not-keeps.true)
+pub returns-in_err-book : goal.returns-in_err-book
+returns-in_err-book c =
+    let p = err_from_is_err_and c.from_residual.result c.from_residual.ensures.1 in
+    rw (p.1, p.2, c.in_err-book.ensures.err.0) (call_bad _ _ c.in_err-book.ensures.err.1)
 
-pub returns-in-At : goal.returns-in-At
-returns-in-At c =
-    let k = c in
-    let f = c in
-    let t = c in
-    call_found _ _ (sym c.keeps.ensures ∙ t.if-not-keeps.false) _ _ (found_at _ _ (sym f.find_client.ensures ∙ k.in-At.is)) c.load_open-quantity.ensures
+pub returns-in-Some : goal.returns-in-Some
+returns-in-Some c =
+    rw (← c.in_ok-book.ensures.ok)
+    (call_found _ _ c.in_ok-book.book.kept _ _ (sym c.find_client.ensures ∙ c.in-Some.is) c.load_open.ensures)
 
-pub returns-in-Nothing : goal.returns-in-Nothing
-returns-in-Nothing c =
-    let f = c in
-    let t = c in
-    call_none _ _ (sym c.keeps.ensures ∙ t.if-not-keeps.false) (found_none _ (sym f.find_client.ensures ∙ c.in-Nothing.is))
+pub returns-in-None : goal.returns-in-None
+returns-in-None c = rw (← c.in_ok-book.ensures.ok) (call_none _ _ c.in_ok-book.book.kept (sym c.find_client.ensures ∙ c.in-None.is))

@@ -1,8 +1,7 @@
 -- What a caller has of a book that keeps its rules, and the call as the code comes to it. Rests on rules' laws, outcomes and Sums.
-use Rattle.std.specs.Prelude.{◌≡◌, ℕ, ◌≤◌, Bool, true, false, ◌&&◌, List, length}
+use Rattle.std.specs.Prelude.{◌≡◌, ℕ, ◌≤◌, Bool, true, false, ◌&&◌, List, length, None, Some}
 use Rattle.std.proofs.Math.Path.{refl, sym, ap}
 use Rattle.std.proofs.Common.{◌∙◌}
-use Rattle.std.proofs.Math.Option.{none, some}
 use Rattle.prelude.specs.Cases.{if_true, if_false, maybe_none, maybe_some, both_true, both_hold}
 use Rattle.prelude.specs.Number.{word16}
 use Rattle.store.specs.Layout.{book_size, header·orders, header·requests, most_orders, most_requests}
@@ -76,14 +75,14 @@ module _ (b : List ℕ) where
     call_good = if_true _ _ _ e
 
     -- the word of the first order, or 0
-    pub call_found : (i n : ℕ) → find_client (book_of b) client ≡ some i → n ≡ load_open b i → opened 0 n ≡ open_call b client
+    pub call_found : (i n : ℕ) → find_client (book_of b) client ≡ Some i → n ≡ load_open b i → opened 0 n ≡ open_call b client
     unfolding stored_open
     call_found i n f v =
         let is : n ≡ open_of (book_of b) client =
         v ∙ load_open_in b i (client_at b client i f).0 ∙ sym (maybe_some (find_client (book_of b) client) i 0 (open_at b) f) ∙ keeps_stored e client in
         ap (opened 0) is ∙ sym call_good
 
-    pub call_none : find_client (book_of b) client ≡ none → opened 0 0 ≡ open_call b client
+    pub call_none : find_client (book_of b) client ≡ None → opened 0 0 ≡ open_call b client
     unfolding stored_open
     call_none f =
         let is : 0 ≡ open_of (book_of b) client = sym (maybe_none (find_client (book_of b) client) 0 (open_at b) f) ∙ keeps_stored e client in

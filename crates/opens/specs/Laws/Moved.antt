@@ -1,11 +1,10 @@
 -- The open quantities as a change leaves them: the client of the order that is placed has the new leaves for the old, and no other client's sum or first order moves. So
 -- what is worked out by value before the write is the sum over the book as it is left. Rests on Keeps, machine's `after` and its law that no order changes its client.
-use Rattle.std.specs.Prelude.{◌≡◌, ℕ, zero, suc, ◌+◌, ◌-◌, ◌*◌, ◌/◌, ◌%◌, ◌^◌, ◌<◌, ◌≤◌, Bool, true, false, ◌&&◌, List, [], ◌∷◌, ◌++◌, length, get_or, ◌==◌, ◌≢◌, nat_eq, nat_lt, slice_index_or, slice_set, refl}
+use Rattle.std.specs.Prelude.{◌≡◌, ℕ, zero, suc, ◌+◌, ◌-◌, ◌*◌, ◌/◌, ◌%◌, ◌^◌, ◌<◌, ◌≤◌, Bool, true, false, ◌&&◌, List, [], ◌∷◌, ◌++◌, length, get_or, ◌==◌, ◌≢◌, nat_eq, nat_lt, slice_index_or, slice_set, refl, Option, None, Some}
 use Rattle.std.proofs.Math.Decide.{dec_lt}
 use native.Mathlib.Omega.{arith}
 use Rattle.std.proofs.Math.Path.{sym, ap, ap₂}
 use Rattle.std.proofs.Common.{subst, ◌∙◌, length-append, length-set, get_or-set_same}
-use Rattle.std.proofs.Math.Option.{Option, none, some}
 use Rattle.std.proofs.lemmas.List.{get_or_at}
 use borrow.Author.Tests.{eqb-true, eq-eqb, ne_eqb, le-leb, lt-leb}
 use Rattle.prelude.specs.Below.{first_below, First, first_ext, first_elim, first_hit, first_some}
@@ -185,7 +184,7 @@ module _ (x : Book) (c : Change) (there : c.place ≡ 0 → ⊥) (kept : SameCli
   same_test : (client k : ℕ) → k < length x.orders → was client k ≡ is client k
   same_test client k h = ap (λ (v : ℕ). nat_eq v client) (sym (kept k h))
 
-  pub first_stays : (client i : ℕ) → find_client x client ≡ some i → find_client d client ≡ some i
+  pub first_stays : (client i : ℕ) → find_client x client ≡ Some i → find_client d client ≡ Some i
   unfolding find_client
   first_stays client i e =
       let f : First (was client) (length x.orders) i = first_some (was client) (length x.orders) i e in
@@ -194,11 +193,11 @@ module _ (x : Book) (c : Change) (there : c.place ≡ 0 → ⊥) (kept : SameCli
       (sym (same_test client i f.below) ∙ f.passes)
 
   -- the order that is added is the first of a client without one
-  pub first_new : find_client x c.order.client ≡ none → find_client d c.order.client ≡ some (length x.orders)
+  pub first_new : find_client x c.order.client ≡ None → find_client d c.order.client ≡ Some (length x.orders)
   unfolding find_client
   first_new e = go (dec_lt (length x.orders) c.place)
     where
-      go : Dec (length x.orders < c.place) → first_below (is c.order.client) (length d.orders) ≡ some (length x.orders)
+      go : Dec (length x.orders < c.place) → first_below (is c.order.client) (length d.orders) ≡ Some (length x.orders)
       go (yes h) =
           first_hit (is c.order.client) (length d.orders) (length x.orders) (omega (arith, new_long h))
           (sym (first_ext (was c.order.client) (is c.order.client) (length x.orders) (λ k l. same_test c.order.client k l)) ∙ e)
@@ -212,12 +211,12 @@ module _ (x : Book) (c : Change) (there : c.place ≡ 0 → ⊥) (kept : SameCli
   first_others client n = go (find_client x client) refl
     where
       go : (v : Option ℕ) → find_client x client ≡ v → find_client d client ≡ find_client x client
-      go (some i) e = first_stays client i e ∙ sym e
-      go none e = nowhere (find_client d client) refl ∙ sym e
+      go (Some i) e = first_stays client i e ∙ sym e
+      go None e = nowhere (find_client d client) refl ∙ sym e
         where
-          nowhere : (v : Option ℕ) → find_client d client ≡ v → find_client d client ≡ none
-          nowhere none w = w
-          nowhere (some j) w = absurd (at (dec_lt j (length x.orders)))
+          nowhere : (v : Option ℕ) → find_client d client ≡ v → find_client d client ≡ None
+          nowhere None w = w
+          nowhere (Some j) w = absurd (at (dec_lt j (length x.orders)))
             where
               f : First (is client) (length d.orders) j
               f = unfold find_client in first_some (is client) (length d.orders) j w
@@ -266,7 +265,7 @@ module _ (b : List ℕ) (place n : ℕ) (there : place ≡ 0 → ⊥) (e : n ≡
   link_at h = ap leaves_qty (sym (if_false _ _ _ (ne_eqb place 0 there) ∙ order_in_lem b (place - 1) (omega arith)))
 
 module _ (b : List ℕ) (place client leaves : ℕ) where
-  pub by_found : (i stored before rest q : ℕ) → find_client (book_of b) client ≡ some i → stored ≡ load_open b i → before ≡ leaves_qty (order_at_link (book_of b) place)
+  pub by_found : (i stored before rest q : ℕ) → find_client (book_of b) client ≡ Some i → stored ≡ load_open b i → before ≡ leaves_qty (order_at_link (book_of b) place)
       → rest ≡ stored - before → q ≡ (rest + leaves) % 2 ^ 64 → word i q ≡ opening_of b place client leaves
   unfolding opening_of
   by_found i stored before rest q f s l r w =
@@ -276,7 +275,7 @@ module _ (b : List ℕ) (place client leaves : ℕ) where
         quantity = (sum ∙ sym (maybe_some (find_client (book_of b) client) i leaves (λ i. (load_open b i - leaves_qty (order_at_link (book_of b) place) + leaves) % 2 ^ 64) f)) t;
       }
 
-  pub by_none : (n : ℕ) → find_client (book_of b) client ≡ none → n ≡ order_count b → word n leaves ≡ opening_of b place client leaves
+  pub by_none : (n : ℕ) → find_client (book_of b) client ≡ None → n ≡ order_count b → word n leaves ≡ opening_of b place client leaves
   unfolding opening_of
   by_none n f e = λ t. record {
     at = (e ∙ sym (maybe_none (find_client (book_of b) client) (order_count b) (λ i. i) f)) t;
@@ -301,14 +300,14 @@ module _ (b : List ℕ) (keeps : keeps_of b ≡ true) (c : Change) (there : c.pl
   sum_left = sum_after (book_of b) c there kept
 
   -- the client has no order yet
-  opening_none : found ≡ none → (opening.at ≡ length (book_of b).orders) × (opening.quantity ≡ open_of left client)
+  opening_none : found ≡ None → (opening.at ≡ length (book_of b).orders) × (opening.quantity ≡ open_of left client)
   unfolding opening_of
   opening_none e = (
     maybe_none found (order_count b) (λ i. i) e ∙ sym (length_orders b),
     maybe_none found (leaves_qty c.order) _ e ∙ omega (arith, sum_left, open_none b client e),
   )
 
-  opening_some : (i : ℕ) → found ≡ some i → (opening.at ≡ i) × (opening.quantity ≡ open_of left client % 2 ^ 64)
+  opening_some : (i : ℕ) → found ≡ Some i → (opening.at ≡ i) × (opening.quantity ≡ open_of left client % 2 ^ 64)
   unfolding opening_of stored_open
   opening_some i e =
       let stored : load_open b i ≡ open_of (book_of b) client = load_open_in b i (client_at b client i e).0 ∙ sym (maybe_some found i 0 (open_at b) e) ∙ keeps_stored b keeps client in (
@@ -322,10 +321,10 @@ module _ (b : List ℕ) (keeps : keeps_of b ≡ true) (c : Change) (there : c.pl
   opening_is = go found refl
     where
       go : (v : Option ℕ) → found ≡ v → store_open to opening.at opening.quantity ≡ maybe to (λ i. store_open to i (open_of left client)) (find_client left client)
-      go none e =
+      go None e =
           ap₂ (store_open to) (opening_none e).0 (opening_none e).1
           ∙ sym (maybe_some (find_client left client) (length (book_of b).orders) to (λ i. store_open to i (open_of left client)) (first_new (book_of b) c there kept e))
-      go (some i) e =
+      go (Some i) e =
           ap₂ (store_open to) (opening_some i e).0 (opening_some i e).1
           ∙ store_word to i (open_of left client)
           ∙ sym (maybe_some (find_client left client) i to (λ i. store_open to i (open_of left client)) (first_stays (book_of b) c there kept client i e))

@@ -1,63 +1,36 @@
--- `page::put_lines` meets its contract: a line more each turn. Assumes nothing.
-use mathlib.Core.Path.{refl, sym, ap, ◌∙◌}
-use Prim.Native.Nat.{◌<◌}
-use native.Mathlib.Omega.{arith}
-use lib.ListN.{length, length-take, length-drop}
+-- `page::put_lines` meets its contract: a line more each turn. Rests on Call.
+use Rattle.std.proofs.Common.{◌<◌, refl, sym, ap, ◌∙◌, arith, length, length-take, length-drop}
 use Rattle.prelude.specs.Span.{splice, splice_nil}
 use Rattle.store.specs.Book.{order_count}
 use Rattle.page.specs.Page.{page_bytes}
 use Rattle.page.specs.Laws.Call.{range_loaded, turn, turn_length, whole}
 use Rattle.page.proofs.put_lines.Goals as goal
+use Rattle.page.proofs.put_lines.Goals.{In-loop-i}
 
 pub loop-i-init : goal.loop-i-init
 unfolding page_bytes
-loop-i-init c = (omega arith, refl, sym (splice_nil c.args.out.now 0))
+loop-i-init c = (refl, sym (splice_nil c.args.out.now 0))
+
+-- an order in use
+used : (c : In-loop-i) → c.loop-i.i < order_count c.args.book.now.bytes.now
+used c = omega (arith, c.order_count-i-end.ensures)
 
 pub put_line-requires : goal.put_line-requires
 put_line-requires c =
-    let s = c in
-    let l = c.loop-i in
-    let o = c.load_order-o in
-    let h : l.i < order_count s.args.book.now = omega arith in
-    (simp (length-take, length-drop) (omega arith), range_loaded s.args.book.now s.requires.0 l.i h o.result o.ensures)
+    let h = used (goal.at.put_line-requires c).In-loop-i in
+    let k = c.args.book.now in
+    (simp (length-take, length-drop) (omega arith), range_loaded k.bytes.now k.kept c.loop-i.i h c.load_order-o.result c.load_order-o.ensures)
 
 pub loop-i-preserved : goal.loop-i-preserved
 loop-i-preserved c =
-    let s = c in
-    let a = s.args in
+    let h = used (goal.at.loop-i-preserved c).In-loop-i in
     let l = c.loop-i in
-    let o = c.load_order-o in
-    let p = c.put_line in
-    let h : l.i < order_count a.book.now = omega arith in
-    let q = turn a.book.now s.requires.0 a.out.now l.out p.new.s l.i o.result h (omega arith) o.ensures l.invariant.2 p.ensures in
-    (omega arith, ap length q ∙ turn_length a.book.now s.requires.0 a.out.now l.i h (omega arith), q)
-
-pub shape_of-out : goal.shape_of-out
-shape_of-out c = c.loop-i.invariant.1
+    let k = c.args.book.now in
+    let q = turn k.bytes.now k.kept c.args.out.now l.out c.put_line.new.s l.i c.load_order-o.result h c.requires c.load_order-o.ensures l.invariant.1 c.put_line.ensures in
+    (ap length q ∙ turn_length k.bytes.now k.kept c.args.out.now l.i h c.requires, q)
 
 pub returns : goal.returns
 returns c =
-    let s = c in
     let l = c.loop-i in
-    l.invariant.2 ∙ ap (splice s.args.out.now 0) (whole s.args.book.now s.requires.0 l.i (omega arith))
-
-pub overflow_mul-at : goal.overflow_mul-at
-overflow_mul-at c = omega arith
-
-pub overflow_add-at : goal.overflow_add-at
-overflow_add-at c = omega arith
-
-pub slice_bounds-put_line-count : goal.slice_bounds-put_line-count
-slice_bounds-put_line-count c = omega arith
-
-pub slice_bounds-put_line-start : goal.slice_bounds-put_line-start
-slice_bounds-put_line-start c = omega arith
-
-pub slice_bounds-put_line-end : goal.slice_bounds-put_line-end
-slice_bounds-put_line-end c = omega arith
-
-pub overflow_add-i : goal.overflow_add-i
-overflow_add-i c = omega arith
-
-pub loop-i-smaller : goal.loop-i-smaller
-loop-i-smaller c = omega arith
+    let k = c.args.book.now in
+    l.invariant.1 ∙ ap (splice c.args.out.now 0) (whole k.bytes.now k.kept l.i (omega (arith, c.order_count-i-end.ensures)))

@@ -1,14 +1,9 @@
--- `page::put_lines` meets its contract: a line more each turn. Assumes nothing.
-use mathlib.Core.Path.{◌≡◌}
-use Prim.Native.Nat.{◌-◌, ◌≤◌}
-use lib.ListN.{length, take}
+-- `page::put_lines` meets its contract: a line more each turn. Rests on Call.
+use Rattle.std.proofs.Common.{◌≡◌, length, take}
 use Rattle.prelude.specs.Span.{splice}
 use Rattle.store.specs.Book.{book_of}
 use Rattle.page.specs.Page.{page_of, page_bytes}
 use Rattle.page.proofs.put_lines.Given as goal
 
 abbrev pub invariant-loop-i : goal.invariant-loop-i
-invariant-loop-i l = (l.i ≤ l.n) × (length l.out ≡ length l.initial.out) × (l.out ≡ splice l.initial.out 0 (page_bytes (take l.i (page_of (book_of l.book)))))
-
-abbrev pub decreases-loop-i : goal.decreases-loop-i
-decreases-loop-i l = l.n - l.i
+invariant-loop-i l = (length l.out ≡ length l.initial.out) × (l.out ≡ splice l.initial.out 0 (page_bytes (take l.i (page_of (book_of l.book.bytes.now)))))

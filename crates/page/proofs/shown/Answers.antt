@@ -1,18 +1,18 @@
--- `page::shown` meets its contract, test by test. Assumes nothing.
-use native.Mathlib.Omega.{arith}
-use borrow.Author.Tests.{lt-ltb, le-ltb}
-use Rattle.prelude.specs.Cases.{if◌then◌otherwise◌}
+-- `page::shown` meets its contract: a byte below 32 and one behind the end are blanks. Assumes nothing.
+use Rattle.std.proofs.Common.{◌≡◌, ℕ, max, ltb, arith, ◌∙◌}
+use borrow.Author.Tests.{lt-ltb, le-ltb, ltb-true, ltb-false}
+use Rattle.prelude.specs.Cases.{split_if, if◌then◌otherwise◌}
 use Rattle.page.specs.Page.{printable}
 use Rattle.page.proofs.shown.Goals as goal
 
-pub returns-then-i-len : goal.returns-then-i-len
+max_printable : (x : ℕ) → max x 32 ≡ printable x
+unfolding printable
+max_printable x = split_if (λ n. max x 32 ≡ n) (ltb x 32) (λ e. omega (arith, ltb-true x 32 e)) (λ e. omega (arith, ltb-false x 32 e))
+
+pub returns-then-i-from : goal.returns-then-i-from
 unfolding if◌then◌otherwise◌
-returns-then-i-len c = let a = c.args in rw (le-ltb a.i a.len (omega arith))
+returns-then-i-from c = rw (lt-ltb c.args.i c.args.t.len (omega (arith, c.from.ensures))) (c.max.ensures ∙ max_printable _)
 
-pub returns-then-x-lt32 : goal.returns-then-x-lt32
-unfolding if◌then◌otherwise◌ printable
-returns-then-x-lt32 c = let a = c.args in rw (lt-ltb a.i a.len (omega arith), lt-ltb a.x 32 (omega arith))
-
-pub returns : goal.returns
-unfolding if◌then◌otherwise◌ printable
-returns c = let a = c.args in rw (lt-ltb a.i a.len (omega arith), le-ltb a.x 32 (omega arith))
+pub returns-else-i-from : goal.returns-else-i-from
+unfolding if◌then◌otherwise◌
+returns-else-i-from c = rw (le-ltb c.args.i c.args.t.len (omega (arith, c.from.ensures)))

@@ -11,11 +11,11 @@ use Rattle.places.proofs.starts.Goals as goal
 pub returns-then-o-gt65535 : goal.returns-then-o-gt65535
 unfolding start_from
 returns-then-o-gt65535 c =
-    let o = c.before.before.args.o in
+    let o = c.args.o in
     λ k h. get_or-replicate 33 k 0 0 (omega arith) ∙ sym (if_false (ltb o 65536) _ 0 (le-ltb o 65536 (omega (arith, c.if-o-gt65535.true))))
 
 pub returns : goal.returns
 unfolding start_from
 returns c =
-    let o = c.before.before.before.args.o in
-    λ k h. c.starts.ensures k h ∙ sym (if_true (ltb o 65536) _ 0 (lt-ltb o 65536 (omega (arith, c.before.if-o-gt65535.false))))
+    let o = c.args.o in
+    λ k h. c.starts.ensures k h ∙ sym (if_true (ltb o 65536) _ 0 (lt-ltb o 65536 (omega (arith, c.if-o-gt65535.false))))

@@ -1,48 +1,53 @@
 -- `records::read_event`: a record of the whole slice whose kind is an event's. Assumes nothing.
-use mathlib.Core.Path.{◌≡◌, sym, ◌∙◌}
-use mathlib.Core.Bool.{true}
-use mathlib.Core.List.{List}
-use Prim.Native.Nat.{ℕ}
-use native.Mathlib.Omega.{arith}
-use Rattle.format.specs.Places.{shaped}
-use Rattle.records.specs.Laws.Reading.{whole_of, read_shape, read_end, read_none, event_shape, event_kind, event_over, event_taken}
+use Rattle.std.proofs.Common.{◌≡◌, true, get_or, sym, ◌∙◌, arith}
+use Rattle.std.proofs.lemmas.Result.{err_from_is_err_and, IfOk-weaker, IfErr-weaker}
+use Rattle.format.specs.Places.{shaped, end_of}
+use Rattle.records.specs.Laws.Reading.{whole_of, end_from, shaped_from_start, event_shape, event_kind, event_over, event_range, event_taken}
 use Rattle.records.proofs.read_event.Goals as goal
-use Rattle.records.proofs.read_event.Goals.{Else-got-eq3, Start}
+use Rattle.records.proofs.read_event.Goals.{In_ok-shape, then-s-gt-EVENT_GATEWAY_CANCEL-via-then-s-gt-EVENT_GATEWAY_CANCEL, then-s-gt-EVENT_GATEWAY_CANCEL-via-else-s-gt-EVENT_GATEWAY_CANCEL+then-shape-s}
 
-abbrev src : Start → List ℕ
-src s = s.args.s.now
+has_shape : (c : In_ok-shape) → shaped c.args.s.now 0 ≡ true
+has_shape c = let e = c.in_ok-shape.ensures.ok in shaped_from_start c.args.s.now c.in_ok-shape.shape e.1 0 e.0
 
-has_shape : (c : Else-got-eq3) → shaped (src (goal.at.Else-got-eq3 c).Start) 0 ≡ true
-has_shape c = read_shape (src (goal.at.Else-got-eq3 c).Start) 0 c.read_record-got.result c.read_record-got.ensures c.if-got-eq3.false
+ends : (c : In_ok-shape) → get_or c.in_ok-shape.shape.at 32 0 ≡ end_of c.args.s.now 0
+ends c = let e = c.in_ok-shape.ensures.ok in end_from c.args.s.now c.in_ok-shape.shape e.1 0 e.0
 
-pub returns-then-got-eq3 : goal.returns-then-got-eq3
-returns-then-got-eq3 c =
-    let s = c in
-    let g = c.read_record-got in
-    let e = event_shape (src (goal.at.returns-then-got-eq3 c).Start) (read_none (src (goal.at.returns-then-got-eq3 c).Start) 0 g.result g.ensures c.if-got-eq3.true) in
-    (sym e.0, c.no_record.ensures ∙ sym e.1)
+pub returns-in_err-shape-clause-err : goal.returns-in_err-shape-clause-err
+returns-in_err-shape-clause-err c =
+    let e = c.in_err-shape.ensures.err in
+    let p = err_from_is_err_and c.from_residual.result c.from_residual.ensures.1 in
+    rw (p.1, p.2, e.1) (sym (event_shape c.args.s.now e.0))
 
 pub bounds-s-0 : goal.bounds-s-0
-bounds-s-0 c = omega (arith, whole_of (src (goal.at.bounds-s-0 c).Start) 0 (has_shape (goal.at.bounds-s-0 c).Else-got-eq3))
+bounds-s-0 c = omega (arith, whole_of c.args.s.now 0 (has_shape (goal.at.bounds-s-0 c).In_ok-shape))
 
-pub returns-then-s-gt-EVENT_GATEWAY_CANCEL : goal.returns-then-s-gt-EVENT_GATEWAY_CANCEL
-returns-then-s-gt-EVENT_GATEWAY_CANCEL c =
-    let l = c in
-    let s = c in
-    let e = event_kind (src (goal.at.returns-then-s-gt-EVENT_GATEWAY_CANCEL c).Start) (has_shape (goal.at.returns-then-s-gt-EVENT_GATEWAY_CANCEL c).Else-got-eq3) c.if-s-gt-EVENT_GATEWAY_CANCEL.true in
-    (sym e.0, c.no_record-then-s-gt-EVENT_GATEWAY_CANCEL.ensures ∙ sym e.1)
+pub returns-then-s-gt-EVENT_GATEWAY_CANCEL-clause-err : goal.returns-then-s-gt-EVENT_GATEWAY_CANCEL-clause-err
+returns-then-s-gt-EVENT_GATEWAY_CANCEL-clause-err c =
+    let i = (goal.at.returns-then-s-gt-EVENT_GATEWAY_CANCEL-clause-err c).In_ok-shape in
+    elim c.then-s-gt-EVENT_GATEWAY_CANCEL.branch [
+      | then-s-gt-EVENT_GATEWAY_CANCEL-via-then-s-gt-EVENT_GATEWAY_CANCEL w ↦ sym (event_kind c.args.s.now (has_shape i) w.if-s-gt-EVENT_GATEWAY_CANCEL.true)
+      | then-s-gt-EVENT_GATEWAY_CANCEL-via-else-s-gt-EVENT_GATEWAY_CANCEL+then-shape-s w ↦
+          sym (event_over c.args.s.now (has_shape i) w.if-s-gt-EVENT_GATEWAY_CANCEL.false (λ q. w.if-shape-s.true (ends i ∙ q)))
+    ]
 
-pub returns-then-got-s : goal.returns-then-got-s
-returns-then-got-s c =
-    let l = c in
-    let s = c in
-    let g = c.read_record-got in
-    let e = event_over (src (goal.at.returns-then-got-s c).Start) (has_shape (goal.at.returns-then-got-s c).Else-got-eq3) c.if-s-gt-EVENT_GATEWAY_CANCEL.false (λ q. c.if-got-s.true (read_end (src (goal.at.returns-then-got-s c).Start) 0 g.result g.ensures (has_shape (goal.at.returns-then-got-s c).Else-got-eq3) ∙ q)) in
-    (sym e.0, c.no_record-then-got-s.ensures ∙ sym e.1)
+pub returns-clause-ok : goal.returns-clause-ok
+returns-clause-ok c =
+    let s = c.args.s.now in
+    let i = (goal.at.returns-clause-ok c).In_ok-shape in
+    let o = c.in_ok-shape.ensures.ok.0 in
+    let n = sym (ends i) ∙ c.if-shape-s.false in
+    IfOk-weaker c.record_in.result _ _
+    (λ r k.
+    let t = event_taken s (has_shape i) c.if-s-gt-EVENT_GATEWAY_CANCEL.false n (rw o at k.0) in
+    (t.0, (rw o at k.1) ∙ t.1))
+    c.record_in.ensures.ok
 
-pub returns : goal.returns
-returns c =
-    let l = c in
-    let s = c in
-    let g = c.read_record-got in
-    event_taken (src (goal.at.returns c).Start) g.result g.ensures (has_shape (goal.at.returns c).Else-got-eq3) c.if-s-gt-EVENT_GATEWAY_CANCEL.false (sym (read_end (src (goal.at.returns c).Start) 0 g.result g.ensures (has_shape (goal.at.returns c).Else-got-eq3)) ∙ c.if-got-s.false)
+pub returns-clause-err : goal.returns-clause-err
+returns-clause-err c =
+    let s = c.args.s.now in
+    let i = (goal.at.returns-clause-err c).In_ok-shape in
+    let o = c.in_ok-shape.ensures.ok.0 in
+    let n = sym (ends i) ∙ c.if-shape-s.false in
+    IfErr-weaker c.record_in.result _ _
+    (λ r k. rw k.1 (sym (event_range s (has_shape i) c.if-s-gt-EVENT_GATEWAY_CANCEL.false n (rw o at k.0))))
+    c.record_in.ensures.err

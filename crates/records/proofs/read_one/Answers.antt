@@ -1,62 +1,50 @@
 -- `records::read_one`: one message that fills the answer. Assumes nothing.
 use borrow.Author.Tests.{eq-eqb, ne_eqb}
-use mathlib.Core.Path.{◌≡◌, refl, sym, ◌∙◌}
-use mathlib.Core.Bool.{true}
-use mathlib.Core.List.{List}
-use Prim.Native.Nat.{ℕ}
+use Rattle.std.proofs.Common.{◌≡◌, ◌∷◌, [], true, get_or, refl, sym, ap, ◌∙◌}
+use Rattle.std.proofs.lemmas.Result.{err_from_is_err_and}
 use Rattle.format.specs.Places.{end_of}
-use Rattle.format.specs.Refusal.{message_shaped, ranged}
+use Rattle.records.specs.declared.Record.{Record}
 use Rattle.records.specs.Answer.{head_size, shaped_from, ranged_from, messages_from}
-use Rattle.records.specs.Laws.ReadingAnswer.{said_3, said_shape, said_end, said_4, said_range, said_record, from_3, from_4, from_0}
+use Rattle.records.specs.Laws.Reading.{end_from}
+use Rattle.records.specs.Laws.ReadingAnswer.{from_3, from_4}
 use Rattle.records.proofs.read_one.Goals as goal
-use Rattle.records.proofs.read_one.Goals.{Else-got-eq3, Else-got-s, Start}
+use Rattle.records.proofs.read_one.Goals.{Else-first-a, In_ok-first}
 
-abbrev src : Start → List ℕ
-src s = s.args.s.now
+ends : (c : In_ok-first) → get_or c.in_ok-first.first.at 32 0 ≡ end_of c.args.a.now head_size
+ends c = let e = c.in_ok-first.ensures.ok in end_from c.args.a.now c.in_ok-first.first e.2 head_size e.0
 
-shape : (c : Else-got-eq3) → message_shaped (src (goal.at.Else-got-eq3 c).Start) head_size ≡ true
-shape c = let g = c.read_message-got in said_shape (src (goal.at.Else-got-eq3 c).Start) head_size g.result g.ensures c.if-got-eq3.false
-
-ends : (c : Else-got-eq3) → c.read_message-got.result.end ≡ end_of (src (goal.at.Else-got-eq3 c).Start) head_size
-ends c = let g = c.read_message-got in said_end (src (goal.at.Else-got-eq3 c).Start) head_size g.result g.ensures (shape c)
-
-all : (c : Else-got-s) → shaped_from (src (goal.at.Else-got-s c).Start) head_size 1 ≡ true
+all : (c : Else-first-a) → shaped_from c.args.a.now head_size 1 ≡ true
 unfolding shaped_from
-all c = let l = c in rw (shape (goal.at.Else-got-s c).Else-got-eq3) (eq-eqb _ _ (sym (ends (goal.at.Else-got-s c).Else-got-eq3) ∙ c.if-got-s.false))
+all c = rw c.in_ok-first.ensures.ok.1 (eq-eqb _ _ (sym (ends (goal.at.Else-first-a c).In_ok-first) ∙ c.if-first-a.false))
 
-pub returns-then-got-eq3 : goal.returns-then-got-eq3
+pub returns-in_err-first-clause-err : goal.returns-in_err-first-clause-err
 unfolding shaped_from
-returns-then-got-eq3 c =
-    let s = c in
-    let g = c.read_message-got in
-    let k = c.no_answer.ensures in
-    from_3 (src (goal.at.returns-then-got-eq3 c).Start) 1 s.args.alarm s.args.alarm2 c.no_answer.result (rw (said_3 (src (goal.at.returns-then-got-eq3 c).Start) head_size g.result g.ensures c.if-got-eq3.true) refl) k.0 k.1 k.2 k.3
+returns-in_err-first-clause-err c =
+    let e = c.in_err-first.ensures.err in
+    let p = err_from_is_err_and c.from_residual.result c.from_residual.ensures.1 in
+    rw (p.1, p.2, e.1) (sym (from_3 c.args.a.now 1 (rw e.0 refl)))
 
-pub returns-then-got-s : goal.returns-then-got-s
+pub returns-then-first-a-clause-err : goal.returns-then-first-a-clause-err
 unfolding shaped_from
-returns-then-got-s c =
-    let l = c in
-    let s = c in
-    let k = c.no_answer-then-got-s.ensures in
-    from_3 (src (goal.at.returns-then-got-s c).Start) 1 s.args.alarm s.args.alarm2 c.no_answer-then-got-s.result (rw (shape (goal.at.returns-then-got-s c).Else-got-eq3) (ne_eqb _ _ (λ e. c.if-got-s.true (ends (goal.at.returns-then-got-s c).Else-got-eq3 ∙ e)))) k.0 k.1 k.2 k.3
+returns-then-first-a-clause-err c =
+    let n = ends (goal.at.returns-then-first-a-clause-err c).In_ok-first in
+    sym (from_3 c.args.a.now 1 (rw c.in_ok-first.ensures.ok.1 (ne_eqb _ _ (λ z. c.if-first-a.true (n ∙ z)))))
 
-pub returns-then-got-eq4 : goal.returns-then-got-eq4
+pub returns-in_err-record_in-clause-err : goal.returns-in_err-record_in-clause-err
 unfolding ranged_from
-returns-then-got-eq4 c =
-    let m = c in
-    let l = c in
-    let s = c in
-    let g = c.read_message-got in
-    let k = c.no_answer-then-got-eq4.ensures in
-    from_4 (src (goal.at.returns-then-got-eq4 c).Start) 1 s.args.alarm s.args.alarm2 c.no_answer-then-got-eq4.result (all (goal.at.returns-then-got-eq4 c).Else-got-s) (rw (said_4 (src (goal.at.returns-then-got-eq4 c).Start) head_size g.result g.ensures (shape (goal.at.returns-then-got-eq4 c).Else-got-eq3) c.if-got-eq4.true) refl) k.0 k.1 k.2 k.3
+returns-in_err-record_in-clause-err c =
+    let o = c.in_ok-first.ensures.ok.0 in
+    let e = c.in_err-record_in.ensures.err in
+    let p = err_from_is_err_and c.from_residual-in_err-record_in.result c.from_residual-in_err-record_in.ensures.1 in
+    let r = rw o at e.0 in
+    rw (p.1, p.2, e.1) (sym (from_4 c.args.a.now 1 (all (goal.at.returns-in_err-record_in-clause-err c).Else-first-a) (rw r refl)))
 
-pub returns : goal.returns
+pub returns-clause-ok : goal.returns-clause-ok
 unfolding ranged_from messages_from
-returns c =
-    let m = c in
-    let l = c in
-    let s = c in
-    let g = c.read_message-got in
-    let q : ranged (src (goal.at.returns c).Start) head_size ≡ true = said_range (src (goal.at.returns c).Start) head_size g.result g.ensures (shape (goal.at.returns c).Else-got-eq3) c.if-got-eq4.false in
-    from_0 (src (goal.at.returns c).Start) 1 s.args.alarm s.args.alarm2 _ (all (goal.at.returns c).Else-got-s) (rw q refl) refl refl refl
-    (record { count = refl; first = said_record (src (goal.at.returns c).Start) head_size g.result g.ensures (shape (goal.at.returns c).Else-got-eq3) q; second = c.no_record-second.ensures })
+returns-clause-ok c =
+    let e = rw c.in_ok-first.ensures.ok.0 at c.in_ok-record_in.ensures.ok in
+    record {
+      shapes = all (goal.at.returns-clause-ok c).Else-first-a;
+      ranges = rw e.0 refl;
+      messages = ap (λ (r : Record). r ∷ []) e.1;
+    }

@@ -1,115 +1,87 @@
 -- `records::read_two`: two messages that fill the answer. Assumes nothing.
 use borrow.Author.Tests.{eq-eqb, ne_eqb}
-use mathlib.Core.Path.{◌≡◌, refl, sym, ◌∙◌}
-use mathlib.Core.Bool.{true}
-use mathlib.Core.List.{List}
-use Prim.Native.Nat.{ℕ}
-use native.Mathlib.Omega.{arith}
+use Rattle.std.proofs.Common.{◌≡◌, ◌∷◌, [], true, get_or, refl, sym, ◌∙◌, arith}
+use Rattle.std.proofs.lemmas.Result.{err_from_is_err_and}
 use Rattle.format.specs.Places.{end_of}
-use Rattle.format.specs.Refusal.{message_shaped, ranged}
+use Rattle.format.specs.Refusal.{message_shaped}
 use Rattle.records.specs.Answer.{head_size, shaped_from, ranged_from, messages_from}
-use Rattle.records.specs.Laws.Seen.{ReadsMessage}
-use Rattle.records.specs.Laws.ReadingAnswer.{said_3, said_shape, said_end, said_4, said_range, said_record, message_inside, from_3, from_4, from_0}
+use Rattle.records.specs.Laws.Reading.{end_from}
+use Rattle.records.specs.Laws.ReadingAnswer.{message_inside, from_3, from_4}
 use Rattle.records.proofs.read_two.Goals as goal
-use Rattle.records.proofs.read_two.Goals.{After-read_message-two, Else-one-eq3, Else-one-eq4, Else-two-eq3, Else-two-s, Start}
+use Rattle.records.proofs.read_two.Goals.{Else-second-a, In_ok-first, In_ok-second}
 
-abbrev src : Start → List ℕ
-src s = s.args.s.now
+ends : (c : In_ok-first) → get_or c.in_ok-first.first.at 32 0 ≡ end_of c.args.a.now head_size
+ends c = let e = c.in_ok-first.ensures.ok in end_from c.args.a.now c.in_ok-first.first e.2 head_size e.0
 
--- the first message
-shape : (c : Else-one-eq3) → message_shaped (src (goal.at.Else-one-eq3 c).Start) head_size ≡ true
-shape c = let g = c.read_message-one in said_shape (src (goal.at.Else-one-eq3 c).Start) head_size g.result g.ensures c.if-one-eq3.false
+-- the second starts where the first ends
+begins : (c : In_ok-second) → c.in_ok-second.second.start ≡ end_of c.args.a.now head_size
+begins c = c.in_ok-second.ensures.ok.0 ∙ ends (goal.at.In_ok-second c).In_ok-first
 
-ends : (c : Else-one-eq3) → c.read_message-one.result.end ≡ end_of (src (goal.at.Else-one-eq3 c).Start) head_size
-ends c = let g = c.read_message-one in said_end (src (goal.at.Else-one-eq3 c).Start) head_size g.result g.ensures (shape c)
+ends_2 : (c : In_ok-second) → get_or c.in_ok-second.second.at 32 0 ≡ end_of c.args.a.now (end_of c.args.a.now head_size)
+ends_2 c = end_from c.args.a.now c.in_ok-second.second c.in_ok-second.ensures.ok.2 _ (begins c)
 
--- the second
-second : (c : After-read_message-two) → let s = c in ReadsMessage (src (goal.at.After-read_message-two c).Start) (end_of (src (goal.at.After-read_message-two c).Start) head_size) c.read_message-two.result
-second c = rw (ends (goal.at.After-read_message-two c).Else-one-eq3) at c.read_message-two.ensures
+shape_2 : (c : In_ok-second) → message_shaped c.args.a.now (end_of c.args.a.now head_size) ≡ true
+shape_2 c = rw (ends (goal.at.In_ok-second c).In_ok-first) at c.in_ok-second.ensures.ok.1
 
-shape_2 : (c : Else-two-eq3) → let s = c in message_shaped (src (goal.at.Else-two-eq3 c).Start) (end_of (src (goal.at.Else-two-eq3 c).Start) head_size) ≡ true
-shape_2 c = let g = c in said_shape (src (goal.at.Else-two-eq3 c).Start) (end_of (src (goal.at.Else-two-eq3 c).Start) head_size) g.read_message-two.result (second (goal.at.Else-two-eq3 c).After-read_message-two) c.if-two-eq3.false
-
-ends_2 : (c : Else-two-eq3) → let s = c in c.read_message-two.result.end ≡ end_of (src (goal.at.Else-two-eq3 c).Start) (end_of (src (goal.at.Else-two-eq3 c).Start) head_size)
-ends_2 c = let g = c in said_end (src (goal.at.Else-two-eq3 c).Start) (end_of (src (goal.at.Else-two-eq3 c).Start) head_size) g.read_message-two.result (second (goal.at.Else-two-eq3 c).After-read_message-two) (shape_2 c)
-
-all : (c : Else-two-s) → shaped_from (src (goal.at.Else-two-s c).Start) head_size 2 ≡ true
+all : (c : Else-second-a) → shaped_from c.args.a.now head_size 2 ≡ true
 unfolding shaped_from
-all c = let l = c in rw (shape (goal.at.Else-two-s c).Else-one-eq3, shape_2 (goal.at.Else-two-s c).Else-two-eq3) (eq-eqb _ _ (sym (ends_2 (goal.at.Else-two-s c).Else-two-eq3) ∙ c.if-two-s.false))
+all c =
+    let i = (goal.at.Else-second-a c).In_ok-second in
+    rw (c.in_ok-first.ensures.ok.1, shape_2 i) (eq-eqb _ _ (sym (ends_2 i) ∙ c.if-second-a.false))
 
-pub returns-then-one-eq3 : goal.returns-then-one-eq3
+pub returns-in_err-first-clause-err : goal.returns-in_err-first-clause-err
 unfolding shaped_from
-returns-then-one-eq3 c =
-    let s = c in
-    let g = c.read_message-one in
-    let k = c.no_answer.ensures in
-    from_3 (src (goal.at.returns-then-one-eq3 c).Start) 2 s.args.alarm s.args.alarm2 c.no_answer.result (rw (said_3 (src (goal.at.returns-then-one-eq3 c).Start) head_size g.result g.ensures c.if-one-eq3.true) refl) k.0 k.1 k.2 k.3
+returns-in_err-first-clause-err c =
+    let e = c.in_err-first.ensures.err in
+    let p = err_from_is_err_and c.from_residual.result c.from_residual.ensures.1 in
+    rw (p.1, p.2, e.1) (sym (from_3 c.args.a.now 2 (rw e.0 refl)))
 
-pub read_message-two-requires : goal.read_message-two-requires
-read_message-two-requires c =
-    let s = c in
-    omega (arith, ends c, message_inside (src (goal.at.read_message-two-requires c).Start) head_size c.read_message-one.result (shape c))
+pub message_shape-requires-2 : goal.message_shape-requires-2
+message_shape-requires-2 c =
+    omega (arith, ends (goal.at.message_shape-requires-2 c).In_ok-first, message_inside c.args.a.now head_size c.in_ok-first.ensures.ok.1)
 
-pub returns-then-two-eq3 : goal.returns-then-two-eq3
+pub returns-in_err-second-clause-err : goal.returns-in_err-second-clause-err
 unfolding shaped_from
-returns-then-two-eq3 c =
-    let g = c in
-    let s = c in
-    let k = c.no_answer-then-two-eq3.ensures in
-    from_3 (src (goal.at.returns-then-two-eq3 c).Start) 2 s.args.alarm s.args.alarm2 c.no_answer-then-two-eq3.result
-    (rw (shape (goal.at.returns-then-two-eq3 c).Else-one-eq3, said_3 (src (goal.at.returns-then-two-eq3 c).Start) (end_of (src (goal.at.returns-then-two-eq3 c).Start) head_size) g.read_message-two.result (second (goal.at.returns-then-two-eq3 c).After-read_message-two) c.if-two-eq3.true) refl) k.0 k.1 k.2 k.3
+returns-in_err-second-clause-err c =
+    let n = ends (goal.at.returns-in_err-second-clause-err c).In_ok-first in
+    let e = c.in_err-second.ensures.err in
+    let p = err_from_is_err_and c.from_residual-in_err-second.result c.from_residual-in_err-second.ensures.1 in
+    let f = rw n at e.0 in
+    rw (p.1, p.2, e.1) (sym (from_3 c.args.a.now 2 (rw (c.in_ok-first.ensures.ok.1, f) refl)))
 
-pub returns-then-two-s : goal.returns-then-two-s
+pub returns-then-second-a-clause-err : goal.returns-then-second-a-clause-err
 unfolding shaped_from
-returns-then-two-s c =
-    let l = c in
-    let s = c in
-    let k = c.no_answer-then-two-s.ensures in
-    from_3 (src (goal.at.returns-then-two-s c).Start) 2 s.args.alarm s.args.alarm2 c.no_answer-then-two-s.result (rw (shape (goal.at.returns-then-two-s c).Else-one-eq3, shape_2 (goal.at.returns-then-two-s c).Else-two-eq3) (ne_eqb _ _ (λ e. c.if-two-s.true (ends_2 (goal.at.returns-then-two-s c).Else-two-eq3 ∙ e)))) k.0 k.1 k.2 k.3
+returns-then-second-a-clause-err c =
+    let i = (goal.at.returns-then-second-a-clause-err c).In_ok-second in
+    sym (from_3 c.args.a.now 2 (rw (c.in_ok-first.ensures.ok.1, shape_2 i) (ne_eqb _ _ (λ z. c.if-second-a.true (ends_2 i ∙ z)))))
 
--- the first's range
-range : (c : Else-one-eq4) → ranged (src (goal.at.Else-one-eq4 c).Start) head_size ≡ true
-range c =
-    let l = c in
-    let g = c.read_message-one in
-    said_range (src (goal.at.Else-one-eq4 c).Start) head_size g.result g.ensures (shape (goal.at.Else-one-eq4 c).Else-one-eq3) c.if-one-eq4.false
-
-pub returns-then-one-eq4 : goal.returns-then-one-eq4
+pub returns-in_err-record_in-clause-err : goal.returns-in_err-record_in-clause-err
 unfolding ranged_from
-returns-then-one-eq4 c =
-    let m = c in
-    let l = c in
-    let s = c in
-    let g = c.read_message-one in
-    let k = c.no_answer-then-one-eq4.ensures in
-    from_4 (src (goal.at.returns-then-one-eq4 c).Start) 2 s.args.alarm s.args.alarm2 c.no_answer-then-one-eq4.result (all (goal.at.returns-then-one-eq4 c).Else-two-s) (rw (said_4 (src (goal.at.returns-then-one-eq4 c).Start) head_size g.result g.ensures (shape (goal.at.returns-then-one-eq4 c).Else-one-eq3) c.if-one-eq4.true) refl) k.0 k.1 k.2 k.3
+returns-in_err-record_in-clause-err c =
+    let o = c.in_ok-first.ensures.ok.0 in
+    let e = c.in_err-record_in.ensures.err in
+    let p = err_from_is_err_and c.from_residual-in_err-record_in.result c.from_residual-in_err-record_in.ensures.1 in
+    let r = rw o at e.0 in
+    rw (p.1, p.2, e.1) (sym (from_4 c.args.a.now 2 (all (goal.at.returns-in_err-record_in-clause-err c).Else-second-a) (rw r refl)))
 
-pub returns-then-two-eq4 : goal.returns-then-two-eq4
+pub returns-in_err-record_in-2-clause-err : goal.returns-in_err-record_in-2-clause-err
 unfolding ranged_from
-returns-then-two-eq4 c =
-    let n = c in
-    let m = c in
-    let l = c in
-    let g = c in
-    let s = c in
-    let k = c.no_answer-then-two-eq4.ensures in
-    from_4 (src (goal.at.returns-then-two-eq4 c).Start) 2 s.args.alarm s.args.alarm2 c.no_answer-then-two-eq4.result (all (goal.at.returns-then-two-eq4 c).Else-two-s)
-    (rw (range (goal.at.returns-then-two-eq4 c).Else-one-eq4, said_4 (src (goal.at.returns-then-two-eq4 c).Start) (end_of (src (goal.at.returns-then-two-eq4 c).Start) head_size) g.read_message-two.result (second (goal.at.returns-then-two-eq4 c).After-read_message-two) (shape_2 (goal.at.returns-then-two-eq4 c).Else-two-eq3) c.if-two-eq4.true) refl) k.0 k.1 k.2 k.3
+returns-in_err-record_in-2-clause-err c =
+    let i = goal.at.returns-in_err-record_in-2-clause-err c in
+    let e = c.in_err-record_in-2.ensures.err in
+    let p = err_from_is_err_and c.from_residual-in_err-record_in-2.result c.from_residual-in_err-record_in-2.ensures.1 in
+    let r = rw (begins i.In_ok-second) at e.0 in
+    let f = rw c.in_ok-first.ensures.ok.0 at c.in_ok-record_in.ensures.ok in
+    rw (p.1, p.2, e.1) (sym (from_4 c.args.a.now 2 (all i.Else-second-a) (rw (f.0, r) refl)))
 
-pub returns : goal.returns
+pub returns-clause-ok : goal.returns-clause-ok
 unfolding ranged_from messages_from
-returns c =
-    let n = c in
-    let m = c in
-    let l = c in
-    let g = c in
-    let s = c in
-    let f = c in
-    let e = end_of (src (goal.at.returns c).Start) head_size in
-    let q : ranged (src (goal.at.returns c).Start) e ≡ true = said_range (src (goal.at.returns c).Start) e g.read_message-two.result (second (goal.at.returns c).After-read_message-two) (shape_2 (goal.at.returns c).Else-two-eq3) c.if-two-eq4.false in
-    from_0 (src (goal.at.returns c).Start) 2 s.args.alarm s.args.alarm2 _ (all (goal.at.returns c).Else-two-s) (rw (range (goal.at.returns c).Else-one-eq4, q) refl) refl refl refl
-    (record {
-      count = refl;
-      first = said_record (src (goal.at.returns c).Start) head_size c.read_message-one.result c.read_message-one.ensures (shape (goal.at.returns c).Else-one-eq3) (range (goal.at.returns c).Else-one-eq4);
-      second = said_record (src (goal.at.returns c).Start) e g.read_message-two.result (second (goal.at.returns c).After-read_message-two) (shape_2 (goal.at.returns c).Else-two-eq3) q;
-    })
+returns-clause-ok c =
+    let i = goal.at.returns-clause-ok c in
+    let f = rw c.in_ok-first.ensures.ok.0 at c.in_ok-record_in.ensures.ok in
+    let g = rw (begins i.In_ok-second) at c.in_ok-record_in-2.ensures.ok in
+    record {
+      shapes = all i.Else-second-a;
+      ranges = rw (f.0, g.0) refl;
+      messages = λ j. f.1 j ∷ g.1 j ∷ [];
+    }

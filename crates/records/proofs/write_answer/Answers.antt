@@ -1,11 +1,11 @@
 -- `records::write_answer`: the messages, then the head before them. Assumes nothing.
 use borrow.Author.Tests.{eq-eqb, ne_eqb, le-leb, lt-leb}
-use mathlib.Core.Path.{refl, sym, ◌∙◌}
-use mathlib.Core.List.{List, []}
+use Rattle.std.proofs.Common.{refl, ◌∙◌}
+use mathlib.Core.List.{List}
 use Prim.Native.Nat.{ℕ}
 use native.Mathlib.Omega.{arith}
 use Rattle.prelude.specs.Cases.{if◌then◌otherwise◌}
-use Rattle.records.specs.Laws.Writing.{record_most, length_answer, none_splice, one_length, one_splice, two_length, two_splice}
+use Rattle.records.specs.Laws.Writing.{record_most, one_length, one_splice, two_length, two_splice}
 use Rattle.records.proofs.write_answer.Goals as goal
 use Rattle.records.proofs.write_answer.Goals.{Start}
 
@@ -18,28 +18,22 @@ returns-then-answer-lt1024 c = rw (lt-leb _ _ c.if-answer-lt1024.true) (refl, re
 
 pub returns-then-count-eq0 : goal.returns-then-count-eq0
 unfolding if◌then◌otherwise◌
-returns-then-count-eq0 c =
-    let l = c in
-    let s = c in
-    rw (le-leb _ _ l.if-answer-lt1024.false, eq-eqb _ 0 c.if-count-eq0.true)
-    (sym (length_answer s.args.alarm s.args.alarm2 []), c.put_head.ensures ∙ none_splice (dst (goal.at.returns-then-count-eq0 c).Start) s.args.alarm s.args.alarm2 l.if-answer-lt1024.false)
+returns-then-count-eq0 c = rw (le-leb _ _ c.if-answer-lt1024.false, eq-eqb _ 0 c.if-count-eq0.true) c.write_none.ensures
 
 pub put_record-p-requires : goal.put_record-p-requires
 put_record-p-requires c = omega (arith, record_most c.args.first)
 
-pub overflow_cast-result-then-count-eq1 : goal.overflow_cast-result-then-count-eq1
-overflow_cast-result-then-count-eq1 c = omega (arith, record_most c.args.first, c.put_record-p.ensures.0)
+pub overflow_cast-result : goal.overflow_cast-result
+overflow_cast-result c = omega (arith, record_most c.args.first, c.put_record-p.ensures.0)
 
 pub returns-then-count-eq1 : goal.returns-then-count-eq1
 unfolding if◌then◌otherwise◌
 returns-then-count-eq1 c =
-    let l = c in
-    let s = c in
-    let a = s.args in
+    let a = c.args in
     let r = c.put_record-p in
-    rw (le-leb _ _ l.if-answer-lt1024.false, ne_eqb _ 0 c.if-count-eq0.false, eq-eqb _ 1 c.if-count-eq1.true) (
-      one_length (dst (goal.at.returns-then-count-eq1 c).Start) a.alarm a.alarm2 l.if-answer-lt1024.false a.first r.result r.ensures.0,
-      c.put_head-then-count-eq1.ensures ∙ (rw r.ensures.1 (one_splice (dst (goal.at.returns-then-count-eq1 c).Start) a.alarm a.alarm2 l.if-answer-lt1024.false a.first r.result r.ensures.0)),
+    rw (le-leb _ _ c.if-answer-lt1024.false, ne_eqb _ 0 c.if-count-eq0.false, eq-eqb _ 1 c.if-count-eq1.true) (
+      one_length (dst (goal.at.returns-then-count-eq1 c).Start) a.alarm a.alarm2 c.if-answer-lt1024.false a.first r.result r.ensures.0,
+      c.put_head.ensures ∙ (rw r.ensures.1 (one_splice (dst (goal.at.returns-then-count-eq1 c).Start) a.alarm a.alarm2 c.if-answer-lt1024.false a.first r.result r.ensures.0)),
     )
 
 pub put_record-q-requires : goal.put_record-q-requires
@@ -60,15 +54,13 @@ overflow_cast-result-2 c =
 pub returns : goal.returns
 unfolding if◌then◌otherwise◌
 returns c =
-    let l = c in
-    let s = c in
-    let a = s.args in
+    let a = c.args in
     let r = c.put_record-p in
     let q = c.put_record-q in
     let d = dst (goal.at.returns c).Start in
-    rw (le-leb _ _ l.if-answer-lt1024.false, ne_eqb _ 0 c.if-count-eq0.false, ne_eqb _ 1 c.if-count-eq1.false) (
-      two_length d a.alarm a.alarm2 l.if-answer-lt1024.false a.first r.result r.ensures.0 a.second q.result q.ensures.0,
+    rw (le-leb _ _ c.if-answer-lt1024.false, ne_eqb _ 0 c.if-count-eq0.false, ne_eqb _ 1 c.if-count-eq1.false) (
+      two_length d a.alarm a.alarm2 c.if-answer-lt1024.false a.first r.result r.ensures.0 a.second q.result q.ensures.0,
       c.put_head-2.ensures
           ∙ (rw (q.ensures.1, r.ensures.1)
-          (two_splice d a.alarm a.alarm2 l.if-answer-lt1024.false a.first r.result r.ensures.0 a.second q.result q.ensures.0)),
+          (two_splice d a.alarm a.alarm2 c.if-answer-lt1024.false a.first r.result r.ensures.0 a.second q.result q.ensures.0)),
     )

@@ -1,13 +1,11 @@
 -- Laws by which what code finds of a message in place is what Parts says. Rests on Parts and Reading.
-use Rattle.std.specs.Prelude.{ℕ, ◌≤◌, ◌<◌, ◌≡◌, List, true, false, length}
+use Rattle.std.specs.Prelude.{ℕ, ◌≡◌, List, true, false, length}
 use Rattle.std.proofs.Math.Path.{refl}
-use Rattle.std.proofs.Common.{sym, ap, ◌∙◌}
-use borrow.Author.Tests.{le-leb, lt-leb, eq-eqb, ne_eqb}
+use borrow.Author.Tests.{eq-eqb, ne_eqb}
 use Rattle.prelude.specs.Cases.{if◌then◌otherwise◌}
-use Rattle.format.specs.Places.{kind_at, end_of, shaped}
+use Rattle.format.specs.Places.{end_of}
 use Rattle.format.specs.Refusal.{message_shaped, ranged}
-use Rattle.records.specs.declared.parts.Parts.{Parts}
-use Rattle.records.specs.Parts.{whole_message, parts_refusal, no_parts, PartsOf}
+use Rattle.records.specs.Parts.{whole_message, parts_refusal}
 
 module _ (s : List ℕ) where
   pub refusal_3 : whole_message s ≡ false → parts_refusal s ≡ 3
@@ -22,29 +20,15 @@ module _ (s : List ℕ) where
   unfolding if◌then◌otherwise◌
   refusal_0 h g = rw (h, g) refl
 
-  pub parts_none : (n : ℕ) (r : Parts) → r ≡ no_parts n → parts_refusal s ≡ n → (n ≡ 0 → ⊥) → PartsOf s r
-  parts_none n r q e z = record {
-    refusal = ap (λ (p : Parts). p.refusal) q ∙ sym e;
-    nothing = λ x. q ∙ ap no_parts (sym e);
-    map = λ x. absurd (z (sym e ∙ x));
-    places = λ x. absurd (z (sym e ∙ x));
-    numbers = λ x. absurd (z (sym e ∙ x));
-    high = λ x. absurd (z (sym e ∙ x));
-  }
-
   -- when it is no message
-  pub no_shape : shaped s 0 ≡ false → whole_message s ≡ false
-  unfolding whole_message message_shaped
-  no_shape h = rw h refl
+  pub no_message : message_shaped s 0 ≡ false → whole_message s ≡ false
+  unfolding whole_message
+  no_message h = rw h refl
 
-  pub no_kind : shaped s 0 ≡ true → kind_at s 0 < 16 → whole_message s ≡ false
-  unfolding whole_message message_shaped
-  no_kind h k = rw (h, lt-leb 16 (kind_at s 0) k) refl
+  pub no_end : message_shaped s 0 ≡ true → (end_of s 0 ≡ length s → ⊥) → whole_message s ≡ false
+  unfolding whole_message
+  no_end h n = rw (h, ne_eqb (end_of s 0) (length s) n) refl
 
-  pub no_end : shaped s 0 ≡ true → 16 ≤ kind_at s 0 → (end_of s 0 ≡ length s → ⊥) → whole_message s ≡ false
-  unfolding whole_message message_shaped
-  no_end h k n = rw (h, le-leb 16 (kind_at s 0) k, ne_eqb (end_of s 0) (length s) n) refl
-
-  pub is_whole_lem : shaped s 0 ≡ true → 16 ≤ kind_at s 0 → end_of s 0 ≡ length s → whole_message s ≡ true
-  unfolding whole_message message_shaped
-  is_whole_lem h k e = rw (h, le-leb 16 (kind_at s 0) k, eq-eqb (end_of s 0) (length s) e) refl
+  pub is_whole_lem : message_shaped s 0 ≡ true → end_of s 0 ≡ length s → whole_message s ≡ true
+  unfolding whole_message
+  is_whole_lem h e = rw (h, eq-eqb (end_of s 0) (length s) e) refl

@@ -1,36 +1,28 @@
 -- What the functions inside the crate promise each other: the words of their contracts. No promise to others rests on them.
 -- Rests on Record and Answer.
-use Rattle.std.specs.Prelude.{ℕ, ◌-◌, ◌<◌, ◌≤◌, Bool, true, List, [], ◌≡◌, eqb, get_or, drop}
+use Rattle.std.specs.Prelude.{ℕ, ◌-◌, ◌<◌, ◌≤◌, Bool, true, List, ◌≡◌, get_or, drop}
 use Rattle.prelude.specs.Below.{all_below}
 use Rattle.prelude.specs.Cases.{if◌then◌otherwise◌}
 use Rattle.prelude.specs.Number.{number}
-use Rattle.prelude.specs.Span.{span}
 use Rattle.bits.specs.Map.{bit}
 use Rattle.format.specs.Format.{range, in_range}
 use Rattle.format.specs.Laws.Seen.{between, held_at, right_in}
-use Rattle.format.specs.Places.{start, strip, value, map_at, end_of, shaped}
-use Rattle.records.specs.declared.AnswerRead.{AnswerRead}
-use Rattle.records.specs.declared.Got.{Got}
-use Rattle.records.specs.declared.Numbers.{Numbers}
+use Rattle.format.specs.Places.{start, strip, content, value, map_at, shaped}
+use Rattle.format.specs.Refusal.{refusal_by, ranged}
+use Rattle.records.specs.declared.Messages.{Messages}
 use Rattle.records.specs.declared.Record.{Record}
 use Rattle.records.specs.declared.Shape.{Shape}
-use Rattle.records.specs.Answer.{head_size, messages_from, shaped_from, ranged_from, Holds}
-use Rattle.records.specs.Fields.{record_from, ids_of, long_of, blank}
-use Rattle.records.specs.Record.{record_at, message_of}
-use Rattle.format.specs.Refusal.{refusal_by, record_refusal, message_shaped, message_refusal}
+use Rattle.records.specs.Answer.{head_size, messages_of, messages_from, shaped_from, ranged_from}
+use Rattle.records.specs.Fields.{record_from, ids_of, long_of}
 
--- ---- a scan of fields
+-- ---- the bytes of one field
 
--- the number of field b between two places, and whether it is in range
-abbrev pub held_in : List ℕ → ℕ → ℕ → ℕ → ℕ → ℕ
-held_in s m b from to = if bit m b then value b (strip b (span s from (to - from))) otherwise 0
+-- the number in them, and whether it is in range
+abbrev pub held_field : ℕ → ℕ → List ℕ → ℕ
+held_field m b l = if bit m b then value b (strip b l) otherwise 0
 
-abbrev pub right_of : List ℕ → ℕ → ℕ → ℕ → ℕ → Bool
-right_of s m b from to = if bit m b then in_range (range b) (value b (strip b (span s from (to - from)))) otherwise true
-
-pub record Scanned (s : List ℕ) (m : ℕ) (at : List ℕ) (r : Numbers) : Type 0 where
-  pub right : r.right ≡ all_below (right_in s m at) 32
-  pub numbers : r.right ≡ true → (b : ℕ) → b < 32 → get_or r.numbers b 0 ≡ held_at s m at b
+abbrev pub right_field : ℕ → ℕ → List ℕ → Bool
+right_field m b l = if bit m b then in_range (range b) (value b (strip b l)) otherwise true
 
 -- ---- places and numbers
 
@@ -71,32 +63,28 @@ built_from s k m at n = record_from k m n (number (drop 8 (between s at 26))) (i
 
 -- ---- records
 
--- its shape: the map and the places are those of a record that has one
-pub record Shapes (s : List ℕ) (o : ℕ) (r : Shape) : Type 0 where
-  pub whole : r.whole ≡ shaped s o
-  pub map : r.whole ≡ true → r.map ≡ map_at s o
-  pub places : r.whole ≡ true → (k : ℕ) → k ≤ 32 → get_or r.at k 0 ≡ start s o (map_at s o) k
+-- the shape of a record that has one
+pub record Shapes (s : List ℕ) (r : Shape) : Type 0 where
+  pub is : shaped s r.start ≡ true
+  pub map : r.map ≡ map_at s r.start
+  pub places : (k : ℕ) → k ≤ 32 → get_or r.at k 0 ≡ start s r.start (map_at s r.start) k
 
--- a record, or why there is none, and where it ends
-pub record Reads (s : List ℕ) (o : ℕ) (r : Got) : Type 0 where
-  pub refusal : r.refusal ≡ record_refusal s o
-  pub end : r.end ≡ (if shaped s o then end_of s o otherwise 0)
-  pub taken : r.taken ≡ (if eqb (record_refusal s o) 0 then record_at s o otherwise blank)
+-- the numbers of its fields, each in its range
+pub record Scanned (s : List ℕ) (r : Shape) (n : List ℕ) : Type 0 where
+  pub right : all_below (right_in s r.map r.at) 32 ≡ true
+  pub numbers : (b : ℕ) → b < 32 → get_or n b 0 ≡ held_at s r.map r.at b
 
--- ---- messages
+-- and the name is one
+pub record Numbered (s : List ℕ) (r : Shape) (n : List ℕ) : Type 0 where
+  pub right : ranged s r.start ≡ true
+  pub numbers : (b : ℕ) → b < 32 → get_or n b 0 ≡ value b (content s r.start (map_at s r.start) b)
 
--- a message, or why there is none, and where it ends
-pub record ReadsMessage (s : List ℕ) (o : ℕ) (r : Got) : Type 0 where
-  pub refusal : r.refusal ≡ message_refusal s o
-  pub end : r.end ≡ (if message_shaped s o then end_of s o otherwise 0)
-  pub taken : r.taken ≡ message_of s o
+-- ---- messages: n of them that fill s behind the head
 
--- n messages that fill s behind the head
 abbrev pub refusal_from : List ℕ → ℕ → ℕ
 refusal_from s n = refusal_by (shaped_from s head_size n) (ranged_from s head_size n)
 
-pub record ReadsFrom (s : List ℕ) (n a a2 : ℕ) (r : AnswerRead) : Type 0 where
-  pub refusal : r.refusal ≡ refusal_from s n
-  pub alarm : r.alarm ≡ (if eqb (refusal_from s n) 0 then a otherwise 0)
-  pub alarm2 : r.alarm2 ≡ (if eqb (refusal_from s n) 0 then a2 otherwise 0)
-  pub messages : Holds (if eqb (refusal_from s n) 0 then messages_from s head_size n otherwise []) r
+pub record MessagesIn (s : List ℕ) (n : ℕ) (ms : Messages) : Type 0 where
+  pub shapes : shaped_from s head_size n ≡ true
+  pub ranges : ranged_from s head_size n ≡ true
+  pub messages : messages_of ms ≡ messages_from s head_size n

@@ -1,91 +1,61 @@
--- `decide` meets its contract, rule by rule. Rests on Keeps and Things.
-use Rattle.std.proofs.Common.{sym, ◌∙◌, rules}
-use borrow.Author.Tests.{not-true, not-false}
-use Rattle.rules.specs.Laws.Things.{names_placed, keys_placed}
+-- `decide` meets its contract, rule by rule. Rests on Ruled and Things.
+use Rattle.std.proofs.Common.{◌≡◌, ◌&&◌, false, sym, ◌∙◌, arith}
+use Rattle.std.proofs.Math.Bool.{and_assoc}
+use Rattle.prelude.specs.Below.{all_below}
+use Rattle.rules.specs.Laws.Here.{links_of}
+use Rattle.rules.specs.Laws.Things.{clear_at, names_placed, keys_placed}
 use Rattle.rules.specs.Laws.Ruled.{decided}
 use Rattle.rules.proofs.decide.Goals as goal
+use Rattle.rules.proofs.decide.Goals.{then-links_ok, else-links_ok}
 
 pub returns-then-not-ranges_ok : goal.returns-then-not-ranges_ok
 unfolding decided
 returns-then-not-ranges_ok c = rw (← c.ranges_ok.ensures, c.if-not-ranges_ok.true)
 
-pub requests_ok-pass-requires : goal.requests_ok-pass-requires
-requests_ok-pass-requires c = let s = c in
-    (s.requires.0, s.requires.1, s.requires.2, sym c.ranges_ok.ensures ∙ c.if-not-ranges_ok.false)
-
-pub returns-then-not-pass : goal.returns-then-not-pass
+pub returns-in_default : goal.returns-in_default
 unfolding decided
-returns-then-not-pass c = let p = c in
-    let r = c in
-    rw (
-      ← r.ranges_ok.ensures,
-      c.if-not-ranges_ok.false,
-      ← p.requests_ok-pass.ensures.right,
-      not-true p.requests_ok-pass.result.ok c.if-not-pass.true,
-    )
-
-pub links_ok-requires : goal.links_ok-requires
-links_ok-requires c = let i = c in
-    let p = c in
-    let s = c in
-    (s.requires.0, s.requires.1, s.requires.2, p.requests_ok-pass.ensures.counted (not-false _ i.if-not-pass.false))
-
-pub returns-then-not-links_ok : goal.returns-then-not-links_ok
-unfolding decided
-returns-then-not-links_ok c = let k = c in
-    let i = c in
-    let p = c in
-    let r = c in
-    rw (
-      ← r.ranges_ok.ensures,
-      c.if-not-ranges_ok.false,
-      ← p.requests_ok-pass.ensures.right,
-      not-false p.requests_ok-pass.result.ok i.if-not-pass.false,
-      ← k.links_ok.ensures,
-      c.if-not-links_ok.true,
-    )
+returns-in_default c = rw (sym c.ranges_ok.ensures ∙ c.if-not-ranges_ok.false, c.in_default.ensures)
 
 pub distinct-requires : goal.distinct-requires
-distinct-requires c = let s = c in
-    (s.requires.0, search rules, names_placed s.args.book.now s.args.n s.requires.1)
+distinct-requires c = (omega arith, names_placed c.args.book.now.bytes.now c.args.book.now.orders (omega arith))
 
-pub returns-then-not-distinct : goal.returns-then-not-distinct
+pub distinct-requires-then-distinct : goal.distinct-requires-then-distinct
+distinct-requires-then-distinct c =
+    let book = c.args.book.now in
+    (omega arith, keys_placed book.bytes.now book.orders (omega arith) book.requests (omega arith) c.in-Some.ensures.right)
+
+pub returns-then-distinct : goal.returns-then-distinct
 unfolding decided
-returns-then-not-distinct c = let k = c in
-    let i = c in
-    let p = c in
-    let r = c in
+returns-then-distinct c =
+    let b = c.args.book.now.bytes.now in
+    let n = c.args.book.now.orders in
+    let m = c.args.book.now.requests in
+    let two : c.if-links_ok.value ≡ all_below (links_of b m) n && all_below (clear_at b false) n =
+    elim c.if-links_ok.branch [
+      | then-links_ok w ↦ w.value-is ∙ w.distinct.ensures ∙ rw (sym c.links_ok.ensures ∙ w.if-links_ok.true)
+      | else-links_ok w ↦ w.value-is ∙ w.if-links_ok.false ∙ rw (sym c.links_ok.ensures ∙ w.if-links_ok.false)
+    ] in
     rw (
-      ← r.ranges_ok.ensures,
-      c.if-not-ranges_ok.false,
-      ← p.requests_ok-pass.ensures.right,
-      not-false p.requests_ok-pass.result.ok i.if-not-pass.false,
-      ← k.links_ok.ensures,
-      c.if-not-links_ok.false,
-      ← c.distinct.ensures,
-      c.if-not-distinct.true,
-    )
+      sym c.ranges_ok.ensures ∙ c.if-not-ranges_ok.false,
+      c.in-Some.ensures.right,
+      ← and_assoc (all_below (links_of b m) n) (all_below (clear_at b false) n),
+      sym two ∙ c.if-distinct.true,
+    ) c.distinct-then-distinct.ensures
 
-pub distinct-requires-2 : goal.distinct-requires-2
-distinct-requires-2 c = let i = c in
-    let p = c in
-    let s = c in
-    (s.requires.0, s.requires.2, keys_placed s.args.book.now s.args.n s.requires.1 s.args.m s.requires.2 (sym p.requests_ok-pass.ensures.right ∙ not-false _ i.if-not-pass.false))
-
-pub returns : goal.returns
+pub returns-else-distinct : goal.returns-else-distinct
 unfolding decided
-returns c = let d = c in
-    let k = c in
-    let i = c in
-    let p = c in
-    let r = c in
+returns-else-distinct c =
+    let b = c.args.book.now.bytes.now in
+    let n = c.args.book.now.orders in
+    let m = c.args.book.now.requests in
+    let two : c.if-links_ok.value ≡ all_below (links_of b m) n && all_below (clear_at b false) n =
+    elim c.if-links_ok.branch [
+      | then-links_ok w ↦ w.value-is ∙ w.distinct.ensures ∙ rw (sym c.links_ok.ensures ∙ w.if-links_ok.true)
+      | else-links_ok w ↦ w.value-is ∙ w.if-links_ok.false ∙ rw (sym c.links_ok.ensures ∙ w.if-links_ok.false)
+    ] in
     rw (
-      ← r.ranges_ok.ensures,
-      c.if-not-ranges_ok.false,
-      ← p.requests_ok-pass.ensures.right,
-      not-false p.requests_ok-pass.result.ok i.if-not-pass.false,
-      ← k.links_ok.ensures,
-      c.if-not-links_ok.false,
-      ← d.distinct.ensures,
-      c.if-not-distinct.false,
-    ) c.distinct-2.ensures
+      sym c.ranges_ok.ensures ∙ c.if-not-ranges_ok.false,
+      c.in-Some.ensures.right,
+      ← and_assoc (all_below (links_of b m) n) (all_below (clear_at b false) n),
+      sym two ∙ c.if-distinct.false,
+    ) c.if-distinct.false

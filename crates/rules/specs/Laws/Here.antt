@@ -92,10 +92,10 @@ module _ (b : List ℕ) (n j o : ℕ) (e : (request_at b j).order ≡ o) where
   unfolding request_rule_at
   rule_booked k h c = rw (e, lt-ltb _ _ h, ← c)
 
--- what the pass over the requests tells
-pub record IsPass (b : List ℕ) (n m : ℕ) (ok : Bool) (next : List ℕ) : Type 0 where
-  pub right : ok ≡ all_below (pass_at b n) m
-  pub counted : ok ≡ true → (o : ℕ) → o < most_orders → slice_index next o ≡ count_below (of_order_at b o) m
+-- what the pass over the requests tells where they keep their rules
+pub record IsPass (b : List ℕ) (n m : ℕ) (next : List ℕ) : Type 0 where
+  pub right : all_below (pass_at b n) m ≡ true
+  pub counted : (o : ℕ) → o < most_orders → slice_index next o ≡ count_below (of_order_at b o) m
 
 -- ---- names and keys
 

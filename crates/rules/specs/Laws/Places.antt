@@ -1,7 +1,7 @@
 -- Texts in a buffer, by words and parts: two of them compared, the zeros behind one, and its cell. Rests on text's ByWords.
 use Rattle.std.specs.Prelude.{◌≡◌, ℕ, zero, suc, ◌+◌, ◌-◌, ◌%◌, ◌^◌, ◌<◌, ◌≤◌, Bool, true, false, ◌&&◌, List, [], ◌∷◌, length, ◌==◌, nat_eq, nat_le, slice_index, slice_index_or, refl}
 use Rattle.std.proofs.Common.{sym, ap, ap₂, ◌∙◌, eqb-true, eq-eqb, lt-ltb, le-ltb, le-leb}
-use Rattle.std.proofs.Math.Bool.{and-true, and-false}
+use Rattle.std.proofs.Math.Bool.{and-true, and-false, and_assoc}
 use Rattle.std.proofs.Math.Decide.{dec_lt}
 use native.Mathlib.Omega.{arith}
 use Rattle.prelude.specs.Below.{all_below, all_intro, all_elim}
@@ -13,18 +13,25 @@ use Rattle.prelude.specs.Bytes.{bytes_span}
 use Rattle.prelude.specs.declared.Text.{Text}
 use Rattle.text.specs.Laws.ByWords.{word_in, word_first, same_words}
 
--- the words of the texts at two indexes agree
+-- two words at two indexes agree, and all four of the texts there
+abbrev pub pair_agrees : List ℕ → ℕ → ℕ → Bool
+pair_agrees s x y = (word64 s x == word64 s y) && word64 s (x + 8) == word64 s (y + 8)
+
 abbrev pub words_agree : List ℕ → ℕ → ℕ → Bool
-words_agree s x y =
-    (word64 s x == word64 s y) && word64 s (x + 8) == word64 s (y + 8) && word64 s (x + 16) == word64 s (y + 16)
-    && word64 s (x + 24) == word64 s (y + 24)
+words_agree s x y = pair_agrees s x y && pair_agrees s (x + 16) (y + 16)
 
 module _ (s : List ℕ) (bytes : Bytes s) (x y : ℕ) (hx : x + 33 ≤ length s) (hy : y + 33 ≤ length s) where
   -- THE LAW of two texts compared by words
   pub same_here : nat_eq (slice_index s (x + 32)) (slice_index s (y + 32)) && words_agree s x y ≡ same_text (text_at s x) (text_at s y)
   same_here =
-      rw (sym (word_first s y), sym (word_in s y 8 (omega arith)), sym (word_in s y 16 (omega arith)), sym (word_in s y 24 (omega arith)))
-      (same_words s x (text_at s y) bytes hx (length_span s y 32 (omega arith)) (bytes_span s y 32 bytes))
+      let t = text_at s y in
+      let p : x + 16 + 8 ≡ x + 24 = omega arith in
+      let q : y + 16 + 8 ≡ y + 24 = omega arith in
+      let two : Bool = nat_eq (word64 s x) (word64 t.bytes 0) && nat_eq (word64 s (x + 8)) (word64 t.bytes 8) in
+      rw (p, q, sym (word_first s y), sym (word_in s y 8 (omega arith)), sym (word_in s y 16 (omega arith)), sym (word_in s y 24 (omega arith)))
+      (ap (λ (v : Bool). nat_eq (slice_index s (x + 32)) (slice_index s (y + 32)) && v)
+      (sym (and_assoc two (nat_eq (word64 s (x + 16)) (word64 t.bytes 16)) (nat_eq (word64 s (x + 24)) (word64 t.bytes 24))))
+      ∙ same_words s x t bytes hx (length_span s y 32 (omega arith)) (bytes_span s y 32 bytes))
 
   -- the words one by one: one that differs, or all the same
   pub other_word : words_agree s x y ≡ false → same_text (text_at s x) (text_at s y) ≡ false

@@ -1,42 +1,23 @@
 -- `call_of` is `call_of`: the questions in their order, or the change. Assumes nothing.
-use borrow.Author.Tests.{eq-eqb, ne_eqb}
-use native.Mathlib.Omega.{arith}
-use mathlib.Core.Path.{ap, ◌∙◌}
-use mathlib.Core.Bool.{not}
-use Rattle.step.specs.Laws.Asked.{found_not, found_so, read_few, call_1, call_2, call_3, call_5}
+use Rattle.std.proofs.Common.{refl, sym, ◌∙◌}
+use borrow.Author.Tests.{eq-eqb}
+use Rattle.std.proofs.lemmas.Result.{err_from_is_err_and}
+use Rattle.step.specs.Laws.Taken.{numbered}
+use Rattle.step.specs.Laws.Asked.{call_1, call_2, call_3, call_5}
 use Rattle.step.proofs.call_of.Goals as goal
 
-pub returns-then-not-keeps : goal.returns-then-not-keeps
-returns-then-not-keeps c =
-    let t = c in
-    c.refusing.ensures ∙ call_1 _ _ _ (found_not _ _ c.keeps.ensures (ap not t.if-not-keeps.true))
+pub returns-then-not-keeps-clause-is : goal.returns-then-not-keeps-clause-is
+returns-then-not-keeps-clause-is c = call_1 _ _ _ (sym c.keeps.ensures ∙ c.if-not-keeps.true)
 
-pub returns-then-room-lt-SHORTEST_ANSWER : goal.returns-then-room-lt-SHORTEST_ANSWER
-returns-then-room-lt-SHORTEST_ANSWER c =
-    let u = c in
-    let t = c in
-    c.refusing-then-room-lt-SHORTEST_ANSWER.ensures ∙ call_2 _ _ _ (found_so _ _ c.keeps.ensures (ap not t.if-not-keeps.false)) u.if-room-lt-SHORTEST_ANSWER.true
+pub returns-then-room-lt-SHORTEST_ANSWER-clause-is : goal.returns-then-room-lt-SHORTEST_ANSWER-clause-is
+returns-then-room-lt-SHORTEST_ANSWER-clause-is c = call_2 _ _ _ (sym c.keeps.ensures ∙ c.if-not-keeps.false) c.if-room-lt-SHORTEST_ANSWER.true
 
-pub overflow_cast-read : goal.overflow_cast-read
-overflow_cast-read c = omega (arith, read_few _ _ c.read_event-read.ensures.0)
+pub returns-in_err-event-clause-is : goal.returns-in_err-event-clause-is
+returns-in_err-event-clause-is c =
+    let p = err_from_is_err_and c.from_residual.result c.from_residual.ensures.1 in
+    rw (p.1, p.2) (call_3 _ _ _ (sym c.keeps.ensures ∙ c.if-not-keeps.false) c.if-room-lt-SHORTEST_ANSWER.false _ c.in_err-event.ensures.err (numbered _))
 
-pub returns-then-read-ne0 : goal.returns-then-read-ne0
-returns-then-read-ne0 c =
-    let w = c in
-    let e = c in
-    let u = c in
-    let t = c in
-    c.refusing-then-read-ne0.ensures ∙ call_3 _ _ _ (found_so _ _ c.keeps.ensures (ap not t.if-not-keeps.false)) u.if-room-lt-SHORTEST_ANSWER.false _ e.read_event-read.ensures.0 (ne_eqb _ _ w.if-read-ne0.true)
-
-pub step_of-requires : goal.step_of-requires
-step_of-requires c =
-    let t = c in
-    found_so _ _ c.keeps.ensures (ap not t.if-not-keeps.false)
-
-pub returns : goal.returns
-returns c =
-    let w = c in
-    let e = c in
-    let u = c in
-    let t = c in
-    call_5 _ _ _ (found_so _ _ c.keeps.ensures (ap not t.if-not-keeps.false)) u.if-room-lt-SHORTEST_ANSWER.false _ e.read_event-read.ensures.0 (eq-eqb _ _ w.if-read-ne0.false) _ e.read_event-read.ensures.1 _ c.step_of.ensures
+pub returns-clause-is : goal.returns-clause-is
+returns-clause-is c =
+    let e = c.in_ok-event.ensures.ok in
+    call_5 _ _ _ (sym c.keeps.ensures ∙ c.if-not-keeps.false) c.if-room-lt-SHORTEST_ANSWER.false _ refl (eq-eqb _ _ e.0) _ e.1 _ c.step_of.ensures.is

@@ -1,7 +1,7 @@
 -- The questions as the code comes to them: what a call is once some are asked. Rests on Entries.
-use Rattle.std.specs.Prelude.{ℕ, ◌≤◌, ◌<◌, ◌≡◌, Bool, not, List, leb, ltb}
+use Rattle.std.specs.Prelude.{ℕ, ◌≤◌, ◌<◌, ◌≡◌, ◌≢◌, Bool, not, List, leb, ltb}
 use Rattle.std.proofs.Math.Path.{refl}
-use Rattle.std.proofs.Common.{sym, arith}
+use Rattle.std.proofs.Common.{arith}
 use Rattle.std.proofs.Math.Bool.{true, false}
 use Rattle.std.proofs.Math.Decide.{dec_lt}
 use Rattle.std.proofs.Math.Dec.{eqb}
@@ -16,24 +16,16 @@ use Rattle.machine.specs.Machine.{step_of}
 use Rattle.opens.specs.Keeps.{keeps_of}
 use Rattle.step.specs.Entries.{call_of}
 
--- a test that the code has negated
-pub found_not : (x y : Bool) → x ≡ y → not x ≡ true → y ≡ false
-found_not true y e h = clash false h refl
-found_not false y e h = sym e
+-- a record that is refused gets 3 or 4
+abbrev ThreeFour : ℕ → Type 0
+ThreeFour n = n ≢ 0 → n ≢ 3 → n ≡ 4
 
-pub found_so : (x y : Bool) → x ≡ y → not x ≡ false → y ≡ true
-found_so true y e h = sym e
-found_so false y e h = clash true refl h
-
--- what a record is refused with fits a byte
-few : (r : List ℕ) → event_refusal r ≤ 4
+four : (r : List ℕ) → ThreeFour (event_refusal r)
 unfolding event_refusal
-few r =
-    let P : ℕ → Type 0 = λ n. n ≤ 4 in
-    split_if P _ (λ t. split_if P _ (λ u. omega arith) (λ u. omega arith)) (λ t. omega arith)
+four r = split_if ThreeFour _ (λ t. split_if ThreeFour _ (λ u z h. absurd (z refl)) (λ u z h. refl)) (λ t z h. absurd (h refl))
 
-pub read_few : (r : List ℕ) (n : ℕ) → n ≡ event_refusal r → n ≤ 4
-read_few r n e = omega (arith, few r)
+pub read_four : (r : List ℕ) (n : ℕ) → n ≡ event_refusal r → ThreeFour n
+read_four r n e = rw e (four r)
 
 module _ (b r : List ℕ) (room : ℕ) where
   -- ---- question 1

@@ -1,20 +1,12 @@
 -- `add_order` meets its contract: one case of the definition at each return. Assumes nothing.
-use borrow.Author.Tests.{eq-eqb, ne_eqb, lt-ltb, le-ltb}
 use Rattle.prelude.specs.Cases.{if◌then◌otherwise◌}
 use Rattle.store.specs.Book.{add_order, set_count}
 use Rattle.store.proofs.add_order.Goals as goal
 
-pub returns-then-book-ne-BOOK : goal.returns-then-book-ne-BOOK
-unfolding add_order if◌then◌otherwise◌
-returns-then-book-ne-BOOK c = rw (ne_eqb _ _ c.if-book-ne-BOOK.true)
-
-pub returns-then-n-ge-MOST_ORDERS : goal.returns-then-n-ge-MOST_ORDERS
-unfolding add_order if◌then◌otherwise◌
-returns-then-n-ge-MOST_ORDERS c = rw (eq-eqb _ _ c.if-book-ne-BOOK.false, ← c.order_count-n.ensures, le-ltb _ _ c.if-n-ge-MOST_ORDERS.true)
-
-pub returns : goal.returns
+pub returns-then-has_record : goal.returns-then-has_record
 unfolding add_order set_count if◌then◌otherwise◌
-returns c = let p = c in
-    let w = c in
-    let t = c in
-    rw (eq-eqb _ _ c.if-book-ne-BOOK.false, ← c.order_count-n.ensures, lt-ltb _ _ t.if-n-ge-MOST_ORDERS.false, p.put16.ensures, w.write.ensures)
+returns-then-has_record c = rw (← c.order_count-n.ensures, ← c.has_record.ensures, c.if-has_record.true, c.put16.ensures, c.write_order.ensures)
+
+pub returns-else-has_record : goal.returns-else-has_record
+unfolding add_order if◌then◌otherwise◌
+returns-else-has_record c = rw (← c.order_count-n.ensures, ← c.has_record.ensures, c.if-has_record.false)

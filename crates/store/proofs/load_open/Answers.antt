@@ -1,18 +1,21 @@
--- `load_open` meets its contract: one case of the definition at each return. Assumes nothing.
-use borrow.Author.Tests.{eq-eqb, ne_eqb, lt-ltb, le-ltb}
-use Rattle.prelude.specs.Cases.{if◌then◌otherwise◌}
+-- `load_open` meets its contract: the word in its place, or 0. Rests on Loaded.
+use Rattle.std.specs.Prelude.{◌≡◌, ℕ, List}
+use Rattle.std.proofs.Common.{rules, ap, ◌∙◌, add-zero, arith}
+use borrow.Author.Tests.{tests}
+use Rattle.prelude.specs.Number.{word64}
+use Rattle.words.specs.Laws.Windows.{within_64}
+use Rattle.store.specs.Layout.{open_base}
 use Rattle.store.specs.Book.{load_open}
+use Rattle.store.proofs.Loaded.{loaded}
 use Rattle.store.proofs.load_open.Goals as goal
 
-pub returns-then-book-ne-BOOK : goal.returns-then-book-ne-BOOK
-unfolding load_open if◌then◌otherwise◌
-returns-then-book-ne-BOOK c = rw (ne_eqb _ _ c.if-book-ne-BOOK.true)
-
-pub returns-then-i-ge-MOST_ORDERS : goal.returns-then-i-ge-MOST_ORDERS
-unfolding load_open if◌then◌otherwise◌
-returns-then-i-ge-MOST_ORDERS c = rw (eq-eqb _ _ c.if-book-ne-BOOK.false, le-ltb _ _ c.if-i-ge-MOST_ORDERS.true)
-
 pub returns : goal.returns
-unfolding load_open if◌then◌otherwise◌
-returns c = let d = c in
-    rw (eq-eqb _ _ c.if-book-ne-BOOK.false, lt-ltb _ _ d.if-i-ge-MOST_ORDERS.false) c.get64.ensures
+unfolding load_open
+returns c = let b = c.args.book.now in
+    let at = open_base c.args.i in
+    loaded _ _ _ _ _ c.record.ensures c.map_or.ensures
+    (λ a p q.
+    (let e : c.map_or.result ≡ word64 a.now 0 = search (rules, tests) in e)
+    ∙ ap (λ (s : List ℕ). word64 s 0) p
+    ∙ within_64 b at 8 0 (omega arith)
+    ∙ ap (word64 b) (add-zero at))

@@ -1,18 +1,18 @@
--- `load_origin` meets its contract: one case of the definition at each return. Assumes nothing.
-use borrow.Author.Tests.{eq-eqb, ne_eqb, lt-ltb, le-ltb}
-use Rattle.prelude.specs.Cases.{if◌then◌otherwise◌}
+-- `load_origin` meets its contract: the number in its place, or 0. Rests on Loaded.
+use Rattle.std.specs.Prelude.{◌≡◌, ℕ, List}
+use Rattle.std.proofs.Common.{rules, ap, ◌∙◌, arith}
+use Rattle.prelude.specs.Number.{word16}
+use Rattle.words.specs.Laws.Windows.{within_16}
+use Rattle.store.specs.Layout.{request_base, request_size, request·origin}
 use Rattle.store.specs.Book.{load_origin}
+use Rattle.store.proofs.Loaded.{loaded}
 use Rattle.store.proofs.load_origin.Goals as goal
 
-pub returns-then-book-ne-BOOK : goal.returns-then-book-ne-BOOK
-unfolding load_origin if◌then◌otherwise◌
-returns-then-book-ne-BOOK c = rw (ne_eqb _ _ c.if-book-ne-BOOK.true)
-
-pub returns-then-i-ge-MOST_REQUESTS : goal.returns-then-i-ge-MOST_REQUESTS
-unfolding load_origin if◌then◌otherwise◌
-returns-then-i-ge-MOST_REQUESTS c = rw (eq-eqb _ _ c.if-book-ne-BOOK.false, le-ltb _ _ c.if-i-ge-MOST_REQUESTS.true)
-
 pub returns : goal.returns
-unfolding load_origin if◌then◌otherwise◌
-returns c = let d = c in
-    rw (eq-eqb _ _ c.if-book-ne-BOOK.false, lt-ltb _ _ d.if-i-ge-MOST_REQUESTS.false) c.get16.ensures
+unfolding load_origin
+returns c =
+    loaded _ _ _ _ _ c.request_record.ensures c.map_or.ensures
+    (λ a p q.
+    (let e : c.map_or.result ≡ word16 a.now request·origin = search rules in e)
+    ∙ ap (λ (s : List ℕ). word16 s request·origin) p
+    ∙ within_16 c.args.book.now (request_base c.args.i) request_size request·origin (omega arith))

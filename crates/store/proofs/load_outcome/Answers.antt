@@ -1,19 +1,17 @@
--- `load_outcome` meets its contract: one case of the definition at each return. Assumes nothing.
-use mathlib.Core.Path.{refl}
-use borrow.Author.Tests.{eq-eqb, ne_eqb, lt-ltb, le-ltb}
-use Rattle.prelude.specs.Cases.{if◌then◌otherwise◌}
+-- `load_outcome` meets its contract: the byte in its place, or 0. Rests on Loaded.
+use Rattle.std.specs.Prelude.{◌≡◌, ℕ, List, get_or}
+use Rattle.std.proofs.Common.{rules, ap, ◌∙◌, arith}
+use Rattle.words.specs.Laws.Windows.{within_8}
+use Rattle.store.specs.Layout.{request_base, request_size, request·outcome}
 use Rattle.store.specs.Book.{load_outcome}
+use Rattle.store.proofs.Loaded.{loaded}
 use Rattle.store.proofs.load_outcome.Goals as goal
 
-pub returns-then-book-ne-BOOK : goal.returns-then-book-ne-BOOK
-unfolding load_outcome if◌then◌otherwise◌
-returns-then-book-ne-BOOK c = rw (ne_eqb _ _ c.if-book-ne-BOOK.true)
-
-pub returns-then-i-ge-MOST_REQUESTS : goal.returns-then-i-ge-MOST_REQUESTS
-unfolding load_outcome if◌then◌otherwise◌
-returns-then-i-ge-MOST_REQUESTS c = rw (eq-eqb _ _ c.if-book-ne-BOOK.false, le-ltb _ _ c.if-i-ge-MOST_REQUESTS.true)
-
 pub returns : goal.returns
-unfolding load_outcome if◌then◌otherwise◌
-returns c = let d = c in
-    rw (eq-eqb _ _ c.if-book-ne-BOOK.false, lt-ltb _ _ d.if-i-ge-MOST_REQUESTS.false) refl
+unfolding load_outcome
+returns c =
+    loaded _ _ _ _ _ c.request_record.ensures c.map_or.ensures
+    (λ a p q.
+    (let e : c.map_or.result ≡ get_or a.now request·outcome 0 = search rules in e)
+    ∙ ap (λ (s : List ℕ). get_or s request·outcome 0) p
+    ∙ within_8 c.args.book.now (request_base c.args.i) request_size request·outcome (omega arith))

@@ -1,17 +1,10 @@
--- `load_request` meets its contract: one case of the definition at each return. Assumes nothing.
-use borrow.Author.Tests.{eq-eqb, ne_eqb, lt-ltb, le-ltb}
-use Rattle.prelude.specs.Cases.{if◌then◌otherwise◌}
-use Rattle.store.specs.Book.{load_request}
+-- `load_request` meets its contract: the request in its place, or that of zeros. Rests on Loaded.
+use Rattle.std.proofs.Common.{ap, ◌∙◌}
+use Rattle.store.specs.Requests.{decode_request}
+use Rattle.store.specs.Book.{load_request, request_at}
+use Rattle.store.proofs.Loaded.{loaded}
 use Rattle.store.proofs.load_request.Goals as goal
 
-pub returns-then-book-ne-BOOK : goal.returns-then-book-ne-BOOK
-unfolding load_request if◌then◌otherwise◌
-returns-then-book-ne-BOOK c = rw (ne_eqb _ _ c.if-book-ne-BOOK.true) c.no_request.ensures
-
-pub returns-then-i-ge-MOST_REQUESTS : goal.returns-then-i-ge-MOST_REQUESTS
-unfolding load_request if◌then◌otherwise◌
-returns-then-i-ge-MOST_REQUESTS c = rw (eq-eqb _ _ c.if-book-ne-BOOK.false, le-ltb _ _ c.if-i-ge-MOST_REQUESTS.true) c.no_request-then-i-ge-MOST_REQUESTS.ensures
-
 pub returns : goal.returns
-unfolding load_request if◌then◌otherwise◌
-returns c = rw (eq-eqb _ _ c.if-book-ne-BOOK.false, lt-ltb _ _ c.if-i-ge-MOST_REQUESTS.false) c.read.ensures
+unfolding load_request request_at
+returns c = loaded _ _ _ _ _ c.request_record.ensures c.map_or.ensures (λ a p q. q ∙ ap decode_request p)

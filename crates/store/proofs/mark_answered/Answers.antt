@@ -1,18 +1,19 @@
--- `mark_answered` meets its contract: one case of the definition at each return. Assumes nothing.
-use borrow.Author.Tests.{eq-eqb, ne_eqb, lt-ltb, le-ltb}
+-- `mark_answered` meets its contract: one case of the definition at each return. Rests on the laws of the record.
+use Rattle.std.proofs.Common.{arith}
 use Rattle.prelude.specs.Cases.{if◌then◌otherwise◌}
-use Rattle.store.specs.Book.{mark_answered}
+use Rattle.words.specs.Laws.Windows.{within_8}
+use Rattle.store.specs.Layout.{request_base, request_size, request·answered, request·outcome}
+use Rattle.store.specs.Book.{mark_answered, settled_as}
+use Rattle.store.specs.Laws.Fields.{request_answered}
 use Rattle.store.proofs.mark_answered.Goals as goal
 
-pub returns-then-book-ne-BOOK : goal.returns-then-book-ne-BOOK
-unfolding mark_answered if◌then◌otherwise◌
-returns-then-book-ne-BOOK c = rw (ne_eqb _ _ c.if-book-ne-BOOK.true)
+pub returns-in-Some : goal.returns-in-Some
+unfolding mark_answered settled_as if◌then◌otherwise◌
+returns-in-Some c = let a = c.args in
+    let b = a.book.now in
+    let s = c.in-Some.ensures in
+    rw (s.0, c.put-in-Some.ensures, c.put.ensures, c.settled_as-settled.ensures, s.1, request_answered b a.i, within_8 b (request_base a.i) request_size request·answered (omega arith), within_8 b (request_base a.i) request_size request·outcome (omega arith))
 
-pub returns-then-i-ge-MOST_REQUESTS : goal.returns-then-i-ge-MOST_REQUESTS
+pub returns-in_default : goal.returns-in_default
 unfolding mark_answered if◌then◌otherwise◌
-returns-then-i-ge-MOST_REQUESTS c = rw (eq-eqb _ _ c.if-book-ne-BOOK.false, le-ltb _ _ c.if-i-ge-MOST_REQUESTS.true)
-
-pub returns : goal.returns
-unfolding mark_answered if◌then◌otherwise◌
-returns c = let d = c in
-    rw (eq-eqb _ _ c.if-book-ne-BOOK.false, lt-ltb _ _ d.if-i-ge-MOST_REQUESTS.false) c.mark.ensures
+returns-in_default c = rw c.in_default.ensures

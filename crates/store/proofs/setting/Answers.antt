@@ -1,13 +1,14 @@
--- `setting` meets its contract: one case of the definition at each return. Assumes nothing.
-use borrow.Author.Tests.{eq-eqb, ne_eqb}
-use Rattle.prelude.specs.Cases.{if◌then◌otherwise◌}
+-- `setting` meets its contract: the number in its place, or 0. Rests on Loaded.
+use Rattle.std.specs.Prelude.{◌≡◌, ℕ, List}
+use Rattle.std.proofs.Common.{rules, ap, ◌∙◌}
+use Rattle.prelude.specs.Number.{word32}
+use Rattle.store.specs.Layout.{header·setting}
 use Rattle.store.specs.Book.{setting_of}
+use Rattle.store.proofs.Loaded.{loaded}
 use Rattle.store.proofs.setting.Goals as goal
 
-pub returns-then-book-ne-BOOK : goal.returns-then-book-ne-BOOK
-unfolding setting_of if◌then◌otherwise◌
-returns-then-book-ne-BOOK c = rw (ne_eqb _ _ c.if-book-ne-BOOK.true)
-
 pub returns : goal.returns
-unfolding setting_of if◌then◌otherwise◌
-returns c = rw (eq-eqb _ _ c.if-book-ne-BOOK.false) c.get32.ensures
+unfolding setting_of
+returns c =
+    loaded _ _ _ _ _ c.whole.ensures c.map_or.ensures
+    (λ a p q. (let e : c.map_or.result ≡ word32 a.now header·setting = search rules in e) ∙ ap (λ (s : List ℕ). word32 s header·setting) p)

@@ -1,18 +1,12 @@
 -- `store_order` meets its contract: one case of the definition at each return. Assumes nothing.
-use borrow.Author.Tests.{eq-eqb, ne_eqb, lt-ltb, le-ltb}
 use Rattle.prelude.specs.Cases.{if◌then◌otherwise◌}
 use Rattle.store.specs.Book.{store_order}
 use Rattle.store.proofs.store_order.Goals as goal
 
-pub returns-then-book-ne-BOOK : goal.returns-then-book-ne-BOOK
+pub returns-then-has_record : goal.returns-then-has_record
 unfolding store_order if◌then◌otherwise◌
-returns-then-book-ne-BOOK c = rw (ne_eqb _ _ c.if-book-ne-BOOK.true)
+returns-then-has_record c = rw (← c.has_record.ensures, c.if-has_record.true) c.write_order.ensures
 
-pub returns-then-i-ge-MOST_ORDERS : goal.returns-then-i-ge-MOST_ORDERS
+pub returns-else-has_record : goal.returns-else-has_record
 unfolding store_order if◌then◌otherwise◌
-returns-then-i-ge-MOST_ORDERS c = rw (eq-eqb _ _ c.if-book-ne-BOOK.false, le-ltb _ _ c.if-i-ge-MOST_ORDERS.true)
-
-pub returns : goal.returns
-unfolding store_order if◌then◌otherwise◌
-returns c = let d = c in
-    rw (eq-eqb _ _ c.if-book-ne-BOOK.false, lt-ltb _ _ d.if-i-ge-MOST_ORDERS.false) c.write.ensures
+returns-else-has_record c = rw (← c.has_record.ensures, c.if-has_record.false)

@@ -1,6 +1,8 @@
 -- Two texts compared by words of 8 bytes. Rests on words' Windows.
 use Rattle.std.specs.Prelude.{◌≡◌, refl, Bool, true, ◌&&◌, List, ◌++◌, ℕ, ◌+◌, ◌≤◌, eqb, length, get_or}
 use Rattle.std.proofs.Common.{sym, ap, ap₂, ◌∙◌, add-zero, arith, eqb-true, eq-eqb}
+use Rattle.std.specs.Str.{bytes_eq}
+use Rattle.std.proofs.lemmas.Slice.Eq.{bytes_eq-Decides}
 use Rattle.prelude.specs.Below.{all_below, all_intro}
 use Rattle.prelude.specs.Cases.{both_true, test_same}
 use Rattle.prelude.specs.Number.{Bytes, number, bytes_of, word64, word64_number, bytes_number}
@@ -43,6 +45,17 @@ abbrev pub words_same : List ℕ → List ℕ → Bool
 words_same a b =
     eqb (word64 a 0) (word64 b 0) && eqb (word64 a 8) (word64 b 8) && eqb (word64 a 16) (word64 b 16) && eqb (word64 a 24) (word64 b 24)
 
+alike : (a b : List ℕ) → length a ≡ 32 → length b ≡ 32 → all_below (agree_at a b) 32 ≡ true → bare a ≡ bare b
+unfolding same_text
+alike a b la lb e = same_text_lem (bare a) (bare b) la lb (rw (eq-eqb 0 0 refl) e)
+
+-- `==` of two texts' bytes
+pub bytes_agree : (a b : List ℕ) → length a ≡ 32 → length b ≡ 32 → bytes_eq a b ≡ all_below (agree_at a b) 32
+bytes_agree a b la lb =
+    test_same (bytes_eq a b) (all_below (agree_at a b) 32)
+    (λ e. all_intro (agree_at a b) 32 (λ k h. eq-eqb _ _ (ap (λ (l : List ℕ). get_or l k 0) ((bytes_eq-Decides a b).0 e))))
+    (λ e. (bytes_eq-Decides a b).1 (ap (λ (t : Text). t.bytes) (alike a b la lb e)))
+
 -- THE LAW of 32 bytes compared by words
 module _ (a b : List ℕ) (la : length a ≡ 32) (lb : length b ≡ 32) (ba : Bytes a) (bb : Bytes b) where
   word_same : (x : ℕ) → x + 8 ≤ 32 → eqb (word64 a x) (word64 b x) ≡ true → span a x 8 ≡ span b x 8
@@ -64,15 +77,11 @@ module _ (a b : List ℕ) (la : length a ≡ 32) (lb : length b ≡ 32) (ba : By
       let w : (k : ℕ) → word64 a k ≡ word64 b k = λ k. ap (λ (l : List ℕ). word64 l k) e in
       rw (eq-eqb _ _ (w 0), eq-eqb _ _ (w 8), eq-eqb _ _ (w 16), eq-eqb _ _ (w 24))
 
-  alike : all_below (agree_at a b) 32 ≡ true → bare a ≡ bare b
-  unfolding same_text
-  alike e = same_text_lem (bare a) (bare b) la lb (rw (eq-eqb 0 0 refl) e)
-
   pub words_same_lem : words_same a b ≡ all_below (agree_at a b) 32
   words_same_lem =
       test_same (words_same a b) (all_below (agree_at a b) 32)
       (λ e. all_intro (agree_at a b) 32 (λ k h. eq-eqb _ _ (ap (λ (l : List ℕ). get_or l k 0) (words_equal e))))
-      (λ e. equal_words (ap (λ (t : Text). t.bytes) (alike e)))
+      (λ e. equal_words (ap (λ (t : Text). t.bytes) (alike a b la lb e)))
 
 -- a text in place beside another: its length and its words
 pub same_words : (s : List ℕ) (x : ℕ) (t : Text) → Bytes s → x + 33 ≤ length s → length t.bytes ≡ 32 → Bytes t.bytes

@@ -1,17 +1,16 @@
 -- `wide::by_last_px` meets its contract. Assumes nothing.
-use native.Mathlib.Omega.{arith}
 use borrow.Author.Tests.{lt-ltb, le-ltb, eq-eqb, ne_eqb}
 use Rattle.wide.specs.Wide.{by_last_px}
 use Rattle.wide.proofs.by_last_px.Goals as goal
 
-pub returns-then-lastpx-eq0 : goal.returns-then-lastpx-eq0
-unfolding by_last_px
-returns-then-lastpx-eq0 c = let a = c.before.args in rw (le-ltb 0 a.lastpx (omega arith))
-
 pub returns-then-rise-eq0 : goal.returns-then-rise-eq0
 unfolding by_last_px
-returns-then-rise-eq0 c = let a = c.before.before.args in rw (lt-ltb 0 a.lastpx (omega arith), eq-eqb a.rise 0 c.if-rise-eq0.true)
+returns-then-rise-eq0 c = rw (lt-ltb 0 c.args.lastpx c.if-lastpx-gt0.true, eq-eqb c.args.rise 0 c.if-rise-eq0.true)
 
-pub returns : goal.returns
+pub returns-else-rise-eq0 : goal.returns-else-rise-eq0
 unfolding by_last_px
-returns c = let a = c.before.before.args in rw (lt-ltb 0 a.lastpx (omega arith), ne_eqb a.rise 0 c.if-rise-eq0.false)
+returns-else-rise-eq0 c = rw (lt-ltb 0 c.args.lastpx c.if-lastpx-gt0.true, ne_eqb c.args.rise 0 c.if-rise-eq0.false)
+
+pub returns-else-lastpx-gt0 : goal.returns-else-lastpx-gt0
+unfolding by_last_px
+returns-else-lastpx-gt0 c = rw (le-ltb 0 c.args.lastpx c.if-lastpx-gt0.false)

@@ -24,7 +24,7 @@ carried h l q r s =
 
 pub returns : goal.returns
 returns c =
-    let n = c.before.args.n in
+    let n = c.args.n in
     let d = c.divide-low.result in
     let s = carried (get_or n 1 0) (get_or n 0 0) d.quotient d.rest c.divide-low.ensures in
     let f : Fits w64 d.quotient = search rules in

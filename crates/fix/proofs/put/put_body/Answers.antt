@@ -1,83 +1,79 @@
--- `fix::put::put_body`: what is left to be written are the rows not yet passed. Assumes nothing.
-use borrow.Author.Tests.{le-leb}
-use mathlib.Core.Path.{◌≡◌, sym, ap, subst, ◌∙◌}
-use mathlib.Core.Bool.{true}
-use Prim.Native.Nat.{ℕ, ◌<◌}
-use native.Mathlib.Omega.{arith}
-use lib.Dec.{leb}
-use lib.ListN.{length}
+-- `put_body`: what is left to be written are the rows not yet passed. Assumes nothing.
+use Rattle.std.proofs.Common.{◌≡◌, ℕ, ◌<◌, true, false, leb, length, get_or, sym, ap, subst, ◌∙◌, le-leb, arith}
+use Rattle.std.proofs.lemmas.List.{length-map}
 use Rattle.prelude.specs.Cases.{both_hold}
 use Rattle.fix_words.specs.Rows.{in_rows}
 use Rattle.fix_words.specs.Values.{rows}
 use Rattle.fix_words.proofs.Laws.Kinds.{row_small}
 use Rattle.fix.specs.Laws.Plan.{planned, Sound, rows_shown}
-use Rattle.fix_table.specs.Table.{row_at}
+use Rattle.fix_table.specs.declared.Row as code
+use Rattle.fix_table.specs.Table.{row_at, as_row}
+use Rattle.fix_table.specs.Laws.Rows.{IsRow, row_is, bit_small}
 use Rattle.fix.specs.Laws.Putting.{rows_long_lem, shown_last, Rest, rest_start, rest_end, row_room, row_next}
 use Rattle.fix.specs.declared.value.Value.{Value}
 use Rattle.fix.proofs.put.put_body.Goals as goal
-use Rattle.fix.proofs.put.put_body.Goals.{After-value_at-v, Start}
+use Rattle.fix.proofs.put.put_body.Goals.{After-value_at-v, In-loop-row, Start}
 
 abbrev plan : Start → ℕ → Value
-plan s = let a = s.args in planned a.kind a.map a.at.now a.numbers.now a.high
+plan s = let a = s.args in planned a.kind a.parts.now.map a.parts.now.at a.parts.now.numbers a.parts.now.high
 
 sounds : (s : Start) (b : ℕ) → in_rows (rows s.args.kind) b ≡ true → Sound s.args.s.now (plan s b)
 sounds s b i =
     let k = s.args.kind in
     s.requires.2 b (row_small k (both_hold (leb 16 k) (leb k 20) (le-leb 16 k s.requires.0) (le-leb k 20 s.requires.1)) b i)
 
+-- what a row is read as past the last
+abbrev blank : code.Row
+blank = record { tag = 0; bit = 0; must = false }
+
+abbrev this : (c : In-loop-row) → IsRow (get_or c.rows-row-items.result.now c.loop-row.row-index blank) (row_at c.args.kind c.loop-row.row-index)
+this c = row_is c.rows-row-items.result.now c.args.kind c.loop-row.row-index blank c.rows-row-items.ensures c.loop-row-test.true
+
+small : (c : In-loop-row) → (get_or c.rows-row-items.result.now c.loop-row.row-index blank).bit < 32
+small c = omega (arith, (this c).bit, bit_small c.args.kind c.loop-row.row-index)
+
+inside : (c : In-loop-row) → c.loop-row.row-index < length (rows c.args.kind)
+inside c = omega (arith, c.loop-row-test.true, sym (length-map c.rows-row-items.result.now as_row) ∙ ap length c.rows-row-items.ensures)
+
 abbrev start : After-value_at-v → Start
 start c = (goal.at.After-value_at-v c).Start
 
 -- the value of the row
-the_value : (c : After-value_at-v) → c.value_at-v.result ≡ plan (start c) (row_at (start c).args.kind c.loop-j.j).bit
-the_value c = c.value_at-v.ensures ∙ ap (plan (start c)) c.row_at-row.ensures.1
+the_value : (c : After-value_at-v) → c.value_at-v.result ≡ plan (start c) (row_at c.args.kind c.loop-row.row-index).bit
+the_value c = c.value_at-v.ensures ∙ ap (plan (start c)) (this (goal.at.After-value_at-v c).In-loop-row).bit
 
-sound : (c : After-value_at-v) → Sound (start c).args.s.now c.value_at-v.result
-sound c =
-    let r = c.row_at-row in
-    subst (λ (v : Value). Sound (start c).args.s.now v) (sym c.value_at-v.ensures) ((start c).requires.2 r.result.bit r.ensures.3)
+sound : (c : After-value_at-v) → Sound c.args.s.now c.value_at-v.result
+sound c = subst (λ (v : Value). Sound c.args.s.now v) (sym c.value_at-v.ensures) (c.requires.2 _ (small (goal.at.After-value_at-v c).In-loop-row))
 
-inside : (c : After-value_at-v) → c.loop-j.j < length (rows (start c).args.kind)
-inside c = omega (arith, c.count_of-n.ensures.0)
-
-pub loop-j-init : goal.loop-j-init
-loop-j-init c =
-    let s = c in
-    let a = s.args in
-    (omega arith, rest_start a.out.now a.start (rows_shown a.s.now (rows a.kind) (plan (goal.at.loop-j-init c).Start)) (omega (arith, rows_long_lem a.s.now (plan (goal.at.loop-j-init c).Start) (rows a.kind) (sounds (goal.at.loop-j-init c).Start))))
+pub loop-row-init : goal.loop-row-init
+loop-row-init c =
+    let a = c.args in
+    let s = (goal.at.loop-row-init c).Start in
+    rest_start a.out.now a.start (rows_shown a.s.now (rows a.kind) (plan s)) (omega (arith, c.requires.3, rows_long_lem a.s.now (plan s) (rows a.kind) (sounds s)))
 
 pub value_at-v-requires : goal.value_at-v-requires
-value_at-v-requires c = c.row_at-row.ensures.3
+value_at-v-requires c = small (goal.at.value_at-v-requires c).In-loop-row
 
 pub put_field-p-requires : goal.put_field-p-requires
 put_field-p-requires c =
-    let t = c in
-    let a = (start (goal.at.put_field-p-requires c).After-value_at-v).args in
-    let r = c.row_at-row in
-    (sound (goal.at.put_field-p-requires c).After-value_at-v, row_room a.s.now (plan (start (goal.at.put_field-p-requires c).After-value_at-v)) (rows a.kind) c.loop-j.j (inside (goal.at.put_field-p-requires c).After-value_at-v) r.result.tag t.value_at-v.result r.ensures.0 (the_value (goal.at.put_field-p-requires c).After-value_at-v) (sound (goal.at.put_field-p-requires c).After-value_at-v) c.loop-j.invariant.1)
+    let e = (goal.at.put_field-p-requires c).After-value_at-v in
+    let l = (goal.at.put_field-p-requires c).In-loop-row in
+    (sound e, row_room c.args.s.now (plan (start e)) (rows c.args.kind) c.loop-row.row-index (inside l) _ c.value_at-v.result (this l).tag (the_value e) (sound e) c.loop-row.invariant)
 
-pub overflow_add-j : goal.overflow_add-j
-overflow_add-j c = omega arith
-
-pub loop-j-smaller : goal.loop-j-smaller
-loop-j-smaller c = omega arith
-
-pub loop-j-preserved : goal.loop-j-preserved
-loop-j-preserved c =
-    let t = c in
-    let p = c.put_field-p in
-    let a = (start (goal.at.loop-j-preserved c).After-value_at-v).args in
-    let r = c.row_at-row in
-    (omega arith, row_next a.s.now (plan (start (goal.at.loop-j-preserved c).After-value_at-v)) (rows a.kind) c.loop-j.j (inside (goal.at.loop-j-preserved c).After-value_at-v) r.result.tag t.value_at-v.result r.ensures.0 (the_value (goal.at.loop-j-preserved c).After-value_at-v) (sound (goal.at.loop-j-preserved c).After-value_at-v) c.loop-j.invariant.1 p.ensures.1 p.ensures.0)
+pub loop-row-preserved : goal.loop-row-preserved
+loop-row-preserved c =
+    let e = (goal.at.loop-row-preserved c).After-value_at-v in
+    let l = (goal.at.loop-row-preserved c).In-loop-row in
+    row_next c.args.s.now (plan (start e)) (rows c.args.kind) c.loop-row.row-index (inside l) _ c.value_at-v.result (this l).tag (the_value e) (sound e) c.loop-row.invariant c.put_field-p.ensures.1 c.put_field-p.ensures.0
 
 pub shape_of-out : goal.shape_of-out
-shape_of-out c = c.loop-j.invariant.1.same
+shape_of-out c = c.loop-row.invariant.same
 
 pub returns : goal.returns
 returns c =
-    let s = c in
-    let a = s.args in
-    let l = c.loop-j in
-    let n = c.count_of-n.ensures in
-    let z = rest_end (subst (Rest a.out.now a.start (rows_shown a.s.now (rows a.kind) (plan (goal.at.returns c).Start)) l.out l.p) (shown_last a.s.now (plan (goal.at.returns c).Start) (rows a.kind) l.j (omega (arith, n.0))) l.invariant.1) in
-    (omega (arith, z.0, rows_long_lem a.s.now (plan (goal.at.returns c).Start) (rows a.kind) (sounds (goal.at.returns c).Start)), z.1)
+    let a = c.args in
+    let s = (goal.at.returns c).Start in
+    let l = c.loop-row in
+    let h : l.row-index ≡ length (rows a.kind) = omega (arith, sym (length-map c.rows-row-items.result.now as_row) ∙ ap length c.rows-row-items.ensures) in
+    let z = rest_end (subst (Rest a.out.now a.start (rows_shown a.s.now (rows a.kind) (plan s)) l.out l.p) (shown_last a.s.now (plan s) (rows a.kind) l.row-index h) l.invariant) in
+    (omega (arith, z.0, rows_long_lem a.s.now (plan s) (rows a.kind) (sounds s)), z.1)

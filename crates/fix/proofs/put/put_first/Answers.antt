@@ -19,8 +19,8 @@ whole s = spellings (first_two s.args.body)
 begun : (s : Start) → Rest s.args.out.now 0 (whole s) s.args.out.now 0 (whole s)
 begun s = rest_start s.args.out.now 0 (whole s) (omega arith)
 
-eight : (c : After-put_text-a) → let s = c in Rest s.args.out.now 0 (whole (goal.at.After-put_text-a c).Start) c.put_text-a.new.out c.put_text-a.result (spellings (nine (goal.at.After-put_text-a c).Start))
-eight c = let s = c in field_next (field 8 version) (nine (goal.at.After-put_text-a c).Start) (begun (goal.at.After-put_text-a c).Start) c.put_text-a.ensures.1 c.put_text-a.ensures.0
+eight : (c : After-put_text-a) → Rest c.args.out.now 0 (whole (goal.at.After-put_text-a c).Start) c.put_text-a.new.out c.put_text-a.result (spellings (nine (goal.at.After-put_text-a c).Start))
+eight c = field_next (field 8 version) (nine (goal.at.After-put_text-a c).Start) (begun (goal.at.After-put_text-a c).Start) c.put_text-a.ensures.1 c.put_text-a.ensures.0
 
 pub put_text-a-requires : goal.put_text-a-requires
 put_text-a-requires c = field_room (field 8 version) (nine (goal.at.put_text-a-requires c).Start) (begun (goal.at.put_text-a-requires c).Start)
@@ -31,6 +31,5 @@ put_number-requires c = field_room (field 9 (digits c.args.body)) [] (eight (goa
 pub returns : goal.returns
 returns c =
     let p = c.put_number in
-    let t = c in
     let z = fields_end (field_next (field 9 (digits c.args.body)) [] (eight (goal.at.returns c).After-put_text-a) p.ensures.1 p.ensures.0) in
     (omega (arith, z.0), z.1)

@@ -1,33 +1,39 @@
 -- `fix::put::put_trailer`: the sum as three digits. Assumes nothing.
-use mathlib.Core.Path.{◌≡◌, refl, ap, ◌∙◌}
+use mathlib.Core.Path.{◌≡◌, ap, ◌∙◌}
 use mathlib.Core.List.{List, [], ◌∷◌}
-use Prim.Native.Nat.{ℕ, ◌+◌, ◌-◌, ◌/◌, ◌%◌}
+use Prim.Native.Nat.{ℕ, ◌+◌, ◌%◌}
 use native.Mathlib.Omega.{arith}
-use lib.ListN.{take, drop}
+use lib.ListN.{length}
 use Rattle.prelude.specs.Span.{span, splice}
 use Rattle.decimal.specs.Decimal.{low_digits}
 use Rattle.fix_words.specs.Spelling.{field, spellings}
 use Rattle.fix_words.specs.Message.{sum}
+use Rattle.decimal.specs.Laws.Width.{length_low}
 use Rattle.fix.specs.Laws.Whole.{ten_long}
 use Rattle.fix.proofs.put.put_trailer.Goals as goal
+use Rattle.fix.proofs.put.put_trailer.Goals.{After-sum_digits-digits, Start}
 
-abbrev low_three : ℕ → List ℕ
-low_three c = (48 + c / 10 / 10 % 10) ∷ (48 + c / 10 % 10) ∷ (48 + c % 10) ∷ []
+abbrev told : Start → List ℕ
+told c = low_digits 3 (sum (span c.args.out.now 0 c.args.at) % 256)
 
-front_span : (s : List ℕ) (at : ℕ) → take (at - 0) (drop 0 s) ≡ span s 0 at
+long : (c : Start) → length (spellings (field 10 (told c) ∷ [])) ≡ 7
+long c = ten_long (told c) (length_low 3 (sum (span c.args.out.now 0 c.args.at) % 256))
+
+-- the digits of the bytes before
+digits_are : (c : After-sum_digits-digits) → c.sum_digits-digits.result ≡ told (goal.at.After-sum_digits-digits c).Start
 unfolding span
-front_span s at = let z : at - 0 ≡ at = omega arith in rw z refl
+digits_are c = c.sum_digits-digits.ensures
 
 pub put_text-requires : goal.put_text-requires
-put_text-requires c = omega (arith, ten_long (low_three c.checksum-c.result) refl)
+put_text-requires c =
+    rw (digits_are (goal.at.put_text-requires c).After-sum_digits-digits) (omega (arith, long (goal.at.put_text-requires c).Start))
 
 pub returns : goal.returns
-unfolding low_digits
 returns c =
     let a = c.args in
     let p = c.put_text in
-    let k = c.checksum-c in
-    let e : k.result ≡ sum (span a.out.now 0 a.at) % 256 = k.ensures ∙ ap (λ (l : List ℕ). sum l % 256) (front_span a.out.now a.at) in (
-      p.ensures.0 ∙ ap (λ (n : ℕ). a.at + n) (ten_long (low_three k.result) refl),
-      p.ensures.1 ∙ ap (λ (n : ℕ). splice a.out.now a.at (spellings (field 10 (low_digits 3 n) ∷ []))) e,
+    let e = digits_are (goal.at.returns c).After-sum_digits-digits in
+    let l = long (goal.at.returns c).Start in (
+      p.ensures.0 ∙ ap (λ (d : List ℕ). a.at + length (spellings (field 10 d ∷ []))) e ∙ ap (λ (n : ℕ). a.at + n) l,
+      p.ensures.1 ∙ ap (λ (d : List ℕ). splice a.out.now a.at (spellings (field 10 d ∷ []))) e,
     )

@@ -1,48 +1,57 @@
--- `fix::put::put_value`: by the form. Assumes nothing.
-use borrow.Author.Tests.{ne_eqb}
-use mathlib.Core.Path.{sym, ap, ◌∙◌}
-use Prim.Native.Nat.{ℕ, ◌+◌}
-use native.Mathlib.Omega.{arith}
-use Rattle.prelude.specs.Span.{splice}
-use Rattle.fix.specs.Laws.Putting.{form_1, form_2, form_3, form_4}
+-- `put_value`: by what it is. Assumes nothing.
+use Rattle.std.proofs.Common.{◌≡◌, ◌+◌, length, sym, ap, ◌∙◌, arith}
+use Rattle.prelude.specs.Span.{splice, splice_nil}
+use Rattle.fix.specs.Laws.Plan.{reach, said_by, long_of}
+use Rattle.fix.specs.declared.value.Value.{Value}
 use Rattle.fix.proofs.put.put_value.Goals as goal
 
-pub put_part-requires : goal.put_part-requires
-put_part-requires c = let a = c.args in (c.requires.0, omega (arith, (form_1 a.s.now a.v c.if-v-eq1.true).0))
+pub returns-in-Nothing : goal.returns-in-Nothing
+unfolding said_by long_of
+returns-in-Nothing c =
+    let a = c.args in
+    let z : long_of a.v ≡ 0 = ap long_of c.in-Nothing.is in
+    (omega arith, sym (ap (λ (v : Value). splice a.out.now a.at (said_by a.s.now v)) c.in-Nothing.is ∙ splice_nil a.out.now a.at))
 
-pub returns-then-v-eq1 : goal.returns-then-v-eq1
-returns-then-v-eq1 c =
+pub put_part-requires : goal.put_part-requires
+unfolding long_of
+put_part-requires c = let r = ap reach c.in-Bytes.is in let l = ap long_of c.in-Bytes.is in (omega arith, omega arith)
+
+pub returns-in-Bytes : goal.returns-in-Bytes
+unfolding said_by long_of
+returns-in-Bytes c =
     let a = c.args in
     let p = c.put_part in
-    let f = form_1 a.s.now a.v c.if-v-eq1.true in
-    (p.ensures.0 ∙ ap (λ (n : ℕ). a.at + n) (sym f.0), p.ensures.1 ∙ ap (splice a.out.now a.at) (sym f.1))
+    (p.ensures.0 ∙ ap (λ (v : Value). a.at + long_of v) (sym c.in-Bytes.is), p.ensures.1 ∙ ap (λ (v : Value). splice a.out.now a.at (said_by a.s.now v)) (sym c.in-Bytes.is))
 
 pub put_decimal-requires : goal.put_decimal-requires
-put_decimal-requires c = let a = c.args in omega (arith, (form_2 a.s.now a.v c.if-v-eq2.true).0)
+unfolding long_of
+put_decimal-requires c = let l = ap long_of c.in-Number.is in omega arith
 
-pub returns-then-v-eq2 : goal.returns-then-v-eq2
-returns-then-v-eq2 c =
+pub returns-in-Number : goal.returns-in-Number
+unfolding said_by long_of
+returns-in-Number c =
     let a = c.args in
     let p = c.put_decimal in
-    let f = form_2 a.s.now a.v c.if-v-eq2.true in
-    (p.ensures.0 ∙ ap (λ (n : ℕ). a.at + n) (sym f.0), p.ensures.1 ∙ ap (splice a.out.now a.at) (sym f.1))
+    (p.ensures.0 ∙ ap (λ (v : Value). a.at + long_of v) (sym c.in-Number.is), p.ensures.1 ∙ ap (λ (v : Value). splice a.out.now a.at (said_by a.s.now v)) (sym c.in-Number.is))
 
-pub put_words-requires : goal.put_words-requires
-put_words-requires c = let a = c.args in omega (arith, (form_3 a.s.now a.v c.if-v-eq3.true).0)
+pub put_bytes-requires : goal.put_bytes-requires
+unfolding long_of
+put_bytes-requires c = let l = ap long_of c.in-Words.is in omega (arith, ap length c.words.ensures)
 
-pub returns-then-v-eq3 : goal.returns-then-v-eq3
-returns-then-v-eq3 c =
+pub returns-in-Words : goal.returns-in-Words
+unfolding said_by long_of
+returns-in-Words c =
     let a = c.args in
-    let p = c.put_words in
-    let f = form_3 a.s.now a.v c.if-v-eq3.true in
-    (p.ensures.0 ∙ ap (λ (n : ℕ). a.at + n) (sym f.0), p.ensures.1 ∙ ap (splice a.out.now a.at) (sym f.1))
+    let p = c.put_bytes in
+    (p.ensures.0 ∙ ap (λ w. a.at + length w) c.words.ensures ∙ ap (λ (v : Value). a.at + long_of v) (sym c.in-Words.is), p.ensures.1 ∙ ap (splice a.out.now a.at) c.words.ensures ∙ ap (λ (v : Value). splice a.out.now a.at (said_by a.s.now v)) (sym c.in-Words.is))
 
 pub put_exec-requires : goal.put_exec-requires
-put_exec-requires c = let a = c.args in (c.requires.0, omega (arith, (form_4 a.s.now a.v (ne_eqb a.v.form 1 (λ z. absurd (omega (arith, z)))) (ne_eqb a.v.form 2 (λ z. absurd (omega (arith, z)))) (ne_eqb a.v.form 3 (λ z. absurd (omega (arith, z))))).0))
+unfolding long_of
+put_exec-requires c = let r = ap reach c.in-Exec.is in let l = ap long_of c.in-Exec.is in (omega arith, omega arith)
 
-pub returns : goal.returns
-returns c =
+pub returns-in-Exec : goal.returns-in-Exec
+unfolding said_by long_of
+returns-in-Exec c =
     let a = c.args in
     let p = c.put_exec in
-    let f = form_4 a.s.now a.v (ne_eqb a.v.form 1 (λ z. absurd (omega (arith, z)))) (ne_eqb a.v.form 2 (λ z. absurd (omega (arith, z)))) (ne_eqb a.v.form 3 (λ z. absurd (omega (arith, z)))) in
-    (p.ensures.0 ∙ ap (λ (n : ℕ). a.at + n) (sym f.0), p.ensures.1 ∙ ap (splice a.out.now a.at) (sym f.1))
+    (p.ensures.0 ∙ ap (λ (v : Value). a.at + long_of v) (sym c.in-Exec.is), p.ensures.1 ∙ ap (λ (v : Value). splice a.out.now a.at (said_by a.s.now v)) (sym c.in-Exec.is))

@@ -10,4 +10,4 @@ pub returns : goal.returns
 unfolding frame_long
 returns c =
     let a = c.args in
-    c.less.ensures ∙ ap (λ (n : ℕ). less_by a.r (20 + n)) (c.decimal_length.ensures.0 ∙ ap length (decimal_none a.body))
+    c.less.ensures ∙ ap (λ (n : ℕ). less_by a.room (20 + n)) (c.decimal_length.ensures.0 ∙ ap length (decimal_none a.body))

@@ -1,37 +1,34 @@
--- `fix::room::less_value`: by the form. Assumes nothing.
-use borrow.Author.Tests.{ne_eqb}
-use mathlib.Core.Path.{◌≡◌, ap, ◌∙◌}
-use mathlib.Core.Bool.{false}
-use Prim.Native.Nat.{◌+◌}
-use native.Mathlib.Omega.{arith}
-use lib.Dec.{eqb}
-use lib.ListN.{length}
-use Rattle.prelude.specs.Cases.{if◌then◌otherwise◌}
+-- `less_value`: by what it is. Assumes nothing.
+use Rattle.std.proofs.Common.{◌≡◌, ◌+◌, length, sym, ap, ◌∙◌}
 use Rattle.decimal.specs.Decimal.{digits}
 use Rattle.fix_words.specs.Laws.Counting.{decimal_none}
 use Rattle.fix.specs.Laws.Plan.{long_of, less_by}
 use Rattle.fix.specs.Laws.Putting.{less_more}
+use Rattle.fix.specs.declared.value.Value.{Value}
 use Rattle.fix.proofs.room.less_value.Goals as goal
 
-pub returns-then-v-eq1 : goal.returns-then-v-eq1
-unfolding long_of if◌then◌otherwise◌
-returns-then-v-eq1 c = rw c.if-v-eq1.true c.less.ensures
+pub returns-in-Nothing : goal.returns-in-Nothing
+unfolding long_of
+returns-in-Nothing c = c.less.ensures ∙ ap (λ (v : Value). less_by c.args.room (long_of v)) (sym c.in-Nothing.is)
 
-pub returns-then-v-eq2 : goal.returns-then-v-eq2
-unfolding long_of if◌then◌otherwise◌
-returns-then-v-eq2 c = rw c.if-v-eq2.true (c.less-then-v-eq2.ensures ∙ ap (less_by c.args.r) c.number_length.ensures)
+pub returns-in-Bytes : goal.returns-in-Bytes
+unfolding long_of
+returns-in-Bytes c = c.less-in-Bytes.ensures ∙ ap (λ (v : Value). less_by c.args.room (long_of v)) (sym c.in-Bytes.is)
 
-pub returns-then-v-eq3 : goal.returns-then-v-eq3
-unfolding long_of if◌then◌otherwise◌
-returns-then-v-eq3 c = rw c.if-v-eq3.true (c.less-then-v-eq3.ensures ∙ ap (less_by c.args.r) c.words_length.ensures)
+pub returns-in-Number : goal.returns-in-Number
+unfolding long_of
+returns-in-Number c = c.less-in-Number.ensures ∙ ap (less_by c.args.room) c.number_length.ensures ∙ ap (λ (v : Value). less_by c.args.room (long_of v)) (sym c.in-Number.is)
 
-pub returns : goal.returns
-unfolding long_of if◌then◌otherwise◌
-returns c =
-    let a = c.args in
-    let p : eqb a.v.form 1 ≡ false = ne_eqb a.v.form 1 (λ z. absurd (omega (arith, z))) in
-    let q : eqb a.v.form 2 ≡ false = ne_eqb a.v.form 2 (λ z. absurd (omega (arith, z))) in
-    let r : eqb a.v.form 3 ≡ false = ne_eqb a.v.form 3 (λ z. absurd (omega (arith, z))) in
-    let d = c.decimal_length.ensures.0 ∙ ap length (decimal_none a.v.low) in
-    rw (p, q, r)
-    (c.less-3.ensures ∙ (λ i. less_by (c.less-2.ensures i) (1 + d i)) ∙ less_more a.r a.v.count (1 + length (digits a.v.low)))
+pub returns-in-Words : goal.returns-in-Words
+unfolding long_of
+returns-in-Words c = c.less-in-Words.ensures ∙ ap (λ w. less_by c.args.room (length w)) c.words.ensures ∙ ap (λ (v : Value). less_by c.args.room (long_of v)) (sym c.in-Words.is)
+
+pub returns-in-Exec : goal.returns-in-Exec
+unfolding long_of
+returns-in-Exec c =
+    let n = c.in-Exec.n in
+    let d : c.decimal_length.result ≡ length (digits n) = c.decimal_length.ensures.0 ∙ ap length (decimal_none n) in
+    c.less-in-Exec-2.ensures
+    ∙ (λ i. less_by (c.less-in-Exec.ensures i) (1 + d i))
+    ∙ less_more c.args.room c.in-Exec.count (1 + length (digits n))
+    ∙ ap (λ (v : Value). less_by c.args.room (long_of v)) (sym c.in-Exec.is)

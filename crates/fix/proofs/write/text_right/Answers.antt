@@ -1,52 +1,24 @@
--- `fix::write::text_right`: a text that stands is looked at. Assumes nothing.
-use borrow.Author.Tests.{ne_eqb}
-use mathlib.Core.Path.{◌≡◌, refl, sym, ap, ◌∙◌}
-use Prim.Native.Nat.{ℕ, ◌+◌, ◌≤◌}
-use native.Mathlib.Omega.{arith}
-use lib.ListN.{length}
+-- `text_right`: a text that stands is looked at. Rests on Laws.Whole.
+use Rattle.std.proofs.Common.{ℕ, refl, sym, ap, ◌∙◌}
 use Rattle.prelude.specs.Cases.{if◌then◌otherwise◌}
 use Rattle.prelude.specs.Span.{span, part_span}
 use Rattle.fix_words.specs.Message.{is_text}
 use Rattle.fix.specs.Laws.Plan.{text_right}
-use Rattle.fix_table.specs.Table.{form_of}
+use Rattle.fix.specs.Laws.Whole.{form_text, form_other}
 use Rattle.fix.proofs.write.text_right.Goals as goal
-use Rattle.fix.proofs.write.text_right.Goals.{After-minus-from, Else-form_of-ne2}
-
--- it is a text
-is_2 : (c : Else-form_of-ne2) → form_of c.args.b ≡ 2
-is_2 c = omega (arith, sym c.form_of.ensures, c.if-form_of-ne2.false)
-
-room : (c : After-minus-from) → c.minus-from.result + c.args.n ≤ length c.args.s.now
-room c = omega (arith, c.minus-from.ensures, c.requires.1 (is_2 (goal.at.After-minus-from c).Else-form_of-ne2))
-
-pub returns-then-form_of-ne2 : goal.returns-then-form_of-ne2
-unfolding text_right if◌then◌otherwise◌
-returns-then-form_of-ne2 c =
-    let a = c.args in
-    rw (ne_eqb (form_of a.b) 2 (λ z. absurd (omega (arith, c.form_of.ensures, z)))) refl
 
 pub returns-then-not-has : goal.returns-then-not-has
 unfolding text_right if◌then◌otherwise◌
-returns-then-not-has c =
-    let a = c.args in
-    rw (is_2 (goal.at.returns-then-not-has c).Else-form_of-ne2, sym c.has.ensures ∙ c.if-not-has.true) refl
+returns-then-not-has c = rw (form_text c.args.b (sym c.form_of.ensures ∙ c.in-Text.is), sym c.has.ensures ∙ c.if-not-has.true) refl
 
-pub overflow_add-from : goal.overflow_add-from
-overflow_add-from c = omega (arith, room c)
-
-pub slice_bounds-is_text-count : goal.slice_bounds-is_text-count
-slice_bounds-is_text-count c = omega (arith, room c)
-
-pub slice_bounds-is_text-start : goal.slice_bounds-is_text-start
-slice_bounds-is_text-start c = omega (arith, room c)
-
-pub slice_bounds-is_text-end : goal.slice_bounds-is_text-end
-slice_bounds-is_text-end c = omega (arith, room c)
-
-pub returns : goal.returns
+pub returns-else-not-has : goal.returns-else-not-has
 unfolding text_right if◌then◌otherwise◌
-returns c =
+returns-else-not-has c =
     let a = c.args in
-    let m = c.minus-from in
-    rw (is_2 (goal.at.returns c).Else-form_of-ne2, sym c.has.ensures ∙ c.if-not-has.false)
+    let m = c.saturating_sub-from in
+    rw (form_text a.b (sym c.form_of.ensures ∙ c.in-Text.is), sym c.has.ensures ∙ c.if-not-has.false)
     (c.is_text.ensures ∙ ap is_text (part_span a.s.now m.result a.n ∙ ap (λ (f : ℕ). span a.s.now f a.n) m.ensures))
+
+pub returns-in_default : goal.returns-in_default
+unfolding text_right if◌then◌otherwise◌
+returns-in_default c = rw (form_other c.args.b (λ e. c.in_default.not-Text (c.form_of.ensures ∙ e))) refl

@@ -1,11 +1,11 @@
 -- `fix::write::write`: a refusal, or the message. Assumes nothing.
 use borrow.Author.Tests.{eq-eqb, ne_eqb}
-use mathlib.Core.Path.{◌≡◌, sym, ◌∙◌}
+use mathlib.Core.Path.{◌∙◌}
 use mathlib.Core.List.{List}
 use Prim.Native.Nat.{ℕ}
-use native.Mathlib.Omega.{arith}
 use lib.ListN.{length}
 use Rattle.prelude.specs.Cases.{if◌then◌otherwise◌}
+use Rattle.records.specs.Laws.Refused.{number_not}
 use Rattle.fix_words.specs.Record.{Session, session, write_refusal}
 use Rattle.fix_claims.specs.Call.{wrote, write_call}
 use Rattle.fix.proofs.write.write.Goals as goal
@@ -15,25 +15,23 @@ abbrev src : Start → List ℕ
 src s = s.args.«record».now
 
 abbrev told : Start → Session
-told s = session s.args.sender.now s.args.target.now s.args.sequence s.args.time.now
-
-pub returns-then-p-ne0 : goal.returns-then-p-ne0
-unfolding write_call if◌then◌otherwise◌
-returns-then-p-ne0 c =
-    let s = c in
-    let d = c.decide-p.ensures in
-    rw (ne_eqb (write_refusal (src (goal.at.returns-then-p-ne0 c).Start) (told (goal.at.returns-then-p-ne0 c).Start) (length s.args.out.now)) 0 (λ z. absurd (omega (arith, d.refusal, z))))
-    (λ i. wrote (record { refusal = d.refusal i; length = 0 }) s.args.out.now)
+told s = session s.args.header.now.sender.now s.args.header.now.target.now s.args.header.now.sequence s.args.header.now.time.now
 
 pub put_message-end-requires : goal.put_message-end-requires
-put_message-end-requires c = (c.decide-p.ensures, c.if-p-ne0.false)
+put_message-end-requires c = c.in-Ok.ensures.ok
 
-pub returns : goal.returns
+pub returns-in-Ok : goal.returns-in-Ok
 unfolding write_call if◌then◌otherwise◌
-returns c =
-    let s = c in
-    let d = c.decide-p.ensures in
+returns-in-Ok c =
     let p = c.put_message-end in
-    let e : write_refusal (src (goal.at.returns c).Start) (told (goal.at.returns c).Start) (length s.args.out.now) ≡ 0 = sym d.refusal ∙ c.if-p-ne0.false in
-    rw (eq-eqb (write_refusal (src (goal.at.returns c).Start) (told (goal.at.returns c).Start) (length s.args.out.now)) 0 e)
+    let s = (goal.at.returns-in-Ok c).Start in
+    rw (eq-eqb (write_refusal (src s) (told s) (length c.args.out.now)) 0 c.in-Ok.ensures.ok.taken)
     (λ i. wrote (record { refusal = 0; length = p.ensures.0 i }) (p.ensures.1 i))
+
+pub returns-in-Err : goal.returns-in-Err
+unfolding write_call if◌then◌otherwise◌
+returns-in-Err c =
+    let e = c.in-Err.ensures.err in
+    let s = (goal.at.returns-in-Err c).Start in
+    rw (ne_eqb (write_refusal (src s) (told s) (length c.args.out.now)) 0 (number_not _ _ e))
+    (λ i. wrote (record { refusal = (c.number.ensures ∙ e) i; length = 0 }) c.args.out.now)

@@ -1,68 +1,52 @@
 -- `fields_right`: 60 where it stands, then 10. Rests on Laws.Ending.
-use Rattle.std.proofs.Common.{◌≡◌, ℕ, ◌+◌, ◌<◌, Bool, true, false, ◌&&◌, eqb, List, length, drop, sym, ap, ◌∙◌, arith, eq-eqb, ne_eqb}
+use Rattle.std.proofs.Common.{◌≡◌, ◌+◌, ◌<◌, ◌≤◌, Bool, true, false, ◌&&◌, eqb, List, length, drop, sym, ap, ◌∙◌, arith, eq-eqb, ne_eqb}
 use Rattle.fix_words.specs.Lists.{same}
 use Rattle.fix_words.specs.Spelling.{Field, fields_in}
 use Rattle.fix_words.specs.Message.{stamp, value_at}
 use Rattle.fix_claims.specs.Reading.{tag_of}
 use Rattle.fix_reader.specs.Laws.Checks.{same_fields}
+use Rattle.fix_reader.specs.Laws.Numbers.{told_other, told_same}
 use Rattle.fix_reader.specs.Laws.Ending.{last, stamp_none, stamp_past, stamp_here}
 use Rattle.fix_reader.proofs.ending.fields_right.Goals as goal
-use Rattle.fix_reader.proofs.ending.fields_right.Goals.{Else-n-i, Else-tag-i-ne60, Start}
+use Rattle.fix_reader.proofs.ending.fields_right.Goals.{Start}
 
 abbrev fs : Start → List Field
-fs s = fields_in s.args.m.now
+fs s = fields_in s.args.f.now.message.now
 
-abbrev time : Start → List ℕ
-time s = value_at (fs s) 6
+-- whether it is 60, with this time
+abbrev stamped : (s : Start) (t v : Bool) → Bool
+stamped s t v = (t && v) && same_fields (drop (s.args.i + 1) (fs s)) (last (fs s))
 
-within : (e : Else-n-i) → e.args.i < length (fs (goal.at.Else-n-i e).Start)
-within e = omega (arith, e.requires.count)
-
-few : (e : Else-n-i) → e.args.i < 32
-few e = omega (arith, e.requires.few)
-
-here : (e : Else-n-i) → let s = e in let i = s.args.i in
-    same_fields (drop i (fs (goal.at.Else-n-i e).Start)) (stamp s.args.kind (time (goal.at.Else-n-i e).Start) (last (fs (goal.at.Else-n-i e).Start))) ≡ ((eqb (tag_of (fs (goal.at.Else-n-i e).Start) i) 60 && same (value_at (fs (goal.at.Else-n-i e).Start) i) (time (goal.at.Else-n-i e).Start)) && same_fields (drop (i + 1) (fs (goal.at.Else-n-i e).Start)) (last (fs (goal.at.Else-n-i e).Start)))
-here e = let s = e in stamp_here (fs (goal.at.Else-n-i e).Start) s.args.kind (time (goal.at.Else-n-i e).Start) (omega arith) s.args.i (within e)
-
-sixty : (e : Else-tag-i-ne60) → let s = e in eqb (tag_of (fs (goal.at.Else-tag-i-ne60 e).Start) s.args.i) 60 ≡ true
-sixty e = let s = e in eq-eqb (tag_of (fs (goal.at.Else-tag-i-ne60 e).Start) s.args.i) 60 (sym (s.requires.tags s.args.i (few (goal.at.Else-tag-i-ne60 e).Else-n-i)) ∙ e.if-tag-i-ne60.false)
+here : (s : Start) → 18 ≤ s.args.kind → s.args.i < length (fs s)
+    → same_fields (drop s.args.i (fs s)) (stamp s.args.kind (value_at (fs s) 6) (last (fs s))) ≡ stamped s (eqb (tag_of (fs s) s.args.i) 60) (same (value_at (fs s) s.args.i) (value_at (fs s) 6))
+here s h l = stamp_here (fs s) s.args.kind (value_at (fs s) 6) h s.args.i l
 
 pub returns-then-kind-lt18 : goal.returns-then-kind-lt18
-returns-then-kind-lt18 c = let s = c in c.sum_right.ensures ∙ sym (ap (same_fields (drop s.args.i (fs (goal.at.returns-then-kind-lt18 c).Start))) (stamp_none (fs (goal.at.returns-then-kind-lt18 c).Start) s.args.kind (time (goal.at.returns-then-kind-lt18 c).Start) (omega arith)))
+returns-then-kind-lt18 c =
+    let s = (goal.at.returns-then-kind-lt18 c).Start in
+    c.sum_right.ensures ∙ sym (ap (same_fields (drop c.args.i (fs s))) (stamp_none (fs s) c.args.kind (value_at (fs s) 6) c.if-kind-lt18.true))
 
-pub returns-then-n-i : goal.returns-then-n-i
-returns-then-n-i c = let s = c in sym (stamp_past (fs (goal.at.returns-then-n-i c).Start) s.args.kind (time (goal.at.returns-then-n-i c).Start) (omega arith) s.args.i (omega (arith, s.requires.count)))
+pub returns-then-count-i : goal.returns-then-count-i
+returns-then-count-i c =
+    let s = (goal.at.returns-then-count-i c).Start in
+    sym (stamp_past (fs s) c.args.kind (value_at (fs s) 6) c.if-kind-lt18.false c.args.i (omega (arith, c.count.ensures)))
 
-pub offset_bounds-tag-i : goal.offset_bounds-tag-i
-offset_bounds-tag-i c = omega (arith, few c)
+pub returns-then-tag-ne60 : goal.returns-then-tag-ne60
+returns-then-tag-ne60 c =
+    let s = (goal.at.returns-then-tag-ne60 c).Start in
+    let e : eqb (tag_of (fs s) c.args.i) 60 ≡ false = ne_eqb (tag_of (fs s) c.args.i) 60 (λ q. c.if-tag-ne60.true (c.tag.ensures ∙ q)) in
+    sym (here s c.if-kind-lt18.false (omega (arith, c.count.ensures)) ∙ ap (λ (x : Bool). stamped s x (same (value_at (fs s) c.args.i) (value_at (fs s) 6))) e)
 
-pub bounds-tag-i : goal.bounds-tag-i
-bounds-tag-i c = omega (arith, few (goal.at.bounds-tag-i c).Else-n-i)
-
-pub returns-then-tag-i-ne60 : goal.returns-then-tag-i-ne60
-returns-then-tag-i-ne60 c =
-    let s = c in
-    let i = s.args.i in
-    let e : eqb (tag_of (fs (goal.at.returns-then-tag-i-ne60 c).Start) i) 60 ≡ false = ne_eqb (tag_of (fs (goal.at.returns-then-tag-i-ne60 c).Start) i) 60 (λ q. c.if-tag-i-ne60.true (s.requires.tags i (few (goal.at.returns-then-tag-i-ne60 c).Else-n-i) ∙ q)) in
-    sym (here (goal.at.returns-then-tag-i-ne60 c).Else-n-i ∙ ap (λ (x : Bool). (x && same (value_at (fs (goal.at.returns-then-tag-i-ne60 c).Start) i) (time (goal.at.returns-then-tag-i-ne60 c).Start)) && same_fields (drop (i + 1) (fs (goal.at.returns-then-tag-i-ne60 c).Start)) (last (fs (goal.at.returns-then-tag-i-ne60 c).Start))) e)
-
-pub same_time-requires : goal.same_time-requires
-same_time-requires c = (c.requires.placed, few (goal.at.same_time-requires c).Else-n-i)
-
-pub returns-then-not-same_time : goal.returns-then-not-same_time
-returns-then-not-same_time c =
-    let s = c in
-    let i = s.args.i in
-    let e : same (value_at (fs (goal.at.returns-then-not-same_time c).Start) i) (time (goal.at.returns-then-not-same_time c).Start) ≡ false = sym c.same_time.ensures ∙ c.if-not-same_time.true in
-    sym (here (goal.at.returns-then-not-same_time c).Else-n-i ∙ (λ j. (sixty (goal.at.returns-then-not-same_time c).Else-tag-i-ne60 j && e j) && same_fields (drop (i + 1) (fs (goal.at.returns-then-not-same_time c).Start)) (last (fs (goal.at.returns-then-not-same_time c).Start))))
-
-pub overflow_add-i : goal.overflow_add-i
-overflow_add-i c = omega (arith, few (goal.at.overflow_add-i c).Else-n-i)
+pub returns-then-ne : goal.returns-then-ne
+returns-then-ne c =
+    let s = (goal.at.returns-then-ne c).Start in
+    let t : eqb (tag_of (fs s) c.args.i) 60 ≡ true = eq-eqb (tag_of (fs s) c.args.i) 60 (sym c.tag.ensures ∙ c.if-tag-ne60.false) in
+    let e : same (value_at (fs s) c.args.i) (value_at (fs s) 6) ≡ false = (λ i. same (sym c.value.ensures i) (sym c.value-2.ensures i)) ∙ told_other c.value.result.now c.value-2.result.now c.ne.result c.ne.ensures c.if-ne.true in
+    sym (here s c.if-kind-lt18.false (omega (arith, c.count.ensures)) ∙ (λ i. stamped s (t i) (e i)))
 
 pub returns : goal.returns
 returns c =
-    let s = c in
-    let i = s.args.i in
-    let e : same (value_at (fs (goal.at.returns c).Start) i) (time (goal.at.returns c).Start) ≡ true = sym c.same_time.ensures ∙ c.if-not-same_time.false in
-    c.sum_right-2.ensures ∙ sym (here (goal.at.returns c).Else-n-i ∙ (λ j. (sixty (goal.at.returns c).Else-tag-i-ne60 j && e j) && same_fields (drop (i + 1) (fs (goal.at.returns c).Start)) (last (fs (goal.at.returns c).Start))))
+    let s = (goal.at.returns c).Start in
+    let t : eqb (tag_of (fs s) c.args.i) 60 ≡ true = eq-eqb (tag_of (fs s) c.args.i) 60 (sym c.tag.ensures ∙ c.if-tag-ne60.false) in
+    let e : same (value_at (fs s) c.args.i) (value_at (fs s) 6) ≡ true = (λ i. same (sym c.value.ensures i) (sym c.value-2.ensures i)) ∙ told_same c.value.result.now c.value-2.result.now c.ne.result c.ne.ensures c.if-ne.false in
+    c.sum_right-2.ensures ∙ sym (here s c.if-kind-lt18.false (omega (arith, c.count.ensures)) ∙ (λ i. stamped s (t i) (e i)))

@@ -7,4 +7,4 @@ use Rattle.fix_reader.proofs.pieces.nothing.Goals as goal
 
 pub returns : goal.returns
 unfolding tabled place_of list_below if◌then◌otherwise◌
-returns c = refl
+returns c = rw c.number.ensures refl

@@ -1,4 +1,4 @@
--- `split`: the invariant is what has been cut, `Split`. Rests on Laws.Split.
+-- `split`: what has been cut, `Split`. Rests on Laws.Split.
 use Rattle.std.proofs.Common.{◌-◌, length}
 use Rattle.fix_reader.specs.Laws.Split.{Split}
 use Rattle.fix_reader.proofs.pieces.split.Given as goal

@@ -1,43 +1,49 @@
 -- `tag_here`: byte by byte. Rests on Laws.Pieces.
-use Rattle.std.proofs.Common.{◌≡◌, ◌+◌, ◌-◌, ◌<◌, get_or, arith}
-use Rattle.fix_words.specs.Spelling.{equals}
-use Rattle.fix_reader.specs.Laws.Pieces.{tag_one, with_tag, no_tag}
+use Rattle.std.proofs.Common.{◌+◌, ◌*◌, sym, ◌∙◌, arith}
+use Rattle.fix_reader.specs.Laws.Pieces.{tag_one, tag_two, tag_three, no_tag}
 use Rattle.fix_reader.proofs.pieces.tag_here.Goals as goal
 
-pub returns-then-a-lt49 : goal.returns-then-a-lt49
-returns-then-a-lt49 c =
+pub returns-in_err-a : goal.returns-in_err-a
+returns-in_err-a c =
     let t = c.args.t.now in
-    let b0 : c.byte-a.result ≡ get_or t 0 0 = c.byte-a.ensures.0 in
-    no_tag t _ c.no_tag.ensures (λ x. omega arith) (λ x. omega arith) (λ x. omega arith)
+    rw c.from_residual.ensures (no_tag t (λ x. omega (arith, c.in_err-a.ensures)) (λ x. omega (arith, c.in_err-a.ensures)) (λ x. omega (arith, c.in_err-a.ensures)))
 
-pub returns-then-a-gt57 : goal.returns-then-a-gt57
-returns-then-a-gt57 c =
-    let t = c.args.t.now in
-    let b0 : c.byte-a.result ≡ get_or t 0 0 = c.byte-a.ensures.0 in
-    no_tag t _ c.no_tag-then-a-gt57.ensures (λ x. omega arith) (λ x. omega arith) (λ x. omega arith)
+pub returns-then-a-eq0 : goal.returns-then-a-eq0
+returns-then-a-eq0 c = no_tag c.args.t.now (λ x. omega (arith, c.in_ok-a.ensures.0)) (λ x. omega (arith, c.in_ok-a.ensures.0)) (λ x. omega (arith, c.in_ok-a.ensures.0))
 
-pub returns-then-b-eq61 : goal.returns-then-b-eq61
-returns-then-b-eq61 c =
-    let t = c.args.t.now in
-    let a = c.byte-a.result in
-    let b0 : a ≡ get_or t 0 0 = c.byte-a.ensures.0 in
-    let b1 : c.byte-b.result ≡ get_or t 1 0 = c.byte-b.ensures.0 in
-    let p : 0 < a - 48 = omega arith in
-    let h : a - 48 < 10 = omega arith in
-    let g : get_or t 0 0 ≡ 48 + (a - 48) = omega arith in
-    let e : get_or t 1 0 ≡ equals = omega arith in
-    with_tag t _ (tag_one t (a - 48) p h g e)
+pub returns-then-byte-eq61 : goal.returns-then-byte-eq61
+returns-then-byte-eq61 c = tag_one c.args.t.now c.in_ok-a.a (omega arith) c.in_ok-a.ensures.1 c.in_ok-a.ensures.0 (sym c.byte.ensures ∙ c.if-byte-eq61.true)
 
-pub returns-then-b-lt48 : goal.returns-then-b-lt48
-returns-then-b-lt48 c =
+pub returns-in_err-b : goal.returns-in_err-b
+returns-in_err-b c =
     let t = c.args.t.now in
-    let b0 : c.byte-a.result ≡ get_or t 0 0 = c.byte-a.ensures.0 in
-    let b1 : c.byte-b.result ≡ get_or t 1 0 = c.byte-b.ensures.0 in
-    no_tag t _ c.no_tag-then-b-lt48.ensures (λ x. omega arith) (λ x. omega arith) (λ x. omega arith)
+    let b = c.byte.ensures in
+    rw c.from_residual-in_err-b.ensures (no_tag t (λ x. omega arith) (λ x. omega (arith, c.in_err-b.ensures)) (λ x. omega (arith, c.in_err-b.ensures)))
 
-pub returns-then-b-gt57 : goal.returns-then-b-gt57
-returns-then-b-gt57 c =
+pub returns-then-byte-eq61-2 : goal.returns-then-byte-eq61-2
+returns-then-byte-eq61-2 c =
+    let a = c.in_ok-a.ensures in
+    let b = c.in_ok-b.ensures in
+    tag_two c.args.t.now (c.in_ok-a.a * 10 + c.in_ok-b.b) (omega arith) (omega (arith, a.1, b.1)) (omega (arith, a.0, b.1)) (omega (arith, b.0, b.1)) (sym c.byte-2.ensures ∙ c.if-byte-eq61-2.true)
+
+pub returns-in_err-c : goal.returns-in_err-c
+returns-in_err-c c =
     let t = c.args.t.now in
-    let b0 : c.byte-a.result ≡ get_or t 0 0 = c.byte-a.ensures.0 in
-    let b1 : c.byte-b.result ≡ get_or t 1 0 = c.byte-b.ensures.0 in
-    no_tag t _ c.no_tag-then-b-gt57.ensures (λ x. omega arith) (λ x. omega arith) (λ x. omega arith)
+    let b = c.byte.ensures in
+    let d = c.byte-2.ensures in
+    rw c.from_residual-in_err-c.ensures (no_tag t (λ x. omega arith) (λ x. omega arith) (λ x. omega (arith, c.in_err-c.ensures)))
+
+pub returns-then-byte-ne61 : goal.returns-then-byte-ne61
+returns-then-byte-ne61 c =
+    let b = c.byte.ensures in
+    let d = c.byte-2.ensures in
+    let e = c.byte-3.ensures in
+    no_tag c.args.t.now (λ x. omega arith) (λ x. omega arith) (λ x. omega arith)
+
+pub returns : goal.returns
+returns c =
+    let a = c.in_ok-a.ensures in
+    let b = c.in_ok-b.ensures in
+    let d = c.in_ok-c.ensures in
+    let n = (c.in_ok-a.a * 10 + c.in_ok-b.b) * 10 + c.in_ok-c.c in
+    tag_three c.args.t.now n (omega arith) (omega (arith, a.1, b.1, d.1)) (omega (arith, a.0, b.1, d.1)) (omega (arith, b.0, b.1, d.1)) (omega (arith, d.0, d.1)) (sym c.byte-3.ensures ∙ c.if-byte-ne61.false)

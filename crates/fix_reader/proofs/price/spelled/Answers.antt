@@ -1,9 +1,10 @@
 -- `spelled`: written again in a buffer of its own, and compared. Rests on Laws.Numbers.
-use Rattle.std.proofs.Common.{◌≡◌, ℕ, ◌-◌, ◌≤◌, List, length, get_or, take, ap, ◌∙◌, arith, w64, Fits, rules}
+use Rattle.std.proofs.Common.{◌≡◌, ℕ, ◌≤◌, List, length, get_or, take, ap, ◌∙◌, arith, w64, Fits, rules}
 use Rattle.wide.specs.Wide.{value}
 use Rattle.decimal.specs.Decimal.{decimal}
 use Rattle.decimal.specs.Laws.Width.{width_words, decimal_long}
 use Rattle.fix_words.specs.Lists.{same}
+use Rattle.fix_words.specs.Laws.Lists.{same_list}
 use Rattle.fix_reader.specs.Laws.Numbers.{written_front}
 use Rattle.fix_reader.proofs.price.spelled.Goals as goal
 use Rattle.fix_reader.proofs.price.spelled.Goals.{Start}
@@ -29,9 +30,7 @@ returns c =
     let a = c.args in
     let p = c.put_decimal-end in
     let w = decimal 8 (value a.n) in
-    c.same.ensures
-    ∙ ap (λ (l : List ℕ). same (take (p.result - 0) l) a.v.now) p.ensures.1
+    c.eq.ensures
+    ∙ same_list _ a.v.now
+    ∙ ap (λ (l : List ℕ). same (take p.result l) a.v.now) p.ensures.1
     ∙ ap (λ (l : List ℕ). same l a.v.now) (written_front w p.result p.ensures.0 (short (goal.at.returns c).Start))
-
-pub slice_bounds-same-count : goal.slice_bounds-same-count
-slice_bounds-same-count c = omega arith

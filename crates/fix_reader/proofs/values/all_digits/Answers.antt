@@ -1,37 +1,11 @@
--- `all_digits`: no byte so far is another. Rests on Laws.Special.
-use Rattle.std.proofs.Common.{length, sym, ◌∙◌, arith}
-use Rattle.prelude.specs.Below.{all_none, all_more, all_miss, all_done}
+-- `all_digits`: of every byte. Assumes nothing.
+use Rattle.std.proofs.Common.{rules, ◌∙◌}
+use borrow.Author.Tests.{tests}
+use Rattle.std.proofs.lemmas.Iterator.{YieldsList-from_slice}
+use Rattle.std.proofs.lemmas.Iterator.Search.{all_from_yields_List}
 use Rattle.decimal.specs.Decimal.{is_digit}
-use Rattle.fix_reader.specs.Laws.Special.{every_all}
+use Rattle.fix_words.specs.Laws.Lists.{every_list}
 use Rattle.fix_reader.proofs.values.all_digits.Goals as goal
-use Rattle.fix_reader.proofs.values.all_digits.Invariants.{digit_in}
-
-pub loop-i-init : goal.loop-i-init
-loop-i-init c = (omega arith, all_none (digit_in c.args.v.now))
-
-pub returns-then-not-is_digit : goal.returns-then-not-is_digit
-returns-then-not-is_digit c =
-    let v = c.args.v.now in
-    let l = c.loop-i in
-    sym (every_all is_digit v ∙ all_miss (digit_in v) (length v) l.i (omega arith) (sym c.is_digit.ensures ∙ c.if-not-is_digit.true))
-
-pub loop-i-preserved : goal.loop-i-preserved
-loop-i-preserved c =
-    let v = c.args.v.now in
-    let l = c.loop-i in
-    (omega arith, all_more (digit_in v) l.i l.invariant.1 (sym c.is_digit.ensures ∙ c.if-not-is_digit.false))
 
 pub returns : goal.returns
-returns c =
-    let v = c.args.v.now in
-    let l = c.loop-i in
-    sym (every_all is_digit v ∙ all_done (digit_in v) (length v) l.i l.invariant.1 l.invariant.0 (omega arith))
-
-pub bounds-v-i : goal.bounds-v-i
-bounds-v-i c = omega arith
-
-pub overflow_add-i : goal.overflow_add-i
-overflow_add-i c = omega arith
-
-pub loop-i-smaller : goal.loop-i-smaller
-loop-i-smaller c = omega arith
+returns c = all_from_yields_List is_digit _ _ _ c.all.ensures.ran (YieldsList-from_slice c.args.v.now (cc)) (λ x b q k. search (rules, tests)) ∙ every_list is_digit c.args.v.now

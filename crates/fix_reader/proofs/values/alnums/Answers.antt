@@ -1,37 +1,20 @@
--- `alnums`: no byte so far is another. Rests on Laws.Special.
-use Rattle.std.proofs.Common.{length, sym, ◌∙◌, arith}
-use Rattle.prelude.specs.Below.{all_none, all_more, all_miss, all_done}
-use Rattle.format.specs.Codes.{is_alnum}
-use Rattle.fix_reader.specs.Laws.Special.{every_all}
+-- `alnums`: of every byte. Assumes nothing.
+use Rattle.std.proofs.Common.{◌≡◌, ℕ, Bool, true, false, ◌||◌, refl, rules, ◌∙◌}
+use borrow.Author.Tests.{tests}
+use Rattle.std.specs.Char.{is_ascii_alphanumeric}
+use Rattle.std.proofs.lemmas.Iterator.{YieldsList-from_slice}
+use Rattle.std.proofs.lemmas.Iterator.Search.{all_from_yields_List}
+use Rattle.format.specs.Codes.{within, is_alnum}
+use Rattle.fix_words.specs.Laws.Lists.{every_list}
 use Rattle.fix_reader.proofs.values.alnums.Goals as goal
-use Rattle.fix_reader.proofs.values.alnums.Invariants.{alnum_in}
 
-pub loop-i-init : goal.loop-i-init
-loop-i-init c = (omega arith, all_none (alnum_in c.args.v.now))
+or_assoc : (a b c : Bool) → ((a || b) || c) ≡ (a || (b || c))
+or_assoc true b c = refl
+or_assoc false b c = refl
 
-pub returns-then-not-is_alnum : goal.returns-then-not-is_alnum
-returns-then-not-is_alnum c =
-    let v = c.args.v.now in
-    let l = c.loop-i in
-    sym (every_all is_alnum v ∙ all_miss (alnum_in v) (length v) l.i (omega arith) (sym c.is_alnum.ensures ∙ c.if-not-is_alnum.true))
-
-pub loop-i-preserved : goal.loop-i-preserved
-loop-i-preserved c =
-    let v = c.args.v.now in
-    let l = c.loop-i in
-    (omega arith, all_more (alnum_in v) l.i l.invariant.1 (sym c.is_alnum.ensures ∙ c.if-not-is_alnum.false))
+ascii : (c : ℕ) → is_ascii_alphanumeric c ≡ is_alnum c
+unfolding is_alnum
+ascii c = or_assoc (within 48 57 c) (within 65 90 c) (within 97 122 c)
 
 pub returns : goal.returns
-returns c =
-    let v = c.args.v.now in
-    let l = c.loop-i in
-    sym (every_all is_alnum v ∙ all_done (alnum_in v) (length v) l.i l.invariant.1 l.invariant.0 (omega arith))
-
-pub bounds-v-i : goal.bounds-v-i
-bounds-v-i c = omega arith
-
-pub overflow_add-i : goal.overflow_add-i
-overflow_add-i c = omega arith
-
-pub loop-i-smaller : goal.loop-i-smaller
-loop-i-smaller c = omega arith
+returns c = all_from_yields_List is_alnum _ _ _ c.all.ensures.ran (YieldsList-from_slice c.args.v.now (cc)) (λ x b q k. search (rules, tests, ascii)) ∙ every_list is_alnum c.args.v.now

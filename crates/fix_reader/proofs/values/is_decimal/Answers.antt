@@ -10,9 +10,6 @@ positive : (n : ℕ) → (n ≡ 0 → ⊥) → 0 < n
 positive zero h = absurd (h refl)
 positive (suc n) h = omega arith
 
-front : (n : ℕ) (v : List ℕ) → take (n - 0) (drop 0 v) ≡ take n v
-front n v = let z : n - 0 ≡ n = omega arith in ap (λ (j : ℕ). take j v) z
-
 rest : (n : ℕ) (v : List ℕ) → n ≤ length v → take (length v - n) (drop n v) ≡ drop n v
 rest n v h = take_all (length v - n) (drop n v) (omega (arith, length-drop n v))
 
@@ -29,24 +26,18 @@ returns-then-places-eq0 c =
     let z : 0 ≡ a.places = sym c.if-places-eq0.true in
     c.is_whole.ensures ∙ sym (whole_is v) ∙ ap (λ (p : ℕ). same (decimal p (number_in v)) v) z
 
-pub overflow_add-p : goal.overflow_add-p
-overflow_add-p c = omega (arith, c.small-p.ensures.1)
-
 pub returns-then-v-p : goal.returns-then-v-p
 returns-then-v-p c =
     let a = c.args in
-    sym (pointed_short a.places (positive a.places c.if-places-eq0.false) a.v.now (omega (arith, c.small-p.ensures.0)))
-
-pub overflow_add-k : goal.overflow_add-k
-overflow_add-k c = omega (arith, c.small-p.ensures.1)
+    sym (pointed_short a.places (positive a.places c.if-places-eq0.false) a.v.now (omega (arith, c.from-p.ensures)))
 
 pub returns-then-v-k-ne46 : goal.returns-then-v-k-ne46
 returns-then-v-k-ne46 c =
     let a = c.args in
     let v = a.v.now in
-    let q = c.small-p in
+    let q = c.from-p in
     let k : ℕ = length v - (q.result + 1) in
-    sym (spelled_so v a.places q.result q.ensures.0 (positive a.places c.if-places-eq0.false) (omega arith)
+    sym (spelled_so v a.places q.result q.ensures (positive a.places c.if-places-eq0.false) (omega arith)
     ∙ ap (λ (x : Bool). is_whole (take k v) && (x && every is_digit (drop (k + 1) v))) (ne_eqb (get_or v k 0) 46 c.if-v-k-ne46.true)
     ∙ both_false (is_whole (take k v)))
 
@@ -54,38 +45,11 @@ pub returns : goal.returns
 returns c =
     let a = c.args in
     let v = a.v.now in
-    let q = c.small-p in
+    let q = c.from-p in
     let k : ℕ = length v - (q.result + 1) in
     let h : k + 1 ≤ length v = omega arith in
-    let w = c.is_whole-2.ensures ∙ ap is_whole (front k v) in
+    let w = c.is_whole-2.ensures in
     let d = c.all_digits.ensures ∙ ap (every is_digit) (rest (k + 1) v h) in
     (λ i. w i && d i)
-    ∙ sym (spelled_so v a.places q.result q.ensures.0 (positive a.places c.if-places-eq0.false) (omega arith)
+    ∙ sym (spelled_so v a.places q.result q.ensures (positive a.places c.if-places-eq0.false) (omega arith)
     ∙ ap (λ (x : Bool). is_whole (take k v) && (x && every is_digit (drop (k + 1) v))) (eq-eqb (get_or v k 0) 46 c.if-v-k-ne46.false))
-
-pub overflow_sub-k : goal.overflow_sub-k
-overflow_sub-k c = omega arith
-
-pub bounds-v-k : goal.bounds-v-k
-bounds-v-k c = omega arith
-
-pub overflow_add-b : goal.overflow_add-b
-overflow_add-b c = omega arith
-
-pub slice_bounds-is_whole-count : goal.slice_bounds-is_whole-count
-slice_bounds-is_whole-count c = omega arith
-
-pub slice_bounds-is_whole-start : goal.slice_bounds-is_whole-start
-slice_bounds-is_whole-start c = omega arith
-
-pub slice_bounds-is_whole-end : goal.slice_bounds-is_whole-end
-slice_bounds-is_whole-end c = omega arith
-
-pub slice_bounds-all_digits-count : goal.slice_bounds-all_digits-count
-slice_bounds-all_digits-count c = omega arith
-
-pub slice_bounds-all_digits-start : goal.slice_bounds-all_digits-start
-slice_bounds-all_digits-start c = omega arith
-
-pub slice_bounds-all_digits-end : goal.slice_bounds-all_digits-end
-slice_bounds-all_digits-end c = omega arith

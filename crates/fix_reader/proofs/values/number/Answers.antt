@@ -1,54 +1,28 @@
--- `number`: the invariant is the number of the bytes passed. Rests on Laws.Numbers.
-use Rattle.std.proofs.Common.{◌≡◌, ℕ, ◌+◌, ◌<◌, ◌≤◌, true, false, List, length, get_or, take, sym, refl, ap, ◌∙◌, arith}
-use borrow.Author.Tests.{not-true, not-false}
-use Rattle.prelude.specs.Cases.{clash}
+-- `number`: the number of the bytes passed. Rests on Laws.Numbers.
+use Rattle.std.proofs.Common.{◌≡◌, ℕ, ◌+◌, ◌<◌, ◌≤◌, length, get_or, take, sym, ap, ◌∙◌, arith}
 use Rattle.decimal.specs.Decimal.{number_in}
 use Rattle.fix_reader.specs.Laws.Numbers.{step_of, word, read_more, read_least, read_all}
 use Rattle.fix_reader.proofs.values.number.Goals as goal
-use Rattle.fix_reader.proofs.values.number.Goals.{After-step-s, Start}
 
-abbrev src : Start → List ℕ
-src s = s.args.v.now
+pub returns-in_err-n : goal.returns-in_err-n
+returns-in_err-n c =
+    let v = c.args.v.now in
+    let l = c.loop-c in
+    let h : l.c-index < length v = omega arith in
+    let m : number_in (take (l.c-index + 1) v) ≡ step_of l.n (get_or v l.c-index 0) = read_more v l.c-index h ∙ ap (λ (n : ℕ). step_of n (get_or v l.c-index 0)) (sym l.invariant.0) in
+    let o : word ≤ step_of l.n (get_or v l.c-index 0) = c.in_err-n.ensures in
+    let b : word ≤ number_in v = omega (arith, m, read_least v (l.c-index + 1)) in
+    rw c.from_residual.ensures b
 
--- one byte more
-more : (c : After-step-s) → let l = c.loop-i in let v = src (goal.at.After-step-s c).Start in
-    number_in (take (l.i + 1) v) ≡ step_of l.n (get_or v l.i 0)
-more c =
-    let l = c.loop-i in
-    let v = src (goal.at.After-step-s c).Start in
-    let h : l.i < length v = omega arith in
-    read_more v l.i h ∙ ap (λ (m : ℕ). step_of m (get_or v l.i 0)) l.invariant.1
-
-pub loop-i-init : goal.loop-i-init
-loop-i-init c = (omega arith, refl)
-
-pub returns-then-not-s : goal.returns-then-not-s
-returns-then-not-s c =
-    let l = c.loop-i in
-    let v = src (goal.at.returns-then-not-s c).Start in
-    let s = c.step-s in
-    let f : s.result.fits ≡ false = not-true _ c.if-not-s.true in
-    let o : word ≤ step_of l.n (get_or v l.i 0) = s.ensures.over f in
-    let b : word ≤ number_in v = omega (arith, more (goal.at.returns-then-not-s c).After-step-s, read_least v (l.i + 1)) in
-    record { fits = λ e. clash s.result.fits e f; over = λ e. b }
-
-pub loop-i-preserved : goal.loop-i-preserved
-loop-i-preserved c =
-    let s = c.step-s in
-    (omega arith, more (goal.at.loop-i-preserved c).After-step-s ∙ sym (s.ensures.fits (not-false _ c.if-not-s.false)))
+pub loop-c-preserved : goal.loop-c-preserved
+loop-c-preserved c =
+    let v = c.args.v.now in
+    let l = c.loop-c in
+    let h : l.c-index < length v = omega arith in
+    (c.in_ok-n.ensures.0 ∙ ap (λ (n : ℕ). step_of n (get_or v l.c-index 0)) l.invariant.0 ∙ sym (read_more v l.c-index h), c.in_ok-n.ensures.1)
 
 pub returns : goal.returns
 returns c =
-    let l = c.loop-i in
-    let v = src (goal.at.returns c).Start in
-    let h : length v ≤ l.i = omega arith in
-    record { fits = λ e. sym l.invariant.1 ∙ read_all v l.i h; over = λ e. clash true refl e }
-
-pub bounds-v-i : goal.bounds-v-i
-bounds-v-i c = omega arith
-
-pub overflow_add-i : goal.overflow_add-i
-overflow_add-i c = omega arith
-
-pub loop-i-smaller : goal.loop-i-smaller
-loop-i-smaller c = omega arith
+    let v = c.args.v.now in
+    let l = c.loop-c in
+    (l.invariant.0 ∙ read_all v l.c-index (omega arith), l.invariant.1)

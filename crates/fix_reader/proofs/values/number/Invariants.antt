@@ -1,10 +1,8 @@
--- `number`: the invariant is the number of the bytes passed. Rests on Laws.Numbers.
-use Rattle.std.proofs.Common.{◌≡◌, ◌-◌, ◌≤◌, length, take}
+-- `number`: the number of the bytes passed. Rests on Laws.Numbers.
+use Rattle.std.proofs.Common.{◌≡◌, ◌<◌, take}
 use Rattle.decimal.specs.Decimal.{number_in}
+use Rattle.fix_reader.specs.Laws.Numbers.{word}
 use Rattle.fix_reader.proofs.values.number.Given as goal
 
-abbrev pub invariant-loop-i : goal.invariant-loop-i
-invariant-loop-i l = (l.i ≤ length l.v) × (number_in (take l.i l.v) ≡ l.n)
-
-abbrev pub decreases-loop-i : goal.decreases-loop-i
-decreases-loop-i l = length l.v - l.i
+abbrev pub invariant-loop-c : goal.invariant-loop-c
+invariant-loop-c l = (l.n ≡ number_in (take l.c-index l.v)) × (l.n < word)

@@ -1,7 +1,8 @@
 -- `spelled`: the decimal written into a buffer of its own, and compared. Rests on Laws.Numbers.
-use Rattle.std.proofs.Common.{ℕ, ◌-◌, ◌≤◌, List, length, take, sym, ap, ◌∙◌, arith}
+use Rattle.std.proofs.Common.{ℕ, ◌≤◌, List, length, take, sym, ap, ◌∙◌, arith}
 use Rattle.decimal.specs.Decimal.{decimal}
 use Rattle.fix_words.specs.Lists.{same}
+use Rattle.fix_words.specs.Laws.Lists.{same_list}
 use Rattle.fix_reader.specs.Laws.Numbers.{same_long, written_front}
 use Rattle.fix_reader.proofs.values.spelled.Goals as goal
 
@@ -16,6 +17,7 @@ returns c =
     let p = c.put_decimal-end in
     let w = decimal a.places a.n in
     let h : length w ≤ 320 = omega (arith, c.decimal_length-long.ensures.0, c.decimal_length-long.ensures.1) in
-    c.same.ensures
-    ∙ ap (λ (l : List ℕ). same (take (p.result - 0) l) a.v.now) p.ensures.1
+    c.eq.ensures
+    ∙ same_list _ a.v.now
+    ∙ ap (λ (l : List ℕ). same (take p.result l) a.v.now) p.ensures.1
     ∙ ap (λ (l : List ℕ). same l a.v.now) (written_front w p.result p.ensures.0 h)

@@ -1,36 +1,26 @@
 -- `step`: a digit counts, any other byte does not. Rests on Laws.Numbers.
-use Rattle.std.proofs.Common.{◌≡◌, ◌+◌, ◌-◌, ◌*◌, ◌≤◌, true, false, sym, refl, ◌∙◌, arith}
-use Rattle.prelude.specs.Cases.{clash}
-use Rattle.fix_reader.specs.Laws.Numbers.{step_of, word, step_low, step_high_lem, step_digit}
+use Rattle.std.proofs.Common.{◌≡◌, ◌≤◌, ◌<◌, ℕ, ◌+◌, true, None, Some, sym, ◌∙◌, arith}
+use Rattle.std.specs.Prelude.{Option}
+use Rattle.std.specs.Option.{SomeIff}
+use Rattle.decimal.specs.Decimal.{is_digit}
+use Rattle.fix_reader.specs.Laws.Numbers.{word, step_of, Steps, step_other, step_digit}
 use Rattle.fix_reader.proofs.values.step.Goals as goal
-use Rattle.fix_reader.proofs.values.step.Goals.{After-wide-d}
 
-digit : (c : After-wide-d) → let a = c.args in step_of a.n a.c ≡ a.n * 10 + (a.c - 48)
-digit c = let a = c.args in step_digit a.n a.c c.if-c-lt48.false c.if-c-gt57.false
+pub returns-then-not-is_ascii_digit : goal.returns-then-not-is_ascii_digit
+returns-then-not-is_ascii_digit c = (sym (step_other c.args.n c.args.c (sym c.is_ascii_digit.ensures.value ∙ c.if-not-is_ascii_digit.true)), omega arith)
 
-pub returns-then-c-lt48 : goal.returns-then-c-lt48
-returns-then-c-lt48 c = let a = c.args in record { fits = λ e. sym (step_low a.n a.c c.if-c-lt48.true); over = λ e. clash true refl e }
+pub returns-in_err-checked_mul : goal.returns-in_err-checked_mul
+returns-in_err-checked_mul c =
+    let d : is_digit c.args.c ≡ true = sym c.is_ascii_digit.ensures.value ∙ c.if-not-is_ascii_digit.false in
+    let b : word ≤ step_of c.args.n c.args.c = omega (arith, step_digit c.args.n c.args.c d, c.in_err-checked_mul.ensures) in
+    rw c.from_residual.ensures b
 
-pub returns-then-c-gt57 : goal.returns-then-c-gt57
-returns-then-c-gt57 c = let a = c.args in record { fits = λ e. sym (step_high_lem a.n a.c c.if-c-gt57.true); over = λ e. clash true refl e }
-
-pub returns-then-n-lt1844674407370955161 : goal.returns-then-n-lt1844674407370955161
-returns-then-n-lt1844674407370955161 c =
-    let a = c.args in
-    let w : c.wide-d.result ≡ a.c = c.wide-d.ensures.0 in
-    let q : a.n * 10 + (c.wide-d.result - 48) ≡ a.n * 10 + (a.c - 48) = omega arith in
-    record { fits = λ e. q ∙ sym (digit (goal.at.returns-then-n-lt1844674407370955161 c).After-wide-d); over = λ e. clash true refl e }
-
-pub returns-then-n-d : goal.returns-then-n-d
-returns-then-n-d c =
-    let a = c.args in
-    let z = digit (goal.at.returns-then-n-d c).After-wide-d in
-    let w : c.wide-d.result ≡ a.c = c.wide-d.ensures.0 in
-    record { fits = λ e. clash false e refl; over = λ e. let b : word ≤ step_of a.n a.c = omega arith in b }
+-- a sum that fits, or does not
+summed : (n c a b : ℕ) (o : Option ℕ) → SomeIff o (a + b < word) (a + b) → step_of n c ≡ a + b → Steps n c o
+summed n c a b None h e = omega (arith, h, e)
+summed n c a b (Some m) h e = (h.1 ∙ sym e, omega (arith, h.0, h.1))
 
 pub returns : goal.returns
 returns c =
-    let a = c.args in
-    let w : c.wide-d.result ≡ a.c = c.wide-d.ensures.0 in
-    let q : a.n * 10 + (c.wide-d.result - 48) ≡ a.n * 10 + (a.c - 48) = omega arith in
-    record { fits = λ e. q ∙ sym (digit (goal.at.returns c).After-wide-d); over = λ e. clash true refl e }
+    let d : is_digit c.args.c ≡ true = sym c.is_ascii_digit.ensures.value ∙ c.if-not-is_ascii_digit.false in
+    summed c.args.n c.args.c c.in_ok-checked_mul.field-0 c.from.result c.checked_add.result c.checked_add.ensures (omega (arith, step_digit c.args.n c.args.c d, c.in_ok-checked_mul.ensures))

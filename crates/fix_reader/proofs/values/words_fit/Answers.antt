@@ -1,38 +1,40 @@
 -- `words_fit`: none of the words before n. Rests on Laws.Special.
-use Rattle.std.proofs.Common.{sym, ◌∙◌, arith}
-use Rattle.prelude.specs.Below.{first_more, first_done}
-use Rattle.fix_reader.specs.Laws.Special.{is_words, words_found, words_missing, words_empty, words_start}
+use Rattle.std.proofs.Common.{◌≡◌, ℕ, ◌<◌, List, [], length, slice_index_or, nat_eq, sym, ap, ◌∙◌, arith, eqb-true, eq-eqb}
+use Rattle.std.specs.Cmp.Lexicographic.{pointwise}
+use Rattle.prelude.specs.Cases.{clash}
+use Rattle.prelude.specs.Below.{first_more}
+use Rattle.fix_words.specs.Lists.{same}
+use Rattle.fix_words.specs.Laws.Lists.{same_list}
+use Rattle.fix_table.specs.Table.{spoken}
+use Rattle.fix_reader.specs.Laws.Ending.{same_turned}
+use Rattle.fix_reader.specs.Laws.Special.{is_words, words_empty, words_start, words_found, words_missing, spoken_words}
 use Rattle.fix_reader.proofs.values.words_fit.Goals as goal
 
-pub returns-then-v-eq0 : goal.returns-then-v-eq0
-returns-then-v-eq0 c = sym (words_empty c.args.v.now c.if-v-eq0.true)
+pub returns-then-is_empty : goal.returns-then-is_empty
+returns-then-is_empty c = sym (words_empty c.args.v.now (eqb-true (length c.args.v.now) 0 (sym c.is_empty.ensures ∙ c.if-is_empty.true)))
+
+-- whether the words n are the value
+compared : (v w : List ℕ) (n : ℕ) → n < 19 → w ≡ slice_index_or spoken n [] → pointwise nat_eq v w ≡ is_words v n
+compared v w n h e = same_list v w ∙ same_turned v w ∙ ap (λ (w : List ℕ). same w v) (e ∙ spoken_words n h)
 
 pub loop-n-init : goal.loop-n-init
-loop-n-init c = (omega arith, omega arith, words_start c.args.v.now c.if-v-eq0.false)
+loop-n-init c = let v = c.args.v.now in words_start v (λ e. clash (nat_eq (length v) 0) (eq-eqb (length v) 0 e) (sym c.is_empty.ensures ∙ c.if-is_empty.false))
 
-pub returns-then-is_words : goal.returns-then-is_words
-returns-then-is_words c =
+pub returns-then-eq : goal.returns-then-eq
+returns-then-eq c =
     let v = c.args.v.now in
     let l = c.loop-n in
-    sym (words_found v l.n l.invariant.0 (omega arith) l.invariant.2 (sym c.is_words.ensures ∙ c.if-is_words.true))
+    sym (words_found v l.n (omega arith) (omega arith) l.invariant (sym (compared v c.words.result.now l.n (omega arith) c.words.ensures) ∙ sym c.eq.ensures ∙ c.if-eq.true))
 
 pub loop-n-preserved : goal.loop-n-preserved
 loop-n-preserved c =
     let v = c.args.v.now in
     let l = c.loop-n in
-    (omega arith, omega arith, first_more (is_words v) l.n l.invariant.2 (sym c.is_words.ensures ∙ c.if-is_words.false))
+    first_more (is_words v) l.n l.invariant (sym (compared v c.words.result.now l.n (omega arith) c.words.ensures) ∙ sym c.eq.ensures ∙ c.if-eq.false)
 
 pub returns : goal.returns
 returns c =
     let v = c.args.v.now in
     let l = c.loop-n in
-    sym (words_missing v (first_done (is_words v) 19 l.n l.invariant.2 l.invariant.1 (omega arith)))
-
-pub is_words-requires : goal.is_words-requires
-is_words-requires c = omega arith
-
-pub overflow_add-n : goal.overflow_add-n
-overflow_add-n c = omega arith
-
-pub loop-n-smaller : goal.loop-n-smaller
-loop-n-smaller c = omega arith
+    let z : l.n ≡ 19 = omega arith in
+    sym (words_missing v (rw z at l.invariant))

@@ -1,10 +1,10 @@
--- `value_fits`: by the form of the bit. Rests on Laws.Bits, Laws.Classes and Laws.Special.
-use Rattle.std.proofs.Common.{◌≡◌, ℕ, ◌<◌, true, ◌&&◌, ◌||◌, ltb, List, sym, refl, ap, ◌∙◌, subst, ne_eqb}
+-- `value_fits`: by the bit and its form. Rests on Laws.Bits, Laws.Classes and Laws.Special.
+use Rattle.std.proofs.Common.{◌≡◌, ℕ, ◌<◌, true, ◌&&◌, ◌||◌, ltb, sym, refl, ap, ◌∙◌, subst, arith, ne_eqb}
 use Rattle.prelude.specs.Number.{bound}
 use Rattle.bits.specs.Map.{bit}
 use Rattle.format.specs.Format.{range, in_range, required, allowed}
 use Rattle.decimal.specs.Decimal.{decimal, number_in}
-use Rattle.fix_words.specs.Lists.{every, same}
+use Rattle.fix_words.specs.Lists.{same}
 use Rattle.fix_words.specs.Rows.{in_rows}
 use Rattle.fix_words.specs.Values.{rows}
 use Rattle.fix_words.proofs.Laws.Kinds.{row_small}
@@ -14,16 +14,7 @@ use Rattle.fix_reader.specs.Laws.Special.{exec_fits, price_fits, words_fit}
 use Rattle.fix_reader.specs.Laws.Bits.{may_stand, name_must, text_bit, code_bit, NumberBit, number_bit}
 use Rattle.fix_reader.specs.Laws.End.{bytes_all}
 use Rattle.fix_reader.proofs.walk.value_fits.Goals as goal
-use Rattle.fix_reader.proofs.walk.value_fits.Goals.{After-shared_slice_known-1, Else-form-eq1, Start}
-
-abbrev src : Start → List ℕ
-src s = s.args.v.now
-
-abbrev name : Start → List ℕ
-name s = s.args.name.now
-
-bytes : (e : After-shared_slice_known-1) → every (λ x. ltb x 256) (src (goal.at.After-shared_slice_known-1 e).Start) ≡ true
-bytes e = bytes_all (src (goal.at.After-shared_slice_known-1 e).Start) (λ k. (e.shared_slice_known-1.given k).fits)
+use Rattle.fix_reader.proofs.walk.value_fits.Goals.{In-Number, Start}
 
 in_row : (s : Start) (x : ℕ) → s.args.b ≡ x → in_rows (rows s.args.kind) x ≡ true
 in_row s x e = subst (λ (b : ℕ). in_rows (rows s.args.kind) b ≡ true) e s.requires.1
@@ -31,79 +22,71 @@ in_row s x e = subst (λ (b : ℕ). in_rows (rows s.args.kind) b ≡ true) e s.r
 stand : (s : Start) (x : ℕ) → s.args.b ≡ x → (bit (required s.args.kind) x || bit (allowed s.args.kind) x) ≡ true
 stand s x e = may_stand s.args.kind s.requires.0 x (in_row s x e)
 
-named : (s : Start) (x : ℕ) → s.args.b ≡ x → fits s.args.kind (name s) x (src s) ≡ fits s.args.kind (name s) s.args.b (src s)
-named s x e = ap (λ (b : ℕ). fits s.args.kind (name s) b (src s)) (sym e)
+named : (s : Start) (x : ℕ) → s.args.b ≡ x → fits s.args.kind s.args.name.now x s.args.v.now ≡ fits s.args.kind s.args.name.now s.args.b s.args.v.now
+named s x e = ap (λ (b : ℕ). fits s.args.kind s.args.name.now b s.args.v.now) (sym e)
 
 small : (s : Start) → s.args.b < 32
 small s = row_small s.args.kind s.requires.0 s.args.b s.requires.1
 
-numbered : (e : Else-form-eq1) → NumberBit e.args.b
-numbered e =
-    let s = e in
-    let f = e.form_of-form in
-    number_bit s.args.kind s.requires.0 s.args.b s.requires.1 (λ q. e.if-form-eq2.false (f.ensures ∙ q)) (λ q. e.if-form-eq1.false (f.ensures ∙ q))
-    e.if-b-eq2.false e.if-b-eq25.false e.if-b-eq26.false e.if-b-eq27.false
-
-pub returns-then-b-eq2 : goal.returns-then-b-eq2
-returns-then-b-eq2 c =
-    let s = c in
-    let e : s.args.b ≡ 2 = c.if-b-eq2.true in
+pub returns-in-2 : goal.returns-in-2
+returns-in-2 c =
+    let s = (goal.at.returns-in-2 c).Start in
+    let a = c.args in
     c.name_fits.ensures
-    ∙ sym (name_fits s.args.kind (name (goal.at.returns-then-b-eq2 c).Start) (src (goal.at.returns-then-b-eq2 c).Start) (stand (goal.at.returns-then-b-eq2 c).Start 2 e) (name_must s.args.kind s.requires.0 (in_row (goal.at.returns-then-b-eq2 c).Start 2 e)) (bytes (goal.at.returns-then-b-eq2 c).After-shared_slice_known-1) s.requires.2)
-    ∙ named (goal.at.returns-then-b-eq2 c).Start 2 e
+    ∙ sym (name_fits a.kind a.name.now a.v.now (stand s 2 c.in-2.is) (name_must a.kind c.requires.0 (in_row s 2 c.in-2.is)) (bytes_all a.v.now (λ k. (c.type_inv.v k).fits)) c.requires.2)
+    ∙ named s 2 c.in-2.is
 
-pub returns-then-b-eq25 : goal.returns-then-b-eq25
-returns-then-b-eq25 c =
-    let s = c in
-    let e : s.args.b ≡ 25 = c.if-b-eq25.true in
-    c.exec_fits.ensures ∙ sym (exec_fits s.args.kind (name (goal.at.returns-then-b-eq25 c).Start) (src (goal.at.returns-then-b-eq25 c).Start) (stand (goal.at.returns-then-b-eq25 c).Start 25 e)) ∙ named (goal.at.returns-then-b-eq25 c).Start 25 e
+pub returns-in-25 : goal.returns-in-25
+returns-in-25 c =
+    let s = (goal.at.returns-in-25 c).Start in
+    let a = c.args in
+    c.exec_fits.ensures ∙ sym (exec_fits a.kind a.name.now a.v.now (stand s 25 c.in-25.is)) ∙ named s 25 c.in-25.is
 
-pub returns-then-b-eq26 : goal.returns-then-b-eq26
-returns-then-b-eq26 c =
-    let s = c in
-    let e : s.args.b ≡ 26 = c.if-b-eq26.true in
-    c.price_fits.ensures ∙ sym (price_fits s.args.kind (name (goal.at.returns-then-b-eq26 c).Start) (src (goal.at.returns-then-b-eq26 c).Start) (stand (goal.at.returns-then-b-eq26 c).Start 26 e)) ∙ named (goal.at.returns-then-b-eq26 c).Start 26 e
+pub returns-in-26 : goal.returns-in-26
+returns-in-26 c =
+    let s = (goal.at.returns-in-26 c).Start in
+    let a = c.args in
+    c.price_fits.ensures ∙ sym (price_fits a.kind a.name.now a.v.now (stand s 26 c.in-26.is)) ∙ named s 26 c.in-26.is
 
-pub returns-then-b-eq27 : goal.returns-then-b-eq27
-returns-then-b-eq27 c =
-    let s = c in
-    let e : s.args.b ≡ 27 = c.if-b-eq27.true in
-    c.words_fit.ensures ∙ sym (words_fit (src (goal.at.returns-then-b-eq27 c).Start) s.args.kind (name (goal.at.returns-then-b-eq27 c).Start) (stand (goal.at.returns-then-b-eq27 c).Start 27 e)) ∙ named (goal.at.returns-then-b-eq27 c).Start 27 e
+pub returns-in-27 : goal.returns-in-27
+returns-in-27 c =
+    let s = (goal.at.returns-in-27 c).Start in
+    let a = c.args in
+    c.words_fit.ensures ∙ sym (words_fit a.v.now a.kind a.name.now (stand s 27 c.in-27.is)) ∙ named s 27 c.in-27.is
 
-pub text_fits-requires : goal.text_fits-requires
-text_fits-requires c = c.requires.2
-
-pub returns-then-form-eq2 : goal.returns-then-form-eq2
-returns-then-form-eq2 c =
-    let s = c in
-    let x : ℕ = s.args.b in
-    let t = text_bit x (small (goal.at.returns-then-form-eq2 c).Start) (sym c.form_of-form.ensures ∙ c.if-form-eq2.true) in
+pub returns-in-Text : goal.returns-in-Text
+returns-in-Text c =
+    let s = (goal.at.returns-in-Text c).Start in
+    let a = c.args in
+    let t = text_bit a.b (small s) (sym c.form_of.ensures ∙ c.in-Text.is) in
     c.text_fits.ensures
-    ∙ sym (text_fits s.args.kind x (name (goal.at.returns-then-form-eq2 c).Start) (src (goal.at.returns-then-form-eq2 c).Start) (stand (goal.at.returns-then-form-eq2 c).Start x refl) (bytes (goal.at.returns-then-form-eq2 c).After-shared_slice_known-1) t.plain (ne_eqb x 2 c.if-b-eq2.false) (ne_eqb x 25 c.if-b-eq25.false) (ne_eqb x 27 c.if-b-eq27.false) t.text)
+    ∙ sym (text_fits a.kind a.b a.name.now a.v.now (stand s a.b refl) (bytes_all a.v.now (λ k. (c.type_inv.v k).fits)) t.plain (ne_eqb a.b 2 (omega arith)) (ne_eqb a.b 25 (omega arith)) (ne_eqb a.b 27 (omega arith)) t.text)
 
-pub returns-then-form-eq1 : goal.returns-then-form-eq1
-returns-then-form-eq1 c =
-    let s = c in
-    let x : ℕ = s.args.b in
-    let t = code_bit x (small (goal.at.returns-then-form-eq1 c).Start) (sym c.form_of-form.ensures ∙ c.if-form-eq1.true) in
+pub returns-in-Code : goal.returns-in-Code
+returns-in-Code c =
+    let s = (goal.at.returns-in-Code c).Start in
+    let a = c.args in
+    let t = code_bit a.b (small s) (sym c.form_of.ensures ∙ c.in-Code.is) in
     c.code_fits.ensures
-    ∙ sym (code_fits s.args.kind x (name (goal.at.returns-then-form-eq1 c).Start) (src (goal.at.returns-then-form-eq1 c).Start) (stand (goal.at.returns-then-form-eq1 c).Start x refl) (bytes (goal.at.returns-then-form-eq1 c).After-shared_slice_known-1) t.plain (ne_eqb x 2 c.if-b-eq2.false) (ne_eqb x 25 c.if-b-eq25.false) (ne_eqb x 27 c.if-b-eq27.false) t.text t.one)
+    ∙ sym (code_fits a.kind a.b a.name.now a.v.now (stand s a.b refl) (bytes_all a.v.now (λ k. (c.type_inv.v k).fits)) t.plain (ne_eqb a.b 2 (omega arith)) (ne_eqb a.b 25 (omega arith)) (ne_eqb a.b 27 (omega arith)) t.text t.one)
+
+numbered : (e : In-Number) → NumberBit e.args.b e.in-Number.places
+numbered e =
+    number_bit e.args.kind e.requires.0 e.args.b e.requires.1 e.in-Number.places (sym e.form_of.ensures ∙ e.in-Number.is) (omega arith) (omega arith) (omega arith) (omega arith)
 
 pub number_fits-requires : goal.number_fits-requires
 number_fits-requires c =
-    let t = numbered (goal.at.number_fits-requires c).Else-form-eq1 in
+    let t = numbered (goal.at.number_fits-requires c).In-Number in
     let e = c.size_of.ensures.0 in
     λ a8 a4. e ∙ t.sizes (λ q. a8 (e ∙ q)) (λ q. a4 (e ∙ q))
 
-pub returns : goal.returns
-returns c =
-    let s = c in
-    let x : ℕ = s.args.b in
-    let t = numbered (goal.at.returns c).Else-form-eq1 in
-    let v = src (goal.at.returns c).Start in
+pub returns-in-Number : goal.returns-in-Number
+returns-in-Number c =
+    let s = (goal.at.returns-in-Number c).Start in
+    let a = c.args in
+    let t = numbered (goal.at.returns-in-Number c).In-Number in
+    let v = a.v.now in
     let n : ℕ = number_in v in
-    let z = c.size_of.ensures.0 in
-    let f = c.form_of-form.ensures ∙ sym t.places in
     c.number_fits.ensures
-    ∙ (λ i. ltb n (bound (z i)) && (same (decimal (f i) n) v && in_range (range x) n))
-    ∙ sym (number_fits s.args.kind x (name (goal.at.returns c).Start) v (stand (goal.at.returns c).Start x refl) (bytes (goal.at.returns c).After-shared_slice_known-1) t.plain t.text t.short (ne_eqb x 2 c.if-b-eq2.false) t.other (ne_eqb x 25 c.if-b-eq25.false) (ne_eqb x 27 c.if-b-eq27.false))
+    ∙ (λ i. ltb n (bound (c.size_of.ensures.0 i)) && (same (decimal (sym t.places i) n) v && in_range (range a.b) n))
+    ∙ sym (number_fits a.kind a.b a.name.now v (stand s a.b refl) (bytes_all v (λ k. (c.type_inv.v k).fits)) t.plain t.text t.short (ne_eqb a.b 2 (omega arith)) t.other (ne_eqb a.b 25 (omega arith)) (ne_eqb a.b 27 (omega arith)))

@@ -1,28 +1,43 @@
--- `walk`: the rows that are left, from where it stands. Rests on Laws.Taking.
-use Rattle.std.proofs.Common.{◌≡◌, ℕ, length, drop, refl, ap, ◌∙◌, arith}
-use Rattle.fix_words.specs.Spelling.{fields_in}
+-- `walk`: the walk from where it stands is the whole walk. Rests on Laws.Taking.
+use Rattle.std.proofs.Common.{◌+◌, ◌<◌, ◌≤◌, List, length, drop, Some, refl, sym, ap, ◌∙◌, arith, drop_of_length-le}
+use Rattle.std.proofs.lemmas.List.{length-map}
+use Rattle.fix_words.specs.Rows.{in_rows}
+use Rattle.fix_words.specs.Spelling.{Field, fields_in}
 use Rattle.fix_words.specs.Values.{rows}
-use Rattle.fix_reader.specs.Laws.Taking.{walk_on, on_goes}
+use Rattle.fix_table.specs.Table.{as_row}
+use Rattle.fix_table.specs.Laws.Rows.{row_is, rows_next}
+use Rattle.fix_reader.specs.Laws.Taking.{walk_on, row_in, walked_all}
 use Rattle.fix_reader.proofs.walk.walk.Goals as goal
 
-pub loop-j-init : goal.loop-j-init
-loop-j-init c = let a = c.args in (omega arith, on_goes (fields_in a.m.now) a.kind _ (drop 0 (rows a.kind)) refl)
+pub loop-row-init : goal.loop-row-init
+loop-row-init c = refl
 
-pub take_row-t-requires : goal.take_row-t-requires
-take_row-t-requires c = let s = c in (s.requires.0, s.requires.1, omega (arith, c.count_of-count.ensures.0))
+pub take_row-requires : goal.take_row-requires
+take_row-requires c =
+    let k = c.args.kind in
+    let e = c.rows-row-items.ensures in
+    let h : c.loop-row.row-index < length (rows k) = omega (arith, sym (length-map c.rows-row-items.result.now as_row) ∙ ap length e) in
+    (c.requires, ap (in_rows (rows k)) (row_is _ k c.loop-row.row-index _ e c.loop-row-test.true).bit ∙ row_in k c.loop-row.row-index h)
 
-pub overflow_add-j : goal.overflow_add-j
-overflow_add-j c = omega (arith, c.count_of-count.ensures.1)
+pub returns-in_err-t : goal.returns-in_err-t
+returns-in_err-t c =
+    let l = c.loop-row in
+    let k = c.args.kind in
+    let fs : List Field = fields_in c.args.f.now.message.now in
+    rw c.from_residual.ensures
+    (c.in_err-t.ensures (drop (l.row-index + 1) (rows k)) ∙ ap (walk_on fs k (Some l.t)) (sym (rows_next _ k l.row-index _ c.rows-row-items.ensures c.loop-row-test.true)) ∙ l.invariant)
 
-pub loop-j-preserved : goal.loop-j-preserved
-loop-j-preserved c = (omega arith, c.take_row-t.ensures ∙ c.loop-j.invariant.1)
+pub loop-row-preserved : goal.loop-row-preserved
+loop-row-preserved c =
+    let l = c.loop-row in
+    let k = c.args.kind in
+    let fs : List Field = fields_in c.args.f.now.message.now in
+    c.in_ok-t.ensures (drop (l.row-index + 1) (rows k)) ∙ ap (walk_on fs k (Some l.t)) (sym (rows_next _ k l.row-index _ c.rows-row-items.ensures c.loop-row-test.true)) ∙ l.invariant
 
 pub returns : goal.returns
 returns c =
-    let a = c.args in
-    let l = c.loop-j in
-    let e : length (rows a.kind) ≡ l.j = omega (arith, c.count_of-count.ensures.0, l.invariant.0) in
-    ap (λ (j : ℕ). walk_on (fields_in a.m.now) a.kind l.t (drop j (rows a.kind))) e ∙ l.invariant.1
-
-pub loop-j-smaller : goal.loop-j-smaller
-loop-j-smaller c = omega arith
+    let l = c.loop-row in
+    let k = c.args.kind in
+    let fs : List Field = fields_in c.args.f.now.message.now in
+    let h : length (rows k) ≤ l.row-index = omega (arith, sym (length-map c.rows-row-items.result.now as_row) ∙ ap length c.rows-row-items.ensures) in
+    sym (walked_all fs k l.t) ∙ ap (walk_on fs k (Some l.t)) (sym (drop_of_length-le (rows k) {i = l.row-index} h)) ∙ l.invariant

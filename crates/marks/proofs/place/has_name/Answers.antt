@@ -1,27 +1,14 @@
--- `has_name` meets its contract: the bytes of the name below k agree. Assumes nothing.
-use borrow.Author.Rules.{rules}
-use mathlib.Core.Path.{sym}
-use native.Mathlib.Omega.{arith}
-use Rattle.prelude.specs.Below.{all_none, all_more, all_done}
-use Rattle.marks.specs.Marks.{has_name}
-use Rattle.marks.proofs.Laws.Places.{agrees, differs}
+-- `has_name` meets its contract: the bytes of the name agree. Rests on Places.
+use Rattle.std.proofs.Common.{◌≡◌, length, eqb, ap₂, ◌∙◌, rules}
+use lib.Pointwise.{pointwise}
+use Rattle.prelude.specs.Span.{part_span}
+use Rattle.marks.specs.Marks.{name_size, place, name_at}
+use Rattle.marks.proofs.Laws.Places.{name_same}
 use Rattle.marks.proofs.place.has_name.Goals as goal
 
-pub returns-then-places-at : goal.returns-then-places-at
-returns-then-places-at c =
-    let l = c in
-    let a = c.args in
-    sym (differs a.places.now a.bytes a.i l.loop-k.k (omega arith) c.if-places-at.true)
-
-pub loop-k-preserved : goal.loop-k-preserved
-loop-k-preserved c =
-    let l = c in
-    let a = c.args in
-    (omega arith, all_more _ l.loop-k.k l.loop-k.invariant.1 (agrees a.places.now a.bytes a.i l.loop-k.k (omega arith) c.if-places-at.false))
-
 pub returns : goal.returns
-unfolding has_name
-returns c = sym (all_done _ 32 _ c.loop-k.invariant.1 (search rules) (search rules))
-
-pub loop-k-init : goal.loop-k-init
-loop-k-init c = (omega arith, all_none _)
+unfolding name_at
+returns c =
+    let p = c.args.places.now in
+    let long : length c.args.bytes.now ≡ 32 = search rules in
+    c.eq.ensures ∙ ap₂ (pointwise eqb) (part_span p (place c.args.i) name_size) c.as_slice.ensures ∙ name_same p c.args.bytes.now c.args.i c.requires long

@@ -1,19 +1,16 @@
--- `put_place` meets its contract: the name, and the book behind it. Assumes nothing.
-use mathlib.Core.Path.{ap, ◌∙◌}
-use mathlib.Core.List.{List}
-use Prim.Native.Nat.{ℕ, ◌+◌}
-use Rattle.prelude.specs.Span.{splice}
+-- `put_place` meets its contract: the name, and the book behind it. Rests on Written.
+use Rattle.std.proofs.Common.{ℕ, ◌+◌, List, ap, ap₂, ◌∙◌, rules}
+use Rattle.prelude.specs.Span.{splice, part_splice}
 use Rattle.marks.specs.Marks.{name_size, place}
 use Rattle.marks.proofs.Laws.Written.{name_then_book}
 use Rattle.marks.proofs.place.put_place.Goals as goal
 
 pub returns : goal.returns
 returns c =
-    let q = c in
-    let p = c in
-    let n = c in
-    let s = c in
-    let b = s.args.book.now in
-    q.put-2.ensures
-    ∙ ap (λ (x : List ℕ). splice x (place s.args.i + name_size) b) p.put.ensures
-    ∙ name_then_book s.args.places.now s.args.name.now b n.name_bytes-bytes.result s.args.i s.requires.0 n.name_bytes-bytes.ensures
+    let b = c.args.book.now in
+    let at = place c.args.i in
+    part_splice _ _ (at + name_size) _ (search rules)
+    ∙ ap₂ (λ (s w : List ℕ). splice s (at + name_size) w)
+    (part_splice c.args.places.now _ at name_size (search rules) ∙ ap (splice c.args.places.now at) c.copy_from_slice.ensures.after)
+    c.copy_from_slice-2.ensures.after
+    ∙ name_then_book c.args.places.now c.args.name.now b c.name_bytes.result c.args.i c.requires.0 c.name_bytes.ensures

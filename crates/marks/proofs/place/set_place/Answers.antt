@@ -1,31 +1,21 @@
--- `set_place` meets its contract: the first place of the name, else the first free one. Assumes nothing.
-use mathlib.Core.Path.{sym, ap, ◌∙◌}
-use mathlib.Core.List.{List}
-use Prim.Native.Nat.{ℕ}
+-- `set_place` meets its contract: the first place of the name, else the first free one. Rests on Places.
+use Rattle.std.proofs.Common.{ℕ, ◌≡◌, List, refl, sym, ap, ◌∙◌, rules}
+use Rattle.std.specs.Prelude.{Option, None, Some}
+use Rattle.std.proofs.lemmas.Option.{MatchOption-at_none, MatchOption-at_some}
 use Rattle.prelude.specs.Below.{first_below}
-use Rattle.store.specs.Finds.{found_of}
-use Rattle.outcomes.specs.Laws.Found.{found_at, found_none}
-use Rattle.marks.specs.Marks.{place_count, has_name}
+use Rattle.marks.specs.Marks.{place_count, has_name, is_free, is_of, set_place}
 use Rattle.marks.proofs.Laws.Places.{set_again, set_fresh}
 use Rattle.marks.proofs.place.set_place.Goals as goal
 
-pub returns-in-At : goal.returns-in-At
-returns-in-At c =
-    let k = c in
-    let f = c in
-    let n = c in
-    let a = c.args in
-    let p = a.places.now in
-    sym (ap found_of (set_again p a.name.now _
-    (ap (λ (x : List ℕ). first_below (has_name p x) (place_count p)) (sym n.name_bytes-bytes.ensures) ∙ found_at _ _ (sym f.find.ensures ∙ k.in-At.is))))
+pub returns : goal.returns
+returns c = go c.find.result refl
+  where
+    named : c.find.result ≡ first_below (is_of c.args.places.now c.args.name.now) (place_count c.args.places.now)
+    named = c.find.ensures ∙ ap (λ (x : List ℕ). first_below (has_name c.args.places.now x) (place_count c.args.places.now)) c.name_bytes.ensures
 
-pub returns-in-Nothing : goal.returns-in-Nothing
-returns-in-Nothing c =
-    let t = c in
-    let f = c in
-    let n = c in
-    let a = c.args in
-    let p = a.places.now in
-    c.find-in-Nothing.ensures
-    ∙ sym (ap found_of (set_fresh p a.name.now
-    (ap (λ (x : List ℕ). first_below (has_name p x) (place_count p)) (sym n.name_bytes-bytes.ensures) ∙ found_none _ (sym f.find.ensures ∙ t.in-Nothing.is))))
+    go : (o : Option ℕ) → c.find.result ≡ o → c.or_else.result ≡ set_place c.args.places.now c.args.name.now
+    go None e =
+        let k = MatchOption-at_none _ _ e c.or_else.ensures in
+        let w : c.or_else.result ≡ first_below (is_free c.args.places.now) (place_count c.args.places.now) = search rules in
+        w ∙ sym (set_fresh c.args.places.now c.args.name.now (sym named ∙ e))
+    go (Some i) e = MatchOption-at_some _ _ i e c.or_else.ensures ∙ sym (set_again c.args.places.now c.args.name.now i (sym named ∙ e))

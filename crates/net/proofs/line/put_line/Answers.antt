@@ -1,22 +1,14 @@
--- `line::put_line` meets its contract: its stores are the fields, one behind the other. Assumes nothing.
-use Rattle.net.specs.Laws.Line.{line_written}
+-- `line::put_line` meets its contract: its stores are the fields, one behind the other. Rests on Line.
+use Rattle.std.proofs.Common.{◌≡◌, length, rules}
+use Rattle.prelude.specs.Number.{bytes_of}
+use Rattle.net.specs.Laws.Line.{front, line_written}
 use Rattle.net.proofs.line.put_line.Goals as goal
 
 pub returns : goal.returns
 returns c =
-    let c1 = c in
-    let c2 = c in
-    let c3 = c in
-    let c4 = c in
-    let c5 = c in
-    let c6 = c in
-    let s = c in
-    rw (
-      c1.put-3.ensures,
-      c2.bytes8-number.ensures,
-      c3.put_symbol.ensures,
-      c4.put-2.ensures,
-      c5.put.ensures,
-      c6.bytes2-whose.ensures,
-    )
-    (line_written s.args.s.now s.args.client s.args.symbol s.args.net s.requires.0 s.requires.2)
+    let p = c.args.pair in
+    let long : length p.symbol.bytes ≡ 32 = search rules in
+    let whose : c.to_le_bytes.result ≡ bytes_of 2 p.client = search rules in
+    let number : c.to_le_bytes-2.result ≡ bytes_of 8 c.args.net = search rules in
+    rw (c.put-4.ensures, number, c.put-3.ensures, front p.symbol long c.requires.1 c.requires.2, c.put-2.ensures, c.put.ensures, whose)
+    (line_written c.args.s.now p.client p.symbol c.args.net c.requires.0 c.requires.2)

@@ -1,15 +1,21 @@
--- `opens_right` meets its contract: all orders are asked. Rests on rules' laws.
-use Rattle.std.proofs.Common.{arith}
-use Rattle.store.specs.Layout.{header·orders, most_orders}
-use Rattle.store.specs.Laws.Stored.{count_most}
-use Rattle.rules.specs.Laws.Ruled.{ruled_held}
+-- `opens_right` meets its contract: the first orders are asked. Rests on Sums.
+use Rattle.std.proofs.Common.{sym, ◌∙◌, arith}
+use Rattle.prelude.specs.Below.{all_none, all_more, all_done}
+use Rattle.store.specs.Book.{order_count}
+use Rattle.opens.specs.Laws.Sums.{right_first, first_wrong, first_right}
 use Rattle.opens.proofs.sums.opens_right.Goals as goal
 
-pub sums_right-requires : goal.sums_right-requires
-sums_right-requires c =
-    let s = c in
-    let b = s.args.book.now in
-    ((ruled_held b s.requires).long, omega (arith, c.order_count-n.ensures, count_most header·orders most_orders b), c.order_count-n.ensures, s.requires)
+pub loop-i-init : goal.loop-i-init
+loop-i-init c = all_none _
+
+pub returns-then-not-is_right : goal.returns-then-not-is_right
+returns-then-not-is_right c =
+    sym (first_wrong c.args.book.now c.loop-i.i (omega (arith, c.order_count-i-end.ensures)) (sym c.is_right.ensures ∙ c.if-not-is_right.true))
+
+pub loop-i-preserved : goal.loop-i-preserved
+loop-i-preserved c = all_more _ c.loop-i.i c.loop-i.invariant (sym c.is_right.ensures ∙ c.if-not-is_right.false)
 
 pub returns : goal.returns
-returns c = c.sums_right.ensures
+returns c =
+    let b = c.args.book.now in
+    sym (first_right b (all_done (right_first b) (order_count b) c.loop-i.i c.loop-i.invariant (omega (arith, c.order_count-i-end.ensures)) (omega (arith, c.order_count-i-end.ensures))))

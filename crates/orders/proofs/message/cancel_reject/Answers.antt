@@ -5,7 +5,4 @@ use Rattle.orders.proofs.message.cancel_reject.Goals as goal
 
 pub returns : goal.returns
 unfolding cancel_reject
-returns c =
-    let c1 = c in
-    let c2 = c in
-    rw (← reject_map_lem _ _, ← c2.reject_map-map.ensures, c1.no_message-m.ensures)
+returns c = rw (← reject_map_lem _ _, ← c.reject_map.ensures, c.no_message-m.ensures)

@@ -5,7 +5,4 @@ use Rattle.orders.proofs.message.to_venue.Goals as goal
 
 pub returns : goal.returns
 unfolding to_venue
-returns c =
-    let c1 = c in
-    let c2 = c in
-    rw (← venue_map_lem _ c.requires _ _, ← c2.venue_map-map.ensures, c1.no_message-m.ensures)
+returns c = rw (← venue_map_lem _ c.requires _ _, ← c.venue_map.ensures, c.no_message-m.ensures)

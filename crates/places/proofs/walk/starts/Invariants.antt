@@ -1,6 +1,6 @@
 -- `places::walk::starts`: the loop's invariant is that each place so far holds where its field starts. Assumes nothing.
 use mathlib.Core.Path.{◌≡◌}
-use Prim.Native.Nat.{ℕ, ◌≤◌, ◌<◌, ◌+◌, ◌*◌, ◌-◌}
+use Prim.Native.Nat.{ℕ, ◌≤◌, ◌<◌, ◌+◌, ◌*◌}
 use lib.ListN.{length, get_or}
 use Rattle.format.specs.Places.{start}
 use Rattle.places.proofs.walk.starts.Given as goal
@@ -8,6 +8,3 @@ use Rattle.places.proofs.walk.starts.Given as goal
 abbrev pub invariant-loop-b : goal.invariant-loop-b
 invariant-loop-b l =
     (l.b ≤ 32) × (l.at ≤ 65541 + 256 * l.b) × (length l.out ≡ 33) × (l.at ≡ start l.s l.o l.map l.b) × ((k : ℕ) → k < l.b → get_or l.out k 0 ≡ start l.s l.o l.map k)
-
-abbrev pub decreases-loop-b : goal.decreases-loop-b
-decreases-loop-b l = 32 - l.b

@@ -1,37 +1,16 @@
--- `records::put::put_long`: at most 64 bytes of a text. Assumes nothing.
-use borrow.Author.Rules.{rules}
-use native.Mathlib.Omega.{arith}
+-- `put::put_long`: at most 64 bytes of a text. Assumes nothing.
+use Rattle.std.proofs.Common.{◌≡◌, take, arith, length-take}
 use Rattle.records.specs.Fields.{long_bytes}
-use Rattle.records.specs.Laws.Writing.{Cut, cut_fits, cut_over}
+use Rattle.records.proofs.Ranges.{cut_bytes}
 use Rattle.records.proofs.put.put_long.Goals as goal
-use Rattle.records.proofs.put.put_long.Goals.{After-bytes-2-1, After-bytes-then-n-le64-1}
+use Rattle.records.proofs.put.put_long.Goals.{After-min-n}
 
-pub slice_bounds-put_text-end : goal.slice_bounds-put_text-end
-slice_bounds-put_text-end c = search rules
-
-pub slice_bounds-put_text-end-2 : goal.slice_bounds-put_text-end-2
-slice_bounds-put_text-end-2 c = search rules
-
-fits : (c : After-bytes-then-n-le64-1) → let t = c.args.t in Cut 64 t.len t.bytes (long_bytes t) t.len
+cut : (c : After-min-n) → take c.min-n.result c.args.t.now.bytes ≡ long_bytes c.args.t.now
 unfolding long_bytes
-fits c = let t = c.args.t in cut_fits 64 t.len t.bytes (omega (arith, slice_bounds-put_text-end c)) (search rules)
-
-over : (c : After-bytes-2-1) → let t = c.args.t in Cut 64 t.len t.bytes (long_bytes t) 64
-unfolding long_bytes
-over c = let t = c.args.t in cut_over 64 t.len t.bytes (omega (arith, slice_bounds-put_text-end-2 c)) (search rules)
+cut c = let t = c.args.t.now in rw (c.min-n.ensures, c.from.ensures) (cut_bytes 64 t.len t.bytes)
 
 pub put_text-requires : goal.put_text-requires
-put_text-requires c = omega (arith, fits c, slice_bounds-put_text-end c)
-
-pub returns-then-n-le64 : goal.returns-then-n-le64
-returns-then-n-le64 c =
-    let f = fits (goal.at.returns-then-n-le64 c).After-bytes-then-n-le64-1 in
-    rw (f.long, f.is) c.put_text.ensures
-
-pub put_text-requires-2 : goal.put_text-requires-2
-put_text-requires-2 c = omega (arith, over c, slice_bounds-put_text-end-2 c)
+put_text-requires c = (simp length-take (omega arith), rw (cut (goal.at.put_text-requires c).After-min-n) c.requires)
 
 pub returns : goal.returns
-returns c =
-    let f = over (goal.at.returns c).After-bytes-2-1 in
-    rw (f.long, f.is) c.put_text-2.ensures
+returns c = rw (cut (goal.at.returns c).After-min-n) at c.put_text.ensures

@@ -1,42 +1,43 @@
--- `records::put::text_of`: each bit is known where its test was taken. Assumes nothing.
+-- `records::put::text_of`: the match is the definition's. Assumes nothing.
+use Rattle.std.proofs.Common.{refl, arith}
 use borrow.Author.Tests.{ne_eqb}
-use mathlib.Core.Path.{refl}
 use Rattle.prelude.specs.Cases.{if◌then◌otherwise◌}
 use Rattle.records.specs.Fields.{text_by}
 use Rattle.records.proofs.put.text_of.Goals as goal
 
-pub returns-then-b-eq2 : goal.returns-then-b-eq2
+pub returns-in-2 : goal.returns-in-2
 unfolding text_by if◌then◌otherwise◌
-returns-then-b-eq2 c = rw c.if-b-eq2.true refl
+returns-in-2 c = rw c.in-2.is refl
 
-pub returns-then-b-eq3 : goal.returns-then-b-eq3
+pub returns-in-3 : goal.returns-in-3
 unfolding text_by if◌then◌otherwise◌
-returns-then-b-eq3 c = rw c.if-b-eq3.true refl
+returns-in-3 c = rw c.in-3.is refl
 
-pub returns-then-b-eq4 : goal.returns-then-b-eq4
+pub returns-in-4 : goal.returns-in-4
 unfolding text_by if◌then◌otherwise◌
-returns-then-b-eq4 c = rw c.if-b-eq4.true refl
+returns-in-4 c = rw c.in-4.is refl
 
-pub returns-then-b-eq5 : goal.returns-then-b-eq5
+pub returns-in-5 : goal.returns-in-5
 unfolding text_by if◌then◌otherwise◌
-returns-then-b-eq5 c = rw c.if-b-eq5.true refl
+returns-in-5 c = rw c.in-5.is refl
 
-pub returns-then-b-eq6 : goal.returns-then-b-eq6
+pub returns-in-6 : goal.returns-in-6
 unfolding text_by if◌then◌otherwise◌
-returns-then-b-eq6 c = rw c.if-b-eq6.true refl
+returns-in-6 c = rw c.in-6.is refl
 
-pub returns-then-b-eq18 : goal.returns-then-b-eq18
+pub returns-in-18 : goal.returns-in-18
 unfolding text_by if◌then◌otherwise◌
-returns-then-b-eq18 c = rw c.if-b-eq18.true refl
+returns-in-18 c = rw c.in-18.is refl
 
-pub returns : goal.returns
+pub returns-in_default : goal.returns-in_default
 unfolding text_by if◌then◌otherwise◌
-returns c =
+returns-in_default c =
+    let b = c.args.b in
     rw (
-      ne_eqb _ 2 c.if-b-eq2.false,
-      ne_eqb _ 3 c.if-b-eq3.false,
-      ne_eqb _ 4 c.if-b-eq4.false,
-      ne_eqb _ 5 c.if-b-eq5.false,
-      ne_eqb _ 6 c.if-b-eq6.false,
-      ne_eqb _ 18 c.if-b-eq18.false,
+      ne_eqb b 2 (λ e. absurd (omega arith)),
+      ne_eqb b 3 (λ e. absurd (omega arith)),
+      ne_eqb b 4 (λ e. absurd (omega arith)),
+      ne_eqb b 5 (λ e. absurd (omega arith)),
+      ne_eqb b 6 (λ e. absurd (omega arith)),
+      ne_eqb b 18 (λ e. absurd (omega arith)),
     ) refl

@@ -11,26 +11,26 @@ use Rattle.rules.proofs.beside.origin_ok.Goals as goal
 
 pub returns-then-book-at-eq0 : goal.returns-then-book-at-eq0
 unfolding origin_here is_first is_gateway
-returns-then-book-at-eq0 c = let a = c.args in
-    let b = a.book.now in
-    rw (c.filled-fine.ensures, request_kind b a.k, request_origclordid b a.k)
-    (origin_empty (text_at b (request_base a.k + request·origclordid)) _ (link_at b a.k (origin_at b a.k)) c.if-book-at-eq0.true)
+returns-then-book-at-eq0 c =
+    let b = c.args.book.now in
+    let k = c.args.k in
+    rw (c.filled.ensures, request_kind b k, request_origclordid b k)
+    (origin_empty (text_at b (request_base k + request·origclordid)) _ (link_at b k (origin_at b k)) c.if-book-at-eq0.true)
 
-pub returns-then-absent : goal.returns-then-absent
+pub returns-then-not-absent : goal.returns-then-not-absent
 unfolding origin_here is_first is_gateway
-returns-then-absent c = let a = c.args in
-    let b = a.book.now in
-    rw (request_kind b a.k, request_origclordid b a.k, c.if-absent.true)
-    (sym (origin_absent (text_at b (request_base a.k + request·origclordid)) (link_at b a.k (origin_at b a.k)) c.if-book-at-eq0.false))
+returns-then-not-absent c =
+    let b = c.args.book.now in
+    let k = c.args.k in
+    let link = c.u16_at.result in
+    rw (request_kind b k, request_origclordid b k, c.if-not-absent.true, ← c.u16_at.ensures, c.link_ok.ensures)
+    (sym (origin_linked (text_at b (request_base k + request·origclordid)) (link_at b k link) c.if-book-at-eq0.false
+    (λ e. sym (ap is_text (request_origclordid b k)) ∙ linked_text b c.told-book k link c.requires.0 c.requires.2 e)))
 
-pub returns : goal.returns
+pub returns-else-not-absent : goal.returns-else-not-absent
 unfolding origin_here is_first is_gateway
-returns c = let g = c in
-    let i = c in
-    let s = c in
-    let a = s.args in
-    let b = a.book.now in
-    let link = g.get16-link.result in
-    rw (request_kind b a.k, request_origclordid b a.k, c.if-absent.false, ← g.get16-link.ensures, c.link_ok.ensures)
-    (sym (origin_linked (text_at b (request_base a.k + request·origclordid)) (link_at b a.k link) i.if-book-at-eq0.false
-    (λ e. sym (ap is_text (request_origclordid b a.k)) ∙ linked_text b s.requires.0 a.k link s.requires.1 s.requires.3 e)))
+returns-else-not-absent c =
+    let b = c.args.book.now in
+    let k = c.args.k in
+    rw (request_kind b k, request_origclordid b k, c.if-not-absent.false)
+    (sym (origin_absent (text_at b (request_base k + request·origclordid)) (link_at b k (origin_at b k)) c.if-book-at-eq0.false))

@@ -10,6 +10,6 @@ use Rattle.rules.proofs.beside.outcome_ok.Goals as goal
 
 pub returns : goal.returns
 unfolding outcome_rule is_answered
-returns c = let a = c.args in
-    let b = a.book.now in
-    rw (request_answered b a.k) (outcome_mark (get_or b (request_base a.k + request·answered) 0) (outcome_at b a.k))
+returns c =
+    let b = c.args.book.now in
+    rw (request_answered b c.args.k) (outcome_mark (get_or b (request_base c.args.k + request·answered) 0) (outcome_at b c.args.k))

@@ -1,21 +1,17 @@
 -- `cell_at` meets its contract: the four words and the client, added up. Rests on Places.
-use Rattle.rules.specs.Laws.Places.{cell_here}
 use Rattle.std.proofs.Common.{rules}
+use Rattle.rules.specs.Laws.Places.{cell_here}
 use Rattle.rules.proofs.cells.cell_at.Goals as goal
 
 pub returns : goal.returns
-returns c = let w = c in
-    let a = c.args in (
-      rw (
-        c.wrapping_add_u64-v.ensures.value,
-        c.wrapping_add_u64-z.ensures.value,
-        c.wrapping_add_u64-y.ensures.value,
-        c.wrapping_add_u64-x.ensures.value,
-        cell_here a.s.now a.at a.client,
-        ← c.get64-w0.ensures,
-        ← c.get64-w1.ensures,
-        ← c.get64-w2.ensures,
-        ← w.get64-w3.ensures,
-      ),
-      search rules,
-    )
+returns c = (
+  rw (
+    c.from.ensures,
+    cell_here c.args.book.now c.args.at c.args.client,
+    ← c.u64_at.ensures,
+    ← c.u64_at-2.ensures,
+    ← c.u64_at-3.ensures,
+    ← c.u64_at-4.ensures,
+  ),
+  search rules,
+)

@@ -1,72 +1,25 @@
--- `same_at` meets its contract: a word that differs, or four that agree and the lengths. Rests on Places.
-use Rattle.std.proofs.Common.{sym, ◌∙◌}
-use Rattle.rules.specs.Laws.Places.{other_word, all_words}
+-- `same_at` meets its contract: the four words, then the lengths. Rests on Places.
+use Rattle.std.proofs.Common.{◌≡◌, sym, ◌∙◌, arith}
+use Rattle.rules.specs.Laws.Places.{words_agree, other_word, all_words}
 use Rattle.rules.proofs.cells.same_at.Goals as goal
+use Rattle.rules.proofs.cells.same_at.Goals.{then-same_words, else-same_words}
 
-pub returns-then-not-same_word : goal.returns-then-not-same_word
-returns-then-not-same_word c = let w1 = c in
-    let k = c in
-    let s = c in
-    sym (other_word s.args.s.now (λ n. (k.shared_slice_known-1.given n).fits) s.args.x s.args.y s.requires.0 s.requires.1
-    (rw (sym w1.same_word.ensures ∙ c.if-not-same_word.true)))
+pub returns-then-same_words-2 : goal.returns-then-same_words-2
+returns-then-same_words-2 c =
+    let a = c.args in
+    let words : c.if-same_words.value ≡ words_agree a.book.now a.x a.y =
+    elim c.if-same_words.branch [
+      | then-same_words w ↦ w.value-is ∙ w.same_words-then-same_words.ensures ∙ rw (sym c.same_words.ensures ∙ w.if-same_words.true)
+      | else-same_words w ↦ w.value-is ∙ w.if-same_words.false ∙ rw (sym c.same_words.ensures ∙ w.if-same_words.false)
+    ] in
+    all_words a.book.now c.fits-book a.x a.y (omega arith) (omega arith) (sym words ∙ c.if-same_words-2.true)
 
-pub returns-then-not-same_word-2 : goal.returns-then-not-same_word-2
-returns-then-not-same_word-2 c = let w2 = c in
-    let e1 = c in
-    let w1 = c in
-    let k = c in
-    let s = c in
-    sym (other_word s.args.s.now (λ n. (k.shared_slice_known-1.given n).fits) s.args.x s.args.y s.requires.0 s.requires.1
-    (rw (sym w1.same_word.ensures ∙ e1.if-not-same_word.false, sym w2.same_word-2.ensures ∙ c.if-not-same_word-2.true)))
-
-pub returns-then-not-same_word-3 : goal.returns-then-not-same_word-3
-returns-then-not-same_word-3 c = let w3 = c in
-    let e2 = c in
-    let w2 = c in
-    let e1 = c in
-    let w1 = c in
-    let k = c in
-    let s = c in
-    sym (other_word s.args.s.now (λ n. (k.shared_slice_known-1.given n).fits) s.args.x s.args.y s.requires.0 s.requires.1
-    (rw (
-      sym w1.same_word.ensures ∙ e1.if-not-same_word.false,
-      sym w2.same_word-2.ensures ∙ e2.if-not-same_word-2.false,
-      sym w3.same_word-3.ensures ∙ c.if-not-same_word-3.true,
-    )))
-
-pub returns-then-not-same_word-4 : goal.returns-then-not-same_word-4
-returns-then-not-same_word-4 c = let w4 = c in
-    let e3 = c in
-    let w3 = c in
-    let e2 = c in
-    let w2 = c in
-    let e1 = c in
-    let w1 = c in
-    let k = c in
-    let s = c in
-    sym (other_word s.args.s.now (λ n. (k.shared_slice_known-1.given n).fits) s.args.x s.args.y s.requires.0 s.requires.1
-    (rw (
-      sym w1.same_word.ensures ∙ e1.if-not-same_word.false,
-      sym w2.same_word-2.ensures ∙ e2.if-not-same_word-2.false,
-      sym w3.same_word-3.ensures ∙ e3.if-not-same_word-3.false,
-      sym w4.same_word-4.ensures ∙ c.if-not-same_word-4.true,
-    )))
-
-pub returns : goal.returns
-returns c = let e4 = c in
-    let w4 = c in
-    let e3 = c in
-    let w3 = c in
-    let e2 = c in
-    let w2 = c in
-    let e1 = c in
-    let w1 = c in
-    let k = c in
-    let s = c in
-    all_words s.args.s.now (λ n. (k.shared_slice_known-1.given n).fits) s.args.x s.args.y s.requires.0 s.requires.1
-    (rw (
-      sym w1.same_word.ensures ∙ e1.if-not-same_word.false,
-      sym w2.same_word-2.ensures ∙ e2.if-not-same_word-2.false,
-      sym w3.same_word-3.ensures ∙ e3.if-not-same_word-3.false,
-      sym w4.same_word-4.ensures ∙ e4.if-not-same_word-4.false,
-    ))
+pub returns-else-same_words-2 : goal.returns-else-same_words-2
+returns-else-same_words-2 c =
+    let a = c.args in
+    let words : c.if-same_words.value ≡ words_agree a.book.now a.x a.y =
+    elim c.if-same_words.branch [
+      | then-same_words w ↦ w.value-is ∙ w.same_words-then-same_words.ensures ∙ rw (sym c.same_words.ensures ∙ w.if-same_words.true)
+      | else-same_words w ↦ w.value-is ∙ w.if-same_words.false ∙ rw (sym c.same_words.ensures ∙ w.if-same_words.false)
+    ] in
+    c.if-same_words-2.false ∙ sym (other_word a.book.now c.fits-book a.x a.y (omega arith) (omega arith) (sym words ∙ c.if-same_words-2.false))

@@ -1,14 +1,18 @@
 -- `cell_of` meets its contract: the text in place, and the client. Rests on Things.
-use Rattle.std.proofs.Common.{arith, rules}
-use Rattle.rules.specs.Laws.Things.{cell_of, place_fits, text_in_lem}
+use Rattle.std.proofs.Common.{arith}
+use Rattle.rules.specs.Laws.Things.{cell_of, placed_most, place_fits, text_in_lem}
 use Rattle.rules.proofs.distinct.cell_of.Goals as goal
 
+pub place-requires : goal.place-requires
+place-requires g c = placed_most c.args.book.now c.args.i g.T.Things.keyed c.requires
+
+pub client-requires : goal.client-requires
+client-requires g c = (placed_most c.args.book.now c.args.i g.T.Things.keyed c.requires, c.requires)
+
 pub cell_at-requires : goal.cell_at-requires
-cell_at-requires c = let s = c in
-    omega (arith, c.place-at.ensures, s.requires.0, place_fits s.args.book.now s.args.i s.args.keyed s.requires.2)
+cell_at-requires g c = omega (arith, c.place.ensures, place_fits c.args.book.now c.args.i g.T.Things.keyed c.requires)
 
 pub returns : goal.returns
 unfolding cell_of
-returns c = let d = c in
-    let a = c.args in
-    (rw (c.cell_at.ensures.0, d.client_of-client.ensures, c.place-at.ensures, text_in_lem a.book.now a.i a.keyed), search rules)
+returns g c =
+    (rw (c.cell_at.ensures.0, c.client.ensures, c.place.ensures, text_in_lem c.args.book.now c.args.i g.T.Things.keyed), c.cell_at.ensures.1)

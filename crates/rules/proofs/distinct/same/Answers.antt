@@ -1,55 +1,51 @@
 -- `same` meets its contract: the texts in place, the first word of them before, and the clients. Rests on Places and Things.
-use Rattle.std.proofs.Common.{◌+◌, ◌≤◌, eqb, length, sym, ◌∙◌, arith}
+use Rattle.std.proofs.Common.{◌≡◌, ◌+◌, ◌≤◌, eqb, length, sym, ◌∙◌, arith}
 use mathlib.Core.Bool.{and-true, and-false}
+use Rattle.prelude.specs.Texts.{text_at, same_text}
 use Rattle.rules.specs.Laws.Places.{other_word}
-use Rattle.rules.specs.Laws.Things.{client_in, same_with, place_fits, text_in_lem}
+use Rattle.rules.specs.Laws.Things.{client_in, same_with, placed_most, place_fits, text_in_lem}
 use Rattle.rules.proofs.distinct.same.Goals as goal
+use Rattle.rules.proofs.distinct.same.Goals.{then-same_word, else-same_word}
+
+pub place-y-requires : goal.place-y-requires
+place-y-requires g c = placed_most c.args.book.now c.args.j g.T.Things.keyed c.requires.1
 
 pub same_word-requires : goal.same_word-requires
-same_word-requires c = let s = c in
-    let a = s.args in
-    (omega (arith, s.requires.0, s.requires.1), omega (arith, c.place-y.ensures, s.requires.0, place_fits a.book.now a.j a.keyed s.requires.3))
-
-pub returns-then-not-same_word : goal.returns-then-not-same_word
-unfolding same_with
-returns-then-not-same_word c = let w = c in
-    let p = c in
-    let s = c in
-    let a = s.args in
-    let b = a.book.now in
-    let hx : a.x + 33 ≤ length b = omega (arith, s.requires.0, s.requires.1) in
-    let hy : p.place-y.result + 33 ≤ length b = omega (arith, p.place-y.ensures, s.requires.0, place_fits b a.j a.keyed s.requires.3) in
-    let other = other_word b (λ n. (c.shared_slice_known-1.given n).fits) a.x p.place-y.result hx hy
-    (rw (sym w.same_word.ensures ∙ c.if-not-same_word.true)) in
-    rw (text_in_lem b a.j a.keyed, ← p.place-y.ensures, other) (sym (and-false (eqb a.client (client_in b a.keyed a.j))))
+same_word-requires g c =
+    let h = place_fits c.args.book.now c.args.j g.T.Things.keyed c.requires.1 in
+    (omega arith, omega (arith, c.place-y.ensures))
 
 pub same_at-requires : goal.same_at-requires
-same_at-requires c = let p = c in
-    let s = c in
-    let a = s.args in
-    (omega (arith, s.requires.0, s.requires.1), omega (arith, p.place-y.ensures, s.requires.0, place_fits a.book.now a.j a.keyed s.requires.3))
+same_at-requires g c = (c.requires.0, omega (arith, c.place-y.ensures, place_fits c.args.book.now c.args.j g.T.Things.keyed c.requires.1))
 
-pub returns-then-not-same_at : goal.returns-then-not-same_at
-unfolding same_with
-returns-then-not-same_at c = let t = c in
-    let p = c in
-    let a = c.args in
-    rw (
-      text_in_lem a.book.now a.j a.keyed,
-      ← p.place-y.ensures,
-      ← t.same_at.ensures,
-      c.if-not-same_at.true,
-    ) (sym (and-false (eqb a.client (client_in a.book.now a.keyed a.j))))
+pub client-requires : goal.client-requires
+client-requires g c = (placed_most c.args.book.now c.args.j g.T.Things.keyed c.requires.1, c.requires.1)
 
-pub returns : goal.returns
+pub returns-then-same_at : goal.returns-then-same_at
 unfolding same_with
-returns c = let t = c in
-    let p = c in
-    let a = c.args in
-    rw (
-      c.client_of-d.ensures,
-      text_in_lem a.book.now a.j a.keyed,
-      ← p.place-y.ensures,
-      ← t.same_at.ensures,
-      c.if-not-same_at.false,
-    ) (sym (and-true _))
+returns-then-same_at g c =
+    let b = c.args.book.now in
+    let x = c.args.x in
+    let y = c.place-y.result in
+    let hy : y + 33 ≤ length b = omega (arith, c.place-y.ensures, place_fits b c.args.j g.T.Things.keyed c.requires.1) in
+    let texts : c.if-same_word.value ≡ same_text (text_at b x) (text_at b y) =
+    elim c.if-same_word.branch [
+      | then-same_word w ↦ w.value-is ∙ w.same_at.ensures
+      | else-same_word w ↦ w.value-is ∙ w.if-same_word.false ∙ sym (other_word b c.fits-book x y (omega arith) hy (rw (sym c.same_word.ensures ∙ w.if-same_word.false)))
+    ] in
+    rw (c.client.ensures, text_in_lem b c.args.j g.T.Things.keyed, ← c.place-y.ensures, sym texts ∙ c.if-same_at.true) (sym (and-true _))
+
+pub returns-else-same_at : goal.returns-else-same_at
+unfolding same_with
+returns-else-same_at g c =
+    let b = c.args.book.now in
+    let x = c.args.x in
+    let y = c.place-y.result in
+    let hy : y + 33 ≤ length b = omega (arith, c.place-y.ensures, place_fits b c.args.j g.T.Things.keyed c.requires.1) in
+    let texts : c.if-same_word.value ≡ same_text (text_at b x) (text_at b y) =
+    elim c.if-same_word.branch [
+      | then-same_word w ↦ w.value-is ∙ w.same_at.ensures
+      | else-same_word w ↦ w.value-is ∙ w.if-same_word.false ∙ sym (other_word b c.fits-book x y (omega arith) hy (rw (sym c.same_word.ensures ∙ w.if-same_word.false)))
+    ] in
+    rw (text_in_lem b c.args.j g.T.Things.keyed, ← c.place-y.ensures, sym texts ∙ c.if-same_at.false)
+    (c.if-same_at.false ∙ sym (and-false (eqb c.args.client (client_in b g.T.Things.keyed c.args.j))))

@@ -10,24 +10,20 @@ use Rattle.rules.proofs.links.counts_ok.Goals as goal
 
 pub returns : goal.returns
 unfolding counts_at filled_rule done_rule has_pending has_gateway tries_rule
-returns c = let u = c in
-    let g = c in
-    let d = c in
-    let k = c in
-    let a = c.args in
-    let b = a.book.now in
-    let i = a.i in
+returns c =
+    let b = c.args.book.now in
+    let i = c.args.i in
     rw (
-      c.tries_ok-tries.ensures,
-      u.unsent_of-unsent.ensures,
-      g.get16-link.ensures,
-      c.get16-pending.ensures,
-      d.is_done-over.ensures,
-      c.status_ok-status.ensures,
-      k.get64-cumqty.ensures,
-      c.get64-qty.ensures,
-      c.count_ok-counted.ensures,
-      c.get16-amendments.ensures,
+      c.tries_ok.ensures,
+      c.unsent_of-unsent.ensures,
+      c.u16_at-link.ensures,
+      c.u16_at-pending.ensures,
+      c.is_done.ensures,
+      c.status_ok.ensures,
+      c.u64_at-cumqty.ensures,
+      c.u64_at.ensures,
+      c.count_ok.ensures,
+      c.u16_at-amendments.ensures,
       not-not (eqb (order_at b i).pending.request 0),
       not-not (eqb (order_at b i).gateway.origdownstream 0),
       terms_qty b i,

@@ -5,20 +5,17 @@ use Rattle.rules.proofs.links.links_at.Goals as goal
 
 pub returns : goal.returns
 unfolding links_at
-returns c = let p = c in
-    let y = c in
-    let x = c in
-    let a = c.args in
-    let b = a.book.now in
-    let i = a.i in
+returns c =
+    let b = c.args.book.now.bytes.now in
+    let i = c.args.i in
     rw (
-      c.counts_ok-counts.ensures,
-      p.pending_ok-pending.ensures,
-      c.get16-z.ensures,
-      y.cancel_ok-cancel.ensures,
-      c.get16-y.ensures,
-      x.current_ok-current.ensures,
-      c.get16-x.ensures,
+      c.counts_ok.ensures,
+      c.pending_ok.ensures,
+      c.u16_at-3.ensures,
+      c.cancel_ok.ensures,
+      c.u16_at-2.ensures,
+      c.current_ok.ensures,
+      c.u16_at.ensures,
       links_current b i,
       links_cancel b i,
       pending_request b i,

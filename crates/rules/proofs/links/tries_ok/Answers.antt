@@ -6,6 +6,6 @@ pub returns-then-unsent : goal.returns-then-unsent
 unfolding if◌then◌otherwise◌
 returns-then-unsent c = rw c.if-unsent.true
 
-pub returns : goal.returns
+pub returns-else-unsent : goal.returns-else-unsent
 unfolding if◌then◌otherwise◌
-returns c = rw c.if-unsent.false
+returns-else-unsent c = rw c.if-unsent.false

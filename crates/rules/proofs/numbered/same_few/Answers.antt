@@ -1,16 +1,13 @@
--- `same_few` meets its contract: the bytes below p agree. Assumes nothing.
-use Rattle.std.proofs.Common.{sym, rules, eq-eqb, ne_eqb}
-use Rattle.prelude.specs.Below.{all_none, all_more, all_miss, all_done}
+-- `same_few` meets its contract: the bytes below n agree. Rests on prelude's Chains.
+use Rattle.std.proofs.Common.{◌∙◌, rules, arith}
+use Rattle.std.proofs.lemmas.Iterator.{YieldsList-from_range}
+use Rattle.std.proofs.lemmas.Iterator.Search.{all_from_yields_List}
+use borrow.Author.Tests.{tests}
+use Rattle.prelude.specs.Chains.{all_range}
+use Rattle.rules.specs.Laws.Suffix.{alike_at}
 use Rattle.rules.proofs.numbered.same_few.Goals as goal
 
-pub loop-p-init : goal.loop-p-init
-loop-p-init c = (search rules, all_none _)
-
-pub returns-then-s-x : goal.returns-then-s-x
-returns-then-s-x c = sym (all_miss _ _ c.loop-p.p (search rules) (ne_eqb _ _ c.if-s-x.true))
-
-pub loop-p-preserved : goal.loop-p-preserved
-loop-p-preserved c = (search rules, all_more _ _ c.loop-p.invariant.1 (eq-eqb _ _ c.if-s-x.false))
-
 pub returns : goal.returns
-returns c = sym (all_done _ _ _ c.loop-p.invariant.1 (search rules) (search rules))
+returns c =
+    all_from_yields_List (alike_at c.args.book.now c.args.x c.args.y) _ _ _ c.all.ensures.ran (YieldsList-from_range 0 c.args.n c.args.n (cc) (omega arith)) (λ x b q k. search (rules, tests))
+    ∙ all_range _ c.args.n

@@ -6,8 +6,7 @@ use Rattle.rules.proofs.numbers.fields_ok.Goals as goal
 
 pub returns : goal.returns
 unfolding fields_range is_gateway
-returns c = let p = c in
-    let a = c.args in
-    let b = a.book.now in
-    let j = a.j in
-    rw (p.optional-clordid.ensures, request_kind b j, request_answered b j, request_clordid b j)
+returns c =
+    let b = c.args.book.now in
+    let j = c.args.j in
+    rw (c.optional.ensures, request_kind b j, request_answered b j, request_clordid b j)

@@ -7,14 +7,14 @@ use Rattle.rules.proofs.numbers.named.Goals as goal
 
 pub returns-then-k-eq0 : goal.returns-then-k-eq0
 unfolding name_number if◌then◌otherwise◌
-returns-then-k-eq0 c = let a = c.args in
-    rw (eq-eqb _ _ c.if-k-eq0.true, request_downstream a.book.now a.j, names_name a.book.now a.o) c.same_at.ensures
+returns-then-k-eq0 c =
+    rw (eq-eqb _ _ c.if-k-eq0.true, request_downstream c.args.book.now c.args.j, names_name c.args.book.now c.args.o) c.same_at.ensures
 
 pub numbered-requires : goal.numbered-requires
-numbered-requires c = let s = c in
-    (omega (arith, s.requires.0, s.requires.1), omega (arith, s.requires.0, s.requires.2), rw (← names_name s.args.book.now s.args.o) s.requires.4, s.requires.3)
+numbered-requires c =
+    (omega (arith, c.requires.0), omega (arith, c.requires.1), rw (← names_name c.args.book.now c.args.o) c.requires.3, c.requires.2)
 
-pub returns : goal.returns
+pub returns-else-k-eq0 : goal.returns-else-k-eq0
 unfolding name_number if◌then◌otherwise◌
-returns c = let a = c.args in
-    rw (ne_eqb _ _ c.if-k-eq0.false, request_downstream a.book.now a.j, names_name a.book.now a.o) c.numbered.ensures
+returns-else-k-eq0 c =
+    rw (ne_eqb _ _ c.if-k-eq0.false, request_downstream c.args.book.now c.args.j, names_name c.args.book.now c.args.o) c.numbered.ensures

@@ -5,18 +5,16 @@ use Rattle.rules.proofs.numbers.sent_ok.Goals as goal
 
 pub returns : goal.returns
 unfolding sent_rule
-returns c = let u = c in
-    let g = c in
-    let d = c in
-    let a = c.args in
-    let b = a.book.now in
-    let o = a.o in
+returns c =
+    let b = c.args.book.now in
+    let o = c.args.o in
     rw (
-      u.stuck_of-stuck.ensures,
-      c.unsent_of-unsent.ensures,
-      g.get16-link.ensures,
-      c.get16-cancel.ensures,
-      d.is_done-done.ensures,
+      c.stuck_of.ensures,
+      c.unsent_of.ensures,
+      c.u16_at-link.ensures,
+      c.from-cancel.ensures,
+      c.u16_at.ensures,
+      c.is_done.ensures,
       state_status b o,
       links_cancel b o,
       gateway_tries b o,

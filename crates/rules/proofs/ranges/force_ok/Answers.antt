@@ -4,4 +4,4 @@ use Rattle.rules.proofs.ranges.force_ok.Goals as goal
 
 pub returns : goal.returns
 unfolding force_range
-returns c = rw c.is_timeinforce-listed.ensures
+returns c = rw c.is_timeinforce.ensures

@@ -5,16 +5,15 @@ use Rattle.rules.proofs.ranges.gateway_ok.Goals as goal
 
 pub returns : goal.returns
 unfolding gateway_range
-returns c = let u = c in
-    let g = c in
-    let a = c.args in
-    let b = a.book.now in
-    let i = a.i in
+returns c =
+    let b = c.args.book.now.bytes.now in
+    let i = c.args.i in
     rw (
-      c.get32-refusedsends.ensures,
-      u.stuck_of-stuck.ensures,
+      c.from.ensures,
+      c.u32_at-refusedsends.ensures,
+      c.stuck_of-stuck.ensures,
       c.unsent_of-unsent.ensures,
-      g.get16-link.ensures,
+      c.u16_at-link.ensures,
       gateway_unsent b i,
       gateway_stuck b i,
       gateway_tries b i,

@@ -1,18 +1,21 @@
 -- `is_name` meets its contract: the length, then the characters. Assumes nothing.
-use Rattle.std.proofs.Common.{le-leb}
+use Rattle.std.proofs.Common.{◌+◌, get_or, arith, le-leb}
 use borrow.Author.Tests.{lt-leb}
 use Rattle.format.specs.Codes.{is_name}
 use Rattle.rules.proofs.ranges.is_name.Goals as goal
 
-pub returns-then-len-lt1 : goal.returns-then-len-lt1
+pub returns-in-1-to-20 : goal.returns-in-1-to-20
 unfolding is_name
-returns-then-len-lt1 c = rw (lt-leb 1 _ c.if-len-lt1.true)
+returns-in-1-to-20 c =
+    let len = get_or c.args.book.now (c.args.at + 32) 0 in
+    rw (le-leb 1 len (omega arith), le-leb len 20 (omega arith), c.is_none.ensures, c.letters.ensures)
 
-pub returns-then-len-gt20 : goal.returns-then-len-gt20
+pub returns-in_default : goal.returns-in_default
 unfolding is_name
-returns-then-len-gt20 c = rw (le-leb 1 _ c.if-len-lt1.false, lt-leb _ 20 c.if-len-gt20.true)
+returns-in_default c = let len = get_or c.args.book.now (c.args.at + 32) 0 in rw (lt-leb 1 len (omega arith))
 
-pub returns : goal.returns
+pub returns-in_default-2 : goal.returns-in_default-2
 unfolding is_name
-returns c = let i = c in
-    rw (le-leb 1 _ c.if-len-lt1.false, le-leb _ 20 i.if-len-gt20.false, c.is_none-none.ensures, c.letters-plain.ensures)
+returns-in_default-2 c =
+    let len = get_or c.args.book.now (c.args.at + 32) 0 in
+    rw (le-leb 1 len (omega arith), lt-leb len 20 (omega arith))

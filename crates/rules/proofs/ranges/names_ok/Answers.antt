@@ -6,17 +6,16 @@ use Rattle.rules.proofs.ranges.names_ok.Goals as goal
 
 pub returns : goal.returns
 unfolding names_range name_range
-returns c = let n = c in
-    let a = c.args in
-    let b = a.book.now in
-    let i = a.i in
+returns c =
+    let b = c.args.book.now in
+    let i = c.args.i in
     rw (
-      c.within-venueorderid.ensures,
-      c.within-symbol.ensures,
-      c.within-downstream.ensures,
-      c.within-clordid.ensures,
-      n.is_name-plain.ensures,
-      c.filled-fine.ensures,
+      c.within-4.ensures,
+      c.within-3.ensures,
+      c.within-2.ensures,
+      c.within.ensures,
+      c.is_name.ensures,
+      c.filled.ensures,
       names_name b i,
       names_clordid b i,
       names_downstream b i,

@@ -5,39 +5,34 @@ use Rattle.machine.specs.Rules.{pending_range}
 use Rattle.store.specs.Laws.Fields.{pending_request, pending_qty, pending_price, pending_ordtype, pending_timeinforce}
 use Rattle.rules.proofs.ranges.pending_ok.Goals as goal
 
-pub returns-then-link-eq0 : goal.returns-then-link-eq0
+pub returns-then-u16_at-eq0 : goal.returns-then-u16_at-eq0
 unfolding pending_range if◌then◌otherwise◌
-returns-then-link-eq0 c = let g = c in
-    let k = c in
-    let a = c.args in
-    let b = a.book.now in
-    let i = a.i in
+returns-then-u16_at-eq0 c =
+    let b = c.args.book.now in
+    let i = c.args.i in
     rw (
-      g.get64-price.ensures,
-      c.get64-qty.ensures,
+      c.u64_at-price.ensures,
+      c.u64_at-qty.ensures,
       pending_request b i,
-      eq-eqb _ _ (sym k.get16-link.ensures ∙ c.if-link-eq0.true),
+      eq-eqb _ _ (sym c.u16_at.ensures ∙ c.if-u16_at-eq0.true),
       pending_qty b i,
       pending_price b i,
       pending_ordtype b i,
       pending_timeinforce b i,
     )
 
-pub returns : goal.returns
+pub returns-else-u16_at-eq0 : goal.returns-else-u16_at-eq0
 unfolding pending_range if◌then◌otherwise◌
-returns c = let t = c in
-    let g = c in
-    let k = c in
-    let a = c.args in
-    let b = a.book.now in
-    let i = a.i in
+returns-else-u16_at-eq0 c =
+    let b = c.args.book.now in
+    let i = c.args.i in
     rw (
-      c.force_ok-force.ensures,
-      c.priced_ok-priced.ensures,
-      g.get64-price.ensures,
-      c.get64-qty.ensures,
+      c.force_ok.ensures,
+      c.priced_ok.ensures,
+      c.u64_at-price.ensures,
+      c.u64_at-qty.ensures,
       pending_request b i,
-      ne_eqb _ _ (λ z. t.if-link-eq0.false (k.get16-link.ensures ∙ z)),
+      ne_eqb _ _ (λ z. c.if-u16_at-eq0.false (c.u16_at.ensures ∙ z)),
       pending_qty b i,
       pending_price b i,
       pending_ordtype b i,

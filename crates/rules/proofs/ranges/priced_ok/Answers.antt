@@ -4,4 +4,4 @@ use Rattle.rules.proofs.ranges.priced_ok.Goals as goal
 
 pub returns : goal.returns
 unfolding priced_range
-returns c = rw c.is_ordtype-listed.ensures
+returns c = rw c.is_ordtype.ensures

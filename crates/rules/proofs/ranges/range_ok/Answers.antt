@@ -6,16 +6,15 @@ use Rattle.rules.proofs.ranges.range_ok.Goals as goal
 
 pub returns : goal.returns
 unfolding range_at order_range
-returns c = let g = c in
-    let t = c in
-    let a = c.args in
+returns c =
+    let b = c.args.book.now.bytes.now in
     rw (
-      c.gateway_ok-gateway.ensures,
-      c.pending_ok-pending.ensures,
-      g.get64-avgpx.ensures,
-      c.is_status-status.ensures,
-      t.terms_ok-terms.ensures,
-      c.names_ok-names.ensures,
-      state_status a.book.now a.i,
-      state_avgpx a.book.now a.i,
+      c.gateway_ok.ensures,
+      c.pending_ok.ensures,
+      c.u64_at.ensures,
+      c.is_status.ensures,
+      c.terms_ok.ensures,
+      c.names_ok.ensures,
+      state_status b c.args.i,
+      state_avgpx b c.args.i,
     )

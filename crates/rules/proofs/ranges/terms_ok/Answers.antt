@@ -5,18 +5,15 @@ use Rattle.rules.proofs.ranges.terms_ok.Goals as goal
 
 pub returns : goal.returns
 unfolding terms_range
-returns c = let f = c in
-    let p = c in
-    let g = c in
-    let a = c.args in
-    let b = a.book.now in
-    let i = a.i in
+returns c =
+    let b = c.args.book.now in
+    let i = c.args.i in
     rw (
-      c.get64-qty.ensures,
-      f.force_ok-force.ensures,
-      p.priced_ok-priced.ensures,
-      g.get64-price.ensures,
-      c.is_side-side.ensures,
+      c.u64_at-2.ensures,
+      c.force_ok.ensures,
+      c.priced_ok.ensures,
+      c.u64_at.ensures,
+      c.is_side.ensures,
       terms_side b i,
       terms_ordtype b i,
       terms_timeinforce b i,

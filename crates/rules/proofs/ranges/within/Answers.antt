@@ -4,4 +4,4 @@ use Rattle.rules.proofs.ranges.within.Goals as goal
 
 pub returns : goal.returns
 unfolding text_within
-returns c = rw c.filled-fine.ensures
+returns c = rw c.filled.ensures

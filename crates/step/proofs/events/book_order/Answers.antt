@@ -1,5 +1,6 @@
 -- `book_order` is `book_order`, by `book_at_lem`. Assumes nothing.
 use native.Mathlib.Omega.{arith}
+use mathlib.Core.Path.{◌∙◌}
 use Rattle.amend.specs.Laws.Booking.{book_at_lem}
 use Rattle.step.specs.Laws.Found.{orders_read, requests_read}
 use Rattle.step.proofs.events.book_order.Goals as goal
@@ -16,10 +17,7 @@ overflow_add-link c = omega (arith, (requests_read _ _ c.request_count.ensures).
 pub overflow_cast-link : goal.overflow_cast-link
 overflow_cast-link c = omega (arith, (requests_read _ _ c.request_count.ensures).1)
 
-pub returns : goal.returns
-returns c =
-    let u = c in
-    let m = c in
-    let n = c in
-    rw (c.book_order.ensures, u.is_unused-fresh.ensures, (orders_read _ _ n.order_count.ensures).0, (requests_read _ _ m.request_count.ensures).0)
-    (book_at_lem _ _)
+pub returns-clause-is : goal.returns-clause-is
+returns-clause-is c =
+    c.book_order.ensures.is
+    ∙ rw (c.is_unused-fresh.ensures, (orders_read _ _ c.order_count.ensures).0, (requests_read _ _ c.request_count.ensures).0) (book_at_lem _ _)

@@ -1,23 +1,31 @@
 -- `change_of` is `change_of`: by the kind. Assumes nothing.
-use mathlib.Core.Path.{◌∙◌}
-use borrow.Author.Tests.{eq-eqb, ne_eqb}
-use Rattle.step.specs.Laws.Steps.{kind_1, kind_2, kind_9, kind_4}
+use native.Mathlib.Omega.{arith}
+use mathlib.Core.Path.{ap, ◌∙◌}
+use Rattle.machine.specs.declared.Change.{Change}
+use Rattle.step.specs.Laws.Steps.{kind_0, kind_1, kind_2, kind_4, kind_9}
+use Rattle.step.specs.Laws.Taken.{request_taken, name_taken}
+use Rattle.step.proofs.events.change_of.Goals.{in_default-via-then-e-lt1, in_default-via-else-e-lt1+else-e-lt4+else-e-lt9}
 use Rattle.step.proofs.events.change_of.Goals as goal
 
-pub returns-then-e-eq-EVENT_BOOK : goal.returns-then-e-eq-EVENT_BOOK
-returns-then-e-eq-EVENT_BOOK c = c.book_order.ensures ∙ kind_1 _ _ (eq-eqb _ _ c.if-e-eq-EVENT_BOOK.true)
+pub returns-in-1-clause-is : goal.returns-in-1-clause-is
+returns-in-1-clause-is c = c.book_order.ensures.is ∙ kind_1 _ _ c.in-1.is
 
-pub returns-then-e : goal.returns-then-e
-returns-then-e c = let t = c in c.amend.ensures ∙ kind_2 _ _ (ne_eqb _ _ c.if-e-eq-EVENT_BOOK.false) t.if-e.true
+pub returns-in-2-clause-is : goal.returns-in-2-clause-is
+returns-in-2-clause-is c = c.amend.ensures.is ∙ kind_2 _ _ (omega arith) (omega arith)
 
-pub returns-then-e-2 : goal.returns-then-e-2
-returns-then-e-2 c =
-    let t = c in
-    let u = c in
-    c.on_name.ensures ∙ kind_9 _ _ (ne_eqb _ _ c.if-e-eq-EVENT_BOOK.false) u.if-e.false t.if-e-2.true
+pub returns-in-4-to-8-clause-is : goal.returns-in-4-to-8-clause-is
+returns-in-4-to-8-clause-is c = c.on_request.ensures ∙ kind_4 _ _ (omega arith) (omega arith)
 
-pub returns : goal.returns
-returns c =
-    let t = c in
-    let u = c in
-    c.on_request.ensures ∙ kind_4 _ _ (ne_eqb _ _ c.if-e-eq-EVENT_BOOK.false) u.if-e.false t.if-e-2.false
+pub returns-in-4-to-8-clause-taken : goal.returns-in-4-to-8-clause-taken
+returns-in-4-to-8-clause-taken c = ap (λ (d : Change). d.refusal) c.on_request.ensures ∙ request_taken _ _
+
+pub returns-in_default-clause-is : goal.returns-in_default-clause-is
+returns-in_default-clause-is c =
+    c.on_name.ensures
+    ∙ elim c.in_default.branch [
+      | in_default-via-then-e-lt1 w ↦ kind_0 _ _ (omega arith)
+      | in_default-via-else-e-lt1+else-e-lt4+else-e-lt9 w ↦ kind_9 _ _ (omega arith)
+    ]
+
+pub returns-in_default-clause-taken : goal.returns-in_default-clause-taken
+returns-in_default-clause-taken c = ap (λ (d : Change). d.refusal) c.on_name.ensures ∙ name_taken _ _

@@ -7,5 +7,5 @@ use Rattle.step.proofs.loads.order_in.Goals as goal
 pub returns-then-i-order_count : goal.returns-then-i-order_count
 returns-then-i-order_count c = c.load_order.ensures ∙ load_order_in _ _ (below_count _ _ _ c.order_count.ensures c.if-i-order_count.true)
 
-pub returns : goal.returns
-returns c = c.no_order.ensures ∙ sym (order_past _ _ (past_count _ _ _ c.order_count.ensures c.if-i-order_count.false))
+pub returns-else-i-order_count : goal.returns-else-i-order_count
+returns-else-i-order_count c = c.no_order.ensures ∙ sym (order_past _ _ (past_count _ _ _ c.order_count.ensures c.if-i-order_count.false))

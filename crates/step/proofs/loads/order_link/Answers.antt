@@ -4,7 +4,4 @@ use Rattle.step.specs.Laws.Found.{order_fits}
 use Rattle.step.proofs.loads.order_link.Goals as goal
 
 pub overflow_add-result : goal.overflow_add-result
-overflow_add-result c = omega (arith, order_fits _ c.requires _ _ c.request_in-q.ensures)
-
-pub returns : goal.returns
-returns c = rw c.request_in-q.ensures
+overflow_add-result c = omega (arith, order_fits _ c.requires _ _ c.request_in.ensures)

@@ -4,12 +4,10 @@ use Rattle.machine.specs.Machine.{order_of}
 use Rattle.step.specs.Laws.Found.{found_some, found_nothing}
 use Rattle.step.proofs.loads.order_of.Goals as goal
 
-pub returns-in-At : goal.returns-in-At
+pub returns-in-Some : goal.returns-in-Some
 unfolding order_of
-returns-in-At c =
-    let k = c in
-    c.order_link.ensures ∙ found_some _ _ _ _ (sym c.find_clordid.ensures ∙ k.in-At.is)
+returns-in-Some c = c.order_link.ensures ∙ found_some _ _ _ _ (sym c.find_clordid.ensures ∙ c.in-Some.is)
 
-pub returns-in-Nothing : goal.returns-in-Nothing
+pub returns-in-None : goal.returns-in-None
 unfolding order_of
-returns-in-Nothing c = found_nothing _ _ _ (sym c.find_clordid.ensures ∙ c.in-Nothing.is)
+returns-in-None c = found_nothing _ _ _ (sym c.find_clordid.ensures ∙ c.in-None.is)

@@ -7,5 +7,5 @@ use Rattle.step.proofs.loads.request_in.Goals as goal
 pub returns-then-k-request_count : goal.returns-then-k-request_count
 returns-then-k-request_count c = c.load_request.ensures ∙ load_request_in _ _ (below_count _ _ _ c.request_count.ensures c.if-k-request_count.true)
 
-pub returns : goal.returns
-returns c = c.no_request.ensures ∙ sym (request_past _ _ (past_count _ _ _ c.request_count.ensures c.if-k-request_count.false))
+pub returns-else-k-request_count : goal.returns-else-k-request_count
+returns-else-k-request_count c = c.no_request.ensures ∙ sym (request_past _ _ (past_count _ _ _ c.request_count.ensures c.if-k-request_count.false))

@@ -20,15 +20,11 @@ whole s = record {
   bytes = λ k. let f : Fits w8 (get_or s.args.t.bytes k 0) = search rules in omega arith;
 }
 
-pub put-requires : goal.put-requires
-put-requires c = let h : length c.args.t.bytes ≡ 32 = search rules in
-    omega arith
-
 pub returns : goal.returns
 unfolding text_bytes
 returns c = let a = c.args in
     let h : length a.t.bytes ≡ 32 = search rules in (
-      rw (c.put8.ensures, c.put.ensures)
+      rw (c.put-2.ensures, c.put.ensures)
           (ap (λ (n : ℕ). splice (splice a.s.now a.at a.t.bytes) (a.at + n) (a.t.len ∷ [])) (sym h)
           ∙ splice_append a.s.now a.at a.t.bytes (a.t.len ∷ []) (omega arith)),
       whole (goal.at.returns c).Start,

@@ -1,34 +1,32 @@
--- `find_client` meets its contract: no record below i passes. Rests on Finds.
-use mathlib.Core.Path.{sym, ap, ◌∙◌}
-use Prim.Native.Nat.{◌<◌}
-use native.Mathlib.Omega.{arith}
-use Rattle.prelude.specs.Below.{first_none, first_more, first_hit, first_done}
+-- `find_client` meets its contract: the first of the orders in use. Rests on Finds.
+use Rattle.std.specs.Prelude.{◌<◌, ◌≡◌}
+use Rattle.std.proofs.Common.{rules, refl, sym, ◌∙◌, arith}
+use Rattle.std.proofs.lemmas.Iterator.{YieldsList-from_range, serves_from_Range}
+use Rattle.std.proofs.lemmas.Iterator.Search.{find_from_yields_List}
+use borrow.Author.Tests.{tests}
+use Rattle.prelude.specs.Below.{first_below}
+use Rattle.prelude.specs.Chains.{find_range}
 use Rattle.store.specs.Layout.{header·orders, most_orders}
 use Rattle.store.specs.Book.{order_count}
-use Rattle.store.specs.Laws.Stored.{count_book, count_most}
-use Rattle.store.specs.Laws.Finds.{find_client_bytes}
-use Rattle.store.specs.Finds.{found_of}
-use borrow.Author.Rules.{rules}
+use Rattle.store.specs.Laws.Stored.{count_most}
+use Rattle.store.specs.Laws.Finds.{clients_at, find_client_bytes}
+use Rattle.store.proofs.Counted.{none_found}
 use Rattle.store.proofs.finds.find_client.Goals as goal
 
-pub is_clients-requires : goal.is_clients-requires
-is_clients-requires c = let l = c.loop-i in
-    let b = c.args.book.now in
-    let h : l.i < order_count b = omega (arith, l.invariant.1) in
-    (count_book header·orders most_orders b l.i h, omega (arith, count_most header·orders most_orders b))
+pub returns-in_err-book : goal.returns-in_err-book
+returns-in_err-book c = c.from_residual.ensures ∙ sym (find_client_bytes _ c.args.client ∙ none_found _ _ _ _ c.in_err-book.ensures)
 
-pub returns-then-is_clients : goal.returns-then-is_clients
-returns-then-is_clients c = let l = c.loop-i in
-    let a = c.args in
-    sym (ap found_of (find_client_bytes a.book.now a.client ∙ first_hit _ _ l.i (omega (arith, l.invariant.1)) l.invariant.2 (rw (← c.is_clients.ensures, c.if-is_clients.true))))
-
-pub loop-i-preserved : goal.loop-i-preserved
-loop-i-preserved c = (search rules, search rules, first_more _ _ c.loop-i.invariant.2 (rw (← c.is_clients.ensures, c.if-is_clients.false)))
+pub find-requires-clause-callable : goal.find-requires-clause-callable
+find-requires-clause-callable c =
+    serves_from_Range (λ x q k. search (rules, tests))
+    (λ x low high. let h : x < most_orders = omega (arith, count_most header·orders most_orders c.in_ok-book.book.now) in search rules)
 
 pub returns : goal.returns
-returns c = let l = c.loop-i in
-    let a = c.args in
-    sym (ap found_of (find_client_bytes a.book.now a.client ∙ first_done _ _ l.i l.invariant.2 (omega (arith, l.invariant.1)) (omega (arith, l.invariant.1))))
-
-pub loop-i-init : goal.loop-i-init
-loop-i-init c = (search rules, c.order_count-n.ensures, first_none _)
+returns c = let b = c.in_ok-book.book.now in
+    let n = c.order_count.result in
+    let same : first_below (clients_at b c.args.client) n ≡ first_below (clients_at c.args.book.now c.args.client) (order_count c.args.book.now) = rw (c.order_count.ensures, c.in_ok-book.ensures.1) refl in
+    search rules
+    ∙ find_from_yields_List (clients_at b c.args.client) _ _ _ c.find.ensures.ran (YieldsList-from_range 0 n n (cc) (omega arith)) (λ x r q k. search (rules, tests))
+    ∙ find_range _ n
+    ∙ same
+    ∙ sym (find_client_bytes _ c.args.client)

@@ -1,38 +1,37 @@
--- `find_clordid` meets its contract: no request below j passes. Rests on Finds.
-use mathlib.Core.Path.{sym, ap, ◌∙◌}
-use Prim.Native.Nat.{ℕ, ◌<◌}
-use native.Mathlib.Omega.{arith}
-use Rattle.prelude.specs.Below.{first_below, first_none, first_more, first_hit, first_done}
-use Rattle.store.specs.Layout.{header·orders, header·requests, most_orders, most_requests}
-use Rattle.store.specs.Book.{request_count}
-use Rattle.store.specs.Laws.Stored.{count_book, count_most}
+-- `find_clordid` meets its contract: the first of the requests in use. Rests on Finds.
+use Rattle.std.specs.Prelude.{◌<◌, ◌≤◌, ◌≡◌}
+use Rattle.std.proofs.Common.{rules, refl, sym, ◌∙◌, arith}
+use Rattle.std.proofs.lemmas.Iterator.{YieldsList-from_range, serves_from_Range}
+use Rattle.std.proofs.lemmas.Iterator.Search.{find_from_yields_List}
+use borrow.Author.Tests.{tests}
+use Rattle.prelude.specs.Below.{first_below}
+use Rattle.prelude.specs.Chains.{find_range}
+use Rattle.store.specs.Layout.{header·orders, most_orders, header·requests, most_requests}
+use Rattle.store.specs.Book.{order_count, request_count}
+use Rattle.store.specs.Laws.Stored.{count_most}
 use Rattle.store.specs.Laws.Finds.{used_as_at, find_clordid_bytes}
-use Rattle.store.specs.Finds.{found_of}
-use borrow.Author.Rules.{rules}
+use Rattle.store.proofs.Counted.{none_found}
 use Rattle.store.proofs.finds.find_clordid.Goals as goal
 
-pub loop-j-init : goal.loop-j-init
-loop-j-init c = (search rules, c.request_count-n.ensures, c.order_count-m.ensures, first_none _)
+pub returns-in_err-book : goal.returns-in_err-book
+returns-in_err-book c = c.from_residual.ensures ∙ sym (find_clordid_bytes _ c.args.client c.args.t ∙ none_found _ _ _ _ c.in_err-book.ensures)
 
-pub used_as-requires : goal.used_as-requires
-used_as-requires c = let l = c.loop-j in
-    let b = c.args.book.now in
-    let h : l.j < request_count b = omega (arith, l.invariant.1) in
-    (count_book header·requests most_requests b l.j h, omega (arith, count_most header·requests most_requests b), omega (arith, l.invariant.2, count_most header·orders most_orders b))
-
-pub returns-then-used_as : goal.returns-then-used_as
-returns-then-used_as c = let l = c.loop-j in
-    let a = c.args in
-    sym (ap found_of (find_clordid_bytes a.book.now a.client a.t
-    ∙ ap (λ (m : ℕ). first_below (used_as_at a.book.now m a.client a.t) (request_count a.book.now)) (sym l.invariant.2)
-    ∙ first_hit _ _ l.j (omega (arith, l.invariant.1)) l.invariant.3 (rw (← c.used_as.ensures, c.if-used_as.true))))
-
-pub loop-j-preserved : goal.loop-j-preserved
-loop-j-preserved c = (search rules, search rules, search rules, first_more _ _ c.loop-j.invariant.3 (rw (← c.used_as.ensures, c.if-used_as.false)))
+pub find-requires-clause-callable : goal.find-requires-clause-callable
+find-requires-clause-callable c =
+    let b = c.in_ok-book.book.now in
+    let few : c.order_count-n.result ≤ most_orders = omega (arith, count_most header·orders most_orders b) in
+    serves_from_Range (λ x q k. search (rules, tests))
+    (λ x low high. let h : x < most_requests = omega (arith, count_most header·requests most_requests b) in search rules)
 
 pub returns : goal.returns
-returns c = let l = c.loop-j in
-    let a = c.args in
-    sym (ap found_of (find_clordid_bytes a.book.now a.client a.t
-    ∙ ap (λ (m : ℕ). first_below (used_as_at a.book.now m a.client a.t) (request_count a.book.now)) (sym l.invariant.2)
-    ∙ first_done _ _ l.j l.invariant.3 (omega (arith, l.invariant.1)) (omega (arith, l.invariant.1))))
+returns c = let a = c.args in
+    let b = c.in_ok-book.book.now in
+    let m = c.order_count-n.result in
+    let n = c.request_count.result in
+    let same : first_below (used_as_at b m a.client a.t) n ≡ first_below (used_as_at a.book.now (order_count a.book.now) a.client a.t) (request_count a.book.now) =
+    rw (c.request_count.ensures, c.order_count-n.ensures, c.in_ok-book.ensures.1) refl in
+    search rules
+    ∙ find_from_yields_List (used_as_at b m a.client a.t) _ _ _ c.find.ensures.ran (YieldsList-from_range 0 n n (cc) (omega arith)) (λ x r q k. search (rules, tests))
+    ∙ find_range _ n
+    ∙ same
+    ∙ sym (find_clordid_bytes _ a.client a.t)

@@ -4,4 +4,4 @@ use Rattle.store.proofs.finds.is_clients.Goals as goal
 
 pub returns : goal.returns
 returns c = let a = c.args in
-    rw (order_client a.book.now a.k, ← c.get16.ensures)
+    rw (order_client a.book.now a.k, ← c.u16_at.ensures)

@@ -1,6 +1,6 @@
 -- `encode_terms` meets its contract: its stores are the pieces, one behind the other. Assumes nothing.
+use Rattle.std.proofs.Common.{rules}
 use Rattle.store.specs.Orders.{FitsTerms}
-use borrow.Author.Rules.{rules}
 use Rattle.store.proofs.orders.encode_terms.Goals as goal
 use Rattle.store.proofs.orders.encode_terms.Goals.{Start}
 
@@ -8,9 +8,4 @@ fits : (s : Start) → FitsTerms s.args.x
 fits s = search rules
 
 pub returns : goal.returns
-returns c = let c1 = c in
-    let c2 = c in
-    let c3 = c in
-    let c4 = c in
-    let c5 = c in
-    (rw (c1.put64-2.ensures, c2.put64.ensures, c3.put8-3.ensures, c4.put8-2.ensures, c5.put8.ensures), fits (goal.at.returns c).Start)
+returns c = (rw (c.put64-2.ensures, c.put64.ensures, c.put-3.ensures, c.put-2.ensures, c.put.ensures), fits (goal.at.returns c).Start)

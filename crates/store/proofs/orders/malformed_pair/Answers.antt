@@ -8,10 +8,6 @@ pub returns-then-link-eq0 : goal.returns-then-link-eq0
 unfolding malformed if◌then◌otherwise◌
 returns-then-link-eq0 c = rw (eq-eqb _ _ c.if-link-eq0.true)
 
-pub returns-then-stage-eq0 : goal.returns-then-stage-eq0
+pub returns-else-link-eq0 : goal.returns-else-link-eq0
 unfolding malformed if◌then◌otherwise◌
-returns-then-stage-eq0 c = rw (ne_eqb _ _ c.if-link-eq0.false, eq-eqb _ _ c.if-stage-eq0.true)
-
-pub returns : goal.returns
-unfolding malformed if◌then◌otherwise◌
-returns c = rw (ne_eqb _ _ c.if-link-eq0.false, ne_eqb _ _ c.if-stage-eq0.false)
+returns-else-link-eq0 c = rw (ne_eqb _ _ c.if-link-eq0.false)

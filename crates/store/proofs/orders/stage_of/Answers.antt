@@ -16,6 +16,6 @@ pub returns-then-g-2 : goal.returns-then-g-2
 unfolding stage_of if◌then◌otherwise◌
 returns-then-g-2 c = rw (ne_eqb _ _ c.if-g-eq0.false, c.if-g.false, c.if-g-2.true)
 
-pub returns : goal.returns
+pub returns-else-g-2 : goal.returns-else-g-2
 unfolding stage_of if◌then◌otherwise◌
-returns c = rw (ne_eqb _ _ c.if-g-eq0.false, c.if-g.false, c.if-g-2.false)
+returns-else-g-2 c = rw (ne_eqb _ _ c.if-g-eq0.false, c.if-g.false, c.if-g-2.false)

@@ -1,6 +1,8 @@
--- `requests::encode` meets its contract: its stores are the pieces, one behind the other. Assumes nothing.
-use Prim.Native.Nat.{◌<◌}
-use borrow.Author.Rules.{rules}
+-- `requests::encode` meets its contract: its stores are the pieces, one behind the other. Rests on the laws of the record.
+use Rattle.std.specs.Prelude.{◌<◌}
+use Rattle.std.proofs.Common.{rules, refl}
+use Rattle.store.specs.Requests.{WholeRequest}
+use Rattle.store.specs.Laws.Requests.{write_request}
 use Rattle.store.proofs.requests.encode.Goals as goal
 use Rattle.store.proofs.requests.encode.Goals.{Start}
 
@@ -8,21 +10,24 @@ small : (s : Start) → (s.args.r.order < 65536) × (s.args.r.kind < 256) × (s.
 small s = search rules
 
 pub returns : goal.returns
-returns c = let c1 = c in
-    let c2 = c in
-    let c3 = c in
-    let c4 = c in
-    let c5 = c in
-    let c6 = c in
-    let c7 = c in
-    let s = small (goal.at.returns c).Start in (
-      rw (c1.put.ensures, c.beside-rest.ensures, c2.put_text-3.ensures.0, c3.put_text-2.ensures.0, c4.put_text.ensures.0, c5.put8-2.ensures, c6.put8.ensures, c7.put16.ensures),
-      record {
-        order = s.0;
-        kind = s.1;
-        answered = s.2;
-        clordid = c4.put_text.ensures.1;
-        origclordid = c3.put_text-2.ensures.1;
-        downstream = c2.put_text-3.ensures.1;
-      },
+returns c = let s = small (goal.at.returns c).Start in
+    let whole : WholeRequest c.args.r = record {
+      order = s.0;
+      kind = s.1;
+      answered = s.2;
+      clordid = c.put_text.ensures.1;
+      origclordid = c.put_text-2.ensures.1;
+      downstream = c.put_text-3.ensures.1;
+    } in (
+      rw (
+        c.put-3.ensures,
+        c.beside.ensures,
+        c.put_text-3.ensures.0,
+        c.put_text-2.ensures.0,
+        c.put_text.ensures.0,
+        c.put-2.ensures,
+        c.put.ensures,
+        c.put16.ensures,
+      ) (write_request c.args.origin c.args.r whole _ refl),
+      whole,
     )

@@ -1,9 +1,0 @@
--- `net::put_symbol`: the bytes left fall, and the printed line stays as long.
-use Rattle.std.proofs.Common.{◌-◌, ◌≤◌}
-use Rattle.evening.proofs.position.put_symbol.Given as goal
-
-abbrev pub invariant-loop-k : goal.invariant-loop-k
-invariant-loop-k l = l.k ≤ 16
-
-abbrev pub decreases-loop-k : goal.decreases-loop-k
-decreases-loop-k l = 16 - l.k

@@ -1,0 +1,14 @@
+-- What the calls that read take from the input, by the bytes that it has left before and after, where those are known. Rests on nothing.
+use Rattle.std.specs.Prelude.{ℕ, ◌≡◌, ◌+◌, ◌*◌, ◌≤◌, ◌<◌, List, ◌∷◌, length, take, Option}
+use Rattle.std.specs.Io.KnownBytes.{Consumes, IsAtEnd}
+use Rattle.input.specs.declared.Next.{Next}
+
+-- the bytes begin with those that were left, and with all of them where these are fewer
+abbrev pub Padded : Option (List ℕ) → Option (List ℕ) → List ℕ → Type 0
+Padded old new bytes = (n : ℕ) × (n ≤ length bytes) × Consumes old new (take n bytes) × (n < length bytes → IsAtEnd new)
+
+-- a record's length, the lower byte first, and then its bytes; the end of the input otherwise
+abbrev pub Given : Option (List ℕ) → Option (List ℕ) → List ℕ → Next → Type 0
+Given old new space (Next.Record size) = (low : ℕ) × (high : ℕ) × (size ≡ low + 256 * high) × (size ≤ 65535) × Consumes old new (low ∷ (high ∷ take size space))
+Given old new space Next.Cut = IsAtEnd new
+Given old new space Next.End = IsAtEnd old × IsAtEnd new

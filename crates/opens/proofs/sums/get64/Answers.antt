@@ -1,8 +1,0 @@
--- `get64` meets its contract: the number's own bytes are lent. Rests on words' Windows.
-use Rattle.std.proofs.Common.{◌∙◌}
-use Rattle.words.specs.Laws.Windows.{window_64}
-use Rattle.opens.proofs.sums.get64.Goals as goal
-
-pub returns : goal.returns
-returns c = let a = c.args in
-    c.get64.ensures ∙ window_64 a.s.now a.at

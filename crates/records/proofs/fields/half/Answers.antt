@@ -1,9 +1,0 @@
--- `half` meets its contract: the number's own bytes are lent. Rests on words' Windows.
-use mathlib.Core.Path.{◌∙◌}
-use native.Mathlib.Omega.{arith}
-use Rattle.words.specs.Laws.Windows.{window_16}
-use Rattle.records.proofs.fields.half.Goals as goal
-
-pub returns : goal.returns
-returns c = let a = c.args in
-    (c.get16.ensures ∙ window_16 a.s.now a.at, omega arith)

@@ -1,0 +1,55 @@
+-- `records::numbers_in`: the ranges first, then the name. Assumes nothing.
+use Rattle.std.proofs.Common.{◌≡◌, true, refl, sym, ◌∙◌, lit<}
+use Rattle.std.proofs.lemmas.Result.{err_from_is_err_and}
+use Rattle.prelude.specs.Below.{all_below}
+use Rattle.prelude.specs.Texts.{text_of}
+use Rattle.format.specs.Places.{content, map_at, right_at}
+use Rattle.format.specs.Refusal.{name_in, ranged}
+use Rattle.records.specs.Laws.Reading.{rising_shape, name_shape, ranges_shape, numbers_shape, short_shape}
+use Rattle.records.proofs.Ranges.{long_between}
+use Rattle.records.proofs.numbers_in.Goals as goal
+use Rattle.records.proofs.numbers_in.Goals.{After-name_in_map, In_ok-numbers}
+
+pub values-requires : goal.values-requires
+values-requires c = rising_shape c.args.s.now c.args.shape.now c.requires
+
+pub returns-in_err-numbers-clause-err : goal.returns-in_err-numbers-clause-err
+unfolding ranged
+returns-in_err-numbers-clause-err c =
+    let e = c.in_err-numbers.ensures.err in
+    let p = err_from_is_err_and c.from_residual.result c.from_residual.ensures.1 in
+    rw (p.1, p.2) (rw (sym (ranges_shape c.args.s.now c.args.shape.now c.requires) ∙ e.0) refl, e.1)
+
+all_right : (c : In_ok-numbers) → let x = c.args.shape.now in all_below (right_at c.args.s.now x.start (map_at c.args.s.now x.start)) 32 ≡ true
+all_right c = sym (ranges_shape c.args.s.now c.args.shape.now c.requires) ∙ c.in_ok-numbers.ensures.ok.right
+
+pub field-requires : goal.field-requires
+field-requires c = (lit< tt, rising_shape c.args.s.now c.args.shape.now c.requires)
+
+pub text_in-name-requires : goal.text_in-name-requires
+text_in-name-requires c =
+    let r = rising_shape c.args.s.now c.args.shape.now c.requires in
+    let s = short_shape c.args.s.now c.args.shape.now c.requires (all_right (goal.at.text_in-name-requires c).In_ok-numbers) in
+    rw c.field.ensures (long_between r 2 33 (lit< tt) s.name)
+
+named : (c : After-name_in_map) → let x = c.args.shape.now in
+    c.name_in_map.result ≡ name_in (map_at c.args.s.now x.start) (text_of (content c.args.s.now x.start (map_at c.args.s.now x.start) 2))
+named c =
+    rw (c.requires.map, c.text_in-name.ensures, c.field.ensures, name_shape c.args.s.now c.args.shape.now c.requires) at c.name_in_map.ensures
+
+pub returns-then-name_in_map-clause-ok : goal.returns-then-name_in_map-clause-ok
+unfolding ranged
+returns-then-name_in_map-clause-ok c = record {
+  right =
+      rw (all_right (goal.at.returns-then-name_in_map-clause-ok c).In_ok-numbers)
+      (sym (named (goal.at.returns-then-name_in_map-clause-ok c).After-name_in_map) ∙ c.if-name_in_map.true);
+  numbers = numbers_shape c.args.s.now c.args.shape.now c.requires c.in_ok-numbers.numbers c.in_ok-numbers.ensures.ok;
+}
+
+pub returns-else-name_in_map-clause-err : goal.returns-else-name_in_map-clause-err
+unfolding ranged
+returns-else-name_in_map-clause-err c = (
+  rw (all_right (goal.at.returns-else-name_in_map-clause-err c).In_ok-numbers)
+      (sym (named (goal.at.returns-else-name_in_map-clause-err c).After-name_in_map) ∙ c.if-name_in_map.false),
+  refl,
+)

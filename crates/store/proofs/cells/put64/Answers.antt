@@ -1,5 +1,0 @@
--- `put64` meets its contract. Assumes nothing.
-use Rattle.store.proofs.cells.put64.Goals as goal
-
-pub returns : goal.returns
-returns c = cc

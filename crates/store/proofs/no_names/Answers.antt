@@ -1,5 +1,0 @@
--- `no_names` meets its contract. Assumes nothing.
-use Rattle.store.proofs.no_names.Goals as goal
-
-pub returns : goal.returns
-returns c = rw c.no_text-t.ensures
