@@ -1,3 +1,4 @@
 pub mod Booking
+pub mod Prices
 pub mod Why
 pub mod Taken

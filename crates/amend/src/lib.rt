@@ -199,9 +199,10 @@ fn price_of(e: Record) -> Option<u64>
     }
 }
 
-// The verdict that the event brings, passed over where no risk is added.
+// `check_replace` of src/book/amend.rs: the verdict that the event brings, passed over where no risk is
+// added.
 #[tactic(auto, unfolding(machine::specs::Amend::check_replace), using(orders::specs::Laws::Choices::choices))]
-fn check_risk(o: Order, e: Record) -> Result<(), Why>
+fn check_replace(o: Order, e: Record) -> Result<(), Why>
     ensures { reject_in result ≡ check_replace o e }
 {
     let ordtype = or_own(e.terms.ordtype, o.terms.ordtype);
@@ -233,10 +234,11 @@ fn check_terms(t: &Target, e: Record) -> Result<(), Why>
     if t.order.terms.qty < e.terms.qty && has(e, bit::BLOCKED) {
         return Err(Why::Blocked);
     }
-    check_risk(t.order, e)
+    check_replace(t.order, e)
 }
 
-fn check_replace(t: &Target, e: Record) -> Result<(), Why>
+// And all that refuses one.
+fn check_replace_request(t: &Target, e: Record) -> Result<(), Why>
     ensures { reject_in result ≡ amend_refusal t.now.findings t.now.used t.now.full t.now.order e (replace_refusal t.now.findings t.now.order e) }
 {
     check_shared(t, e)?;
@@ -297,7 +299,7 @@ pub fn replace(t: &Target, e: Record) -> Result<Change, Refusal>
     if already_taken(t, e) {
         return Ok(redelivered_report(t, e));
     }
-    if let Err(why) = check_replace(t, e) {
+    if let Err(why) = check_replace_request(t, e) {
         return Ok(refuse(t, kinds::REPLACE, e, why));
     }
     if !priced_right(or_own(e.terms.ordtype, t.order.terms.ordtype), e) {

@@ -1,8 +1,8 @@
 -- WHICH CLORDID STANDS FOR WHICH ORDER (change request 9): the chain of a client's ClOrdID back to the first, as requests and as the bytes of its entries;
 -- and the call that writes them. What stands in quotes is the desk's wording. Rests on counted, store's book and its outcomes, and opens' `keeps_of`.
 use Rattle.std.specs.Prelude.{ℕ, zero, suc, ◌*◌, not, ◌&&◌, List, [], ◌∷◌, ◌++◌, map, leb, ltb, length, take, replicate, Option, None, Some}
+use Rattle.std.specs.List.{concat}
 use Rattle.prelude.specs.Cases.{if◌then◌otherwise◌}
-use Rattle.prelude.specs.Pieces.{joined}
 use Rattle.prelude.specs.Span.{splice}
 use Rattle.prelude.specs.Texts.{contents, text_of}
 use Rattle.counted.specs.declared.Counted.{Counted}
@@ -39,11 +39,11 @@ entry_fields name outcome = (length name ∷ []) ∷ take 32 (name ++ replicate 
 
 -- of a request of the book
 unfoldable pub entry_of : List ℕ → ℕ → List ℕ
-entry_of b k = joined (entry_fields (contents (request_in (book_of b) k).clordid) (outcome_at b k))
+entry_of b k = concat (entry_fields (contents (request_in (book_of b) k).clordid) (outcome_at b k))
 
 -- one entry behind the other
 unfoldable pub entries_of : List ℕ → List ℕ → List ℕ
-entries_of b ks = joined (map (entry_of b) ks)
+entries_of b ks = concat (map (entry_of b) ks)
 
 -- ---- the call
 

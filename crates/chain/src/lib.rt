@@ -1,14 +1,12 @@
 // The chain of a client's ClOrdID back to the first, written into a lent buffer: 34 bytes for each
 // request, from the one of that name on to the one that its OrigClOrdID names. What a chain and an entry
-// are stands in specs/Chain.antt, and what holds of them in specs/Promise.antt. That a request is in use
-// stands in the contracts: a type for its index would be made and taken apart at each step. Rests on
-// opens, store and counted.
+// are stands in specs/Chain.antt, and what holds of them in specs/Promise.antt. Rests on opens, store and
+// counted.
 #![tactic(auto)]
 
 ghost use Rattle.std.specs.Prelude.{◌≡◌, ◌+◌, ◌*◌, ◌≤◌, ◌<◌, length};
 ghost use Rattle.prelude.specs.Span.{splice};
 ghost use Rattle.prelude.specs.Texts.{text_of};
-ghost use Rattle.store.specs.Layout.{book_size, most_requests};
 ghost use Rattle.store.specs.Book.{book_of, request_count};
 ghost use Rattle.counted.specs.Counted.{counted_of};
 ghost use Rattle.chain.specs.Chain.{called_by, entry_size, entries_of, chained, chain_call};
@@ -38,6 +36,7 @@ fn text_of(name: &[u8]) -> Text
 }
 
 // The request in which that client used that name.
+#[tactic(auto, using(crate::specs::Laws::Walk::named), unfolding(crate::specs::Chain::called_by))]
 fn called_by(book: &[u8], client: u16, name: &[u8]) -> Option<usize>
     ensures { result ≡ called_by (book_of book.now) client name.now }
 {
@@ -47,60 +46,74 @@ fn called_by(book: &[u8], client: u16, name: &[u8]) -> Option<usize>
     store::find_clordid(book, client, text_of(name))
 }
 
-// The request that the OrigClOrdID of request k names.
-fn earlier(book: &Kept<'_>, k: usize) -> Option<usize>
-    requires { k < request_count book.now.bytes.now }
-    ensures { result ≡ earlier book.now.bytes.now k }
-{
-    if book.bytes[layout::REQUESTS + k * layout::REQUEST + layout::REQUEST_ORIGCLORDID + NAME]
-        == 0
+// A request in use, of a book that keeps its rules.
+#[derive(Clone, Copy)]
+struct Used<'a> {
+    book: Kept<'a>,
+    k: usize,
+    ghost used: { k < request_count book.bytes.now },
+}
+
+impl Used<'_> {
+    // The request that its OrigClOrdID names.
+    #[tactic(auto, using(store::specs::Laws::Stored::count_most, store::specs::Laws::Beside::load_origin_in, crate::specs::Laws::Walk::linked))]
+    fn earlier(&self) -> Option<usize>
+        ensures { result ≡ earlier self.now.book.bytes.now self.now.k }
     {
-        return None;
-    }
-    let link = usize::from(store::load_origin(book.bytes, k));
-    Some(link - 1)
-}
-
-// How many entries the chain from request k has. Each step goes to a request numbered lower.
-fn count_from(book: &Kept<'_>, k: usize) -> usize
-    requires { k < request_count book.now.bytes.now }
-    ensures { result ≡ length (walk book.now.bytes.now k) }
-{
-    match earlier(book, k) {
-        Some(j) => {
-            let rest = count_from(book, j);
-            rest + 1
+        let book = self.book.bytes;
+        let at = layout::REQUESTS + self.k * layout::REQUEST + layout::REQUEST_ORIGCLORDID;
+        if book[at + NAME] == 0 {
+            return None;
         }
-        None => 1,
+        let link = usize::from(store::load_origin(book, self.k));
+        Some(link - 1)
     }
-}
 
-// The entry of request k as it is stored, from index at.
-fn put_entry(book: &[u8], k: usize, list: &mut [u8], at: usize)
-    requires { (length book.now ≡ book_size) × (k < most_requests) × (at + entry_size ≤ length list.old) }
-    ensures { list.new ≡ splice list.old at (stored_entry book.now k) }
-{
-    let from = layout::REQUESTS + k * layout::REQUEST;
-    let name = from + layout::REQUEST_CLORDID;
-    list[at] = book[from + layout::REQUEST_CLORDID_LEN];
-    list[at + 1..at + 1 + NAME].copy_from_slice(&book[name..name + NAME]);
-    list[at + 1 + NAME] = book[from + layout::REQUEST_OUTCOME];
-}
+    // How many entries its chain has. Each step goes to a request numbered lower.
+    #[tactic(auto, using(store::specs::Laws::Stored::count_most, crate::specs::Laws::Walk::walked))]
+    fn count(&self) -> usize
+        ensures { result ≡ length (walk self.now.book.bytes.now self.now.k) }
+    {
+        match self.earlier() {
+            Some(k) => {
+                let rest = Used { book: self.book, k }.count();
+                rest + 1
+            }
+            None => 1,
+        }
+    }
 
-// The entries of the chain from request k, from index at.
-fn put_from(book: &Kept<'_>, k: usize, list: &mut [u8], at: usize)
-    requires { (k < request_count book.now.bytes.now) × (at + entry_size * length (walk book.now.bytes.now k) ≤ length list.old) }
-    ensures { list.new ≡ splice list.old at (entries_of book.now.bytes.now (walk book.now.bytes.now k)) }
-{
-    put_entry(book.bytes, k, list, at);
-    if let Some(j) = earlier(book, k) {
-        put_from(book, j, list, at + ENTRY);
+    // Its entry as it is stored, from index at.
+    #[tactic(auto, using(store::specs::Laws::Stored::count_most, crate::specs::Laws::Walk::kept_long))]
+    fn put_entry(&self, list: &mut [u8], at: usize)
+        requires { at + entry_size ≤ length list.old }
+        ensures { list.new ≡ splice list.old at (stored_entry self.now.book.bytes.now self.now.k) }
+    {
+        let book = self.book.bytes;
+        let from = layout::REQUESTS + self.k * layout::REQUEST;
+        let name = from + layout::REQUEST_CLORDID;
+        list[at] = book[from + layout::REQUEST_CLORDID_LEN];
+        list[at + 1..at + 1 + NAME].copy_from_slice(&book[name..name + NAME]);
+        list[at + 1 + NAME] = book[from + layout::REQUEST_OUTCOME];
+    }
+
+    // The entries of its chain, from index at.
+    #[tactic(auto, using(crate::specs::Laws::Walk::step_back, crate::specs::Laws::Entries::put))]
+    fn put(&self, list: &mut [u8], at: usize)
+        requires { at + entry_size * length (walk self.now.book.bytes.now self.now.k) ≤ length list.old }
+        ensures { list.new ≡ splice list.old at (entries_of self.now.book.bytes.now (walk self.now.book.bytes.now self.now.k)) }
+    {
+        self.put_entry(list, at);
+        if let Some(k) = self.earlier() {
+            Used { book: self.book, k }.put(list, at + ENTRY);
+        }
     }
 }
 
 // Writes the chain of a client's ClOrdID to the front of `list`; the number is the count of entries, 0
 // for a name that the client never used. Refuses a book that does not keep its rules, then a `list` that
 // cannot hold the whole chain.
+#[tactic(auto, using(store::specs::Laws::Stored::count_most, crate::specs::Laws::Walk::walk_most, crate::specs::Laws::Walk::chain_walk, crate::specs::Laws::Call::calls))]
 pub fn chain(book: &[u8], client: u16, name: &[u8], list: &mut [u8]) -> Result<u32, Refusal>
     ensures { chained (counted_of result) list.new ≡ chain_call book.now client name.now list.old }
 {
@@ -108,11 +121,12 @@ pub fn chain(book: &[u8], client: u16, name: &[u8], list: &mut [u8]) -> Result<u
     let Some(k) = called_by(book.bytes, client, name) else {
         return Ok(0);
     };
-    let n = count_from(&book, k);
+    let first = Used { book, k };
+    let n = first.count();
     if list.len() < ENTRY * n {
         return Err(Refusal::ShortList);
     }
-    put_from(&book, k, list, 0);
+    first.put(list, 0);
     // At most 256: `try_from` would have a branch that nothing takes.
     Ok(n as u32)
 }

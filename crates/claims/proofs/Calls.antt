@@ -1,12 +1,6 @@
 -- Demand 3 on bytes: each call on a book that keeps its rules is the machine's, so every list of calls is. Rests on Taken and machine's Calls.
-use Prim.Native.Nat.{ℕ, ◌≤◌, ◌<◌}
-use native.Mathlib.Omega.{arith}
-use mathlib.Core.Path.{◌≡◌, refl, sym, ap, ◌∙◌, subst}
-use mathlib.Core.Bool.{Bool, true, false, not}
-use mathlib.Core.List.{List, []}
-use lib.Dec.{eqb}
-use lib.ListN.{length}
-use borrow.Author.Tests.{eqb-true, eqb-false, eq-eqb, lt-ltb, le-ltb, ne_eqb, not-false}
+use Rattle.std.proofs.Common.{ℕ, ◌≤◌, ◌<◌, arith, ◌≡◌, refl, sym, ap, ◌∙◌, subst, Bool, true, false, not, List, [], eqb, length, eqb-true, eq-eqb, lt-ltb, le-ltb, ne_eqb}
+use Rattle.std.proofs.lemmas.Bool.{eqb-false, not-false}
 use Rattle.prelude.specs.Cases.{if◌then◌otherwise◌, split_if, if_true, if_false, clash}
 use Rattle.prelude.specs.Number.{Bytes}
 use Rattle.records.specs.Record.{event_in}

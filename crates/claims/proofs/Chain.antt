@@ -1,7 +1,5 @@
 -- The chain of a ClOrdID after any calls: each call leaves a book that check passes. Rests on Calls and chain's Sound.
-use mathlib.Core.Path.{sym, subst}
-use mathlib.Core.List.{List, [], ◌∷◌}
-use Prim.Native.Nat.{ℕ}
+use Rattle.std.proofs.Common.{sym, subst, List, [], ◌∷◌, ℕ}
 use Rattle.store.specs.Book.{book_of, blank}
 use Rattle.store.specs.Laws.Kept.{bytes_blank}
 use Rattle.chain.specs.Promise.{Chains}

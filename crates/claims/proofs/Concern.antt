@@ -1,18 +1,10 @@
 -- The order that a record concerns, as machine's `concerns` finds it: on a book that keeps its rules texts are distinct, so that the first found is the only one.
 -- Rests on Concern and machine's Consequences.
-use Prim.Native.Nat.{ℕ, ◌+◌, ◌≤◌, ◌<◌}
-use native.Mathlib.Decide.{ℕ_discrete, dec_lt}
-use native.Mathlib.Omega.{arith}
-use mathlib.Core.Path.{◌≡◌, refl, sym, ap, ◌∙◌}
-use mathlib.Core.Logic.{◌⊎◌, inl, inr}
-use mathlib.Core.Bool.{Bool, true, not, ◌&&◌}
-use Rattle.std.specs.Prelude.{Option, None, Some}
-use mathlib.Core.List.{List}
-use lib.Dec.{eqb, leb, ltb}
-use lib.ListN.{length}
-use borrow.Author.Tests.{eqb-true, eq-eqb, ne_eqb, leb-true, lt-ltb}
+use Rattle.std.proofs.Common.{ℕ, ◌+◌, ◌≤◌, ◌<◌, arith, ◌≡◌, refl, sym, ap, ◌∙◌, ◌⊎◌, inl, inr, Bool, true, not, ◌&&◌, Option, None, Some, List, eqb, leb, ltb, length, eqb-true, eq-eqb, ne_eqb, leb-true, lt-ltb}
+use Rattle.std.proofs.Math.Decide.{ℕ_discrete, dec_lt}
+use Rattle.std.proofs.lemmas.Bool.{and_parts, and_from}
 use Rattle.prelude.specs.Below.{first_below, First, first_elim, first_some}
-use Rattle.prelude.specs.Cases.{maybe, if_true, if_false, maybe_some, both_true, both_hold, clash}
+use Rattle.prelude.specs.Cases.{maybe, if_true, if_false, maybe_some, clash}
 use Rattle.prelude.specs.Number.{Bytes}
 use Rattle.prelude.specs.Texts.{is_text, same_text, same_back, same_trans, same_length}
 use Rattle.prelude.specs.declared.Text.{Text}
@@ -78,19 +70,19 @@ module _ (x : Book) (good : BookKept x) where
       let q = request_in x k in
       let a : Bool = ltb q.order (length x.orders) in
       let c : Bool = eqb (client_of x k) client in
-      let u = both_true (has_clordid q) (same_text q.clordid t && (a && c)) e in
-      let v = both_true (same_text q.clordid t) (a && c) u.1 in
-      record { has = u.0; text = v.0; its = eqb-true (client_of x k) client (both_true a c v.1).1 }
+      let u = and_parts (has_clordid q) (same_text q.clordid t && (a && c)) e in
+      let v = and_parts (same_text q.clordid t) (a && c) u.1 in
+      record { has = u.0; text = v.0; its = eqb-true (client_of x k) client (and_parts a c v.1).1 }
 
   of_bears : (client : ℕ) (t : Text) (k : ℕ) → k < length x.requests → Bears client t k → bears_clordid x.orders client t (request_in x k) ≡ true
   unfolding of_client
   of_bears client t k h b =
-      both_hold _ _ b.has (both_hold _ _ b.text (both_hold _ _ (lt-ltb _ _ (good.request k h).order) (eq-eqb (client_of x k) client b.its)))
+      and_from _ _ b.has (and_from _ _ b.text (and_from _ _ (lt-ltb _ _ (good.request k h).order) (eq-eqb (client_of x k) client b.its)))
 
   one_key : (client : ℕ) (t : Text) (k m : ℕ) → Bears client t k → Bears client t m → same_key x k m ≡ true
   unfolding same_key
   one_key client t k m b c =
-      both_hold _ _ (both_hold (not (is_empty (request_in x k).clordid)) _ b.has (eq-eqb (client_of x k) (client_of x m) (b.its ∙ sym c.its))) (both_same _ _ t b.text c.text)
+      and_from _ _ (and_from (not (is_empty (request_in x k).clordid)) _ b.has (eq-eqb (client_of x k) (client_of x m) (b.its ∙ sym c.its))) (both_same _ _ t b.text c.text)
 
   clordid_found : (client : ℕ) (t : Text) (k : ℕ) → k < length x.requests → Bears client t k → find_clordid x client t ≡ Some k
   unfolding find_clordid
@@ -135,7 +127,7 @@ found_link (Some k) f i e = record { at = k; found = refl; is = omega arith }
 
 long_text : (t : Text) → text_within 1 32 t ≡ true → 1 ≤ t.len
 unfolding text_within
-long_text t e = leb-true 1 t.len (both_true (is_text t) (leb 1 t.len) (both_true (is_text t && leb 1 t.len) (leb t.len 32) e).0).1
+long_text t e = leb-true 1 t.len (and_parts (is_text t) (leb 1 t.len) (and_parts (is_text t && leb 1 t.len) (leb t.len 32) e).0).1
 
 module _ (b r : List ℕ) (keeps : check_of b ≡ 0) (bytes : Bytes r) (reads : event_refusal r ≡ 0) where
   abbrev x : Book

@@ -1,14 +1,8 @@
 -- Demand 1 on bytes. Rests on Taken and Refusals.
-use Prim.Native.Nat.{ℕ, zero, suc, ◌≤◌, ◌<◌}
-use native.Mathlib.Omega.{arith}
-use mathlib.Core.Path.{◌≡◌, refl, sym, ap, ◌∙◌, subst}
-use mathlib.Core.Logic.{◌⊎◌, inl, inr, ⊎_elim}
-use mathlib.Core.Bool.{Bool, true, false, not, ◌&&◌, ◌||◌}
-use mathlib.Core.List.{List}
-use lib.Dec.{eqb, leb, ltb}
-use lib.ListN.{length}
-use borrow.Author.Tests.{eqb-true, eqb-false, eq-eqb, leb-true, ltb-true, ltb-false, lt-ltb, le-ltb, not-true, not-false}
-use Rattle.prelude.specs.Cases.{if◌then◌otherwise◌, split_if, if_true, if_false, clash, both_true, either_true}
+use Rattle.std.proofs.Common.{ℕ, zero, suc, ◌≤◌, ◌<◌, arith, ◌≡◌, refl, sym, ap, ◌∙◌, subst, ◌⊎◌, inl, inr, ⊎_elim, Bool, true, false, not, ◌&&◌, List, eqb, leb, ltb, length, eqb-true, eq-eqb, leb-true, ltb-true, ltb-false, lt-ltb, le-ltb}
+use Rattle.std.proofs.lemmas.Bool.{eqb-false, not-true, not-false, and_parts, or_cases}
+use Rattle.std.proofs.Math.Bool.{or-true}
+use Rattle.prelude.specs.Cases.{if◌then◌otherwise◌, split_if, if_true, if_false, clash}
 use Rattle.records.specs.Record.{event_in}
 use Rattle.store.specs.Layout.{most_orders, most_requests}
 use Rattle.store.specs.Book.{Book, is_book, book_of, blank}
@@ -59,21 +53,17 @@ Counts b e = ((e.kind ≡ 1) × (length b.orders ≡ most_orders)) ⊎ ((adds b 
 counts_full : (b : Book) (e : Event) → Counts b e → full b e ≡ true
 unfolding full
 counts_full b e (inl x) = rw (eq-eqb e.kind 1 x.0, x.1) refl
-counts_full b e (inr x) = rw (x.0, x.1) (last (is_booking e && leb most_orders (length b.orders)))
-  where
-    last : (x : Bool) → x || true ≡ true
-    last true = refl
-    last false = refl
+counts_full b e (inr x) = rw (x.0, x.1) (or-true (is_booking e && leb most_orders (length b.orders)))
 
 full_counts : (b : Book) (e : Event) → BookKept b → full b e ≡ true → Counts b e
 unfolding full
 full_counts b e good t =
     ⊎_elim
-    (λ x. let (k, l) = both_true (is_booking e) (leb 64 (length b.orders)) x in
+    (λ x. let (k, l) = and_parts (is_booking e) (leb 64 (length b.orders)) x in
     inl (eqb-true e.kind 1 k, omega (arith, leb-true 64 (length b.orders) l, good.orders)))
-    (λ x. let (k, l) = both_true (adds b e) (leb 256 (length b.requests)) x in
+    (λ x. let (k, l) = and_parts (adds b e) (leb 256 (length b.requests)) x in
     inr (k, omega (arith, leb-true 256 (length b.requests) l, good.requests)))
-    (either_true _ _ t)
+    (or_cases _ _ t)
 
 module _ (b r a : List ℕ) where
   -- by the number

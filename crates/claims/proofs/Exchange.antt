@@ -1,13 +1,9 @@
 -- Wish 12 on bytes: each call on a book that keeps its rules is the machine's, and where at most one adds a request the writes commute.
 -- Rests on Taken, Concern, Swapped, OpenQuantity and machine's Exchange.
-use Prim.Native.Nat.{ℕ, ◌≤◌, ◌+◌, ◌-◌, ◌<◌}
-use mathlib.Core.Path.{◌≡◌, sym, ap, ◌∙◌, subst, ap₂}
-use mathlib.Core.Bool.{true, not, ◌||◌}
-use mathlib.Core.List.{List, [], ◌∷◌}
-use lib.Dec.{eqb, leb, ltb}
-use lib.ListN.{length}
-use borrow.Author.Tests.{eq-eqb, le-ltb, eqb-true, ne_eqb, ltb-true, lt-ltb}
-use Rattle.prelude.specs.Cases.{if_true, if_false, both_true, either_true, both_hold}
+use Rattle.std.proofs.Common.{ℕ, ◌≤◌, ◌+◌, ◌-◌, ◌<◌, ◌≡◌, sym, ap, ◌∙◌, subst, ap₂, true, not, ◌||◌, List, [], ◌∷◌, eqb, leb, ltb, length, eq-eqb, le-ltb, eqb-true, ne_eqb, ltb-true, lt-ltb, arith, ◌⊎◌, inl, inr, ⊎_elim}
+use Rattle.std.proofs.Math.Decide.{ℕ_discrete}
+use Rattle.std.proofs.lemmas.Bool.{and_parts, or_cases, and_from}
+use Rattle.prelude.specs.Cases.{if_true, if_false}
 use Rattle.prelude.specs.Number.{Bytes}
 use Rattle.prelude.specs.Span.{span, splice}
 use Rattle.prelude.specs.Totals.{every[], every∷}
@@ -29,9 +25,6 @@ use Rattle.claims.proofs.Taken.{Taken, call_taken, left, returned_is, outcome_ta
 use Rattle.step.specs.Entries.{Outcome, call_of, book_with}
 use Rattle.format.specs.Refusal.{event_refusal}
 use Rattle.opens.specs.Laws.Keeps.{keeps_held}
-use native.Mathlib.Decide.{ℕ_discrete}
-use native.Mathlib.Omega.{arith}
-use mathlib.Core.Logic.{◌⊎◌, inl, inr, ⊎_elim}
 use Rattle.records.specs.Record.{event_in}
 use Rattle.records.specs.Laws.Writing.{answer_most}
 use Rattle.store.specs.Layout.{most_requests, book_size, most_orders, request_size, request_base}
@@ -112,7 +105,7 @@ module _ (b : List ℕ) (i : Call) (bytes : Bytes b) (t : Taken b i.event i.answ
           let c : Change = step_of (book_of b) (call_event i) in
           let n : ℕ = length (book_of b).orders in
           ⊎_elim (λ z. inl (eqb-true c.requests.added 0 z)) (λ z. inr (ltb-true (length (book_of b).requests) most_requests z))
-          (either_true _ _ (both_true (leb c.place n || ltb n 64) (eqb c.requests.added 0 || ltb (length (book_of b).requests) most_requests) (unfold has_room in h)).1)
+          (or_cases _ _ (and_parts (leb c.place n || ltb n 64) (eqb c.requests.added 0 || ltb (length (book_of b).requests) most_requests) (unfold has_room in h)).1)
 
 -- ---- the answer is in the change's output
 
@@ -384,7 +377,7 @@ module _ (b : List ℕ) (d e : Call) (i j : ℕ) (h : CallsOfTwoClients b d e i 
     -- a record stored is its write
     order_put : (s : List ℕ) (k : ℕ) (o : Order) → length s ≡ book_size → k < most_orders → store_order s k o ≡ put s (order_write k o)
     unfolding store_order put_order
-    order_put s k o l m = if_true _ _ _ (both_hold _ _ (eq-eqb (length s) book_size l) (lt-ltb k most_orders m))
+    order_put s k o l m = if_true _ _ _ (and_from _ _ (eq-eqb (length s) book_size l) (lt-ltb k most_orders m))
 
     long_one : length one ≡ book_size
     long_one = (keeps_held one (left_keeps (called b d).book e (left_bytes b d h.bytes first) second)).long

@@ -1,15 +1,8 @@
 -- Every field that stands in a message's map has bytes in its record: the bits without a byte are no message's. Rests on format's tables and records' Right.
-use Prim.Native.Nat.{ℕ, ◌+◌, ◌≤◌, ◌<◌}
-use native.Mathlib.Omega.{arith}
-use mathlib.Core.Path.{◌≡◌, refl}
-use mathlib.Core.Logic.{⊎_elim}
-use mathlib.Core.Bool.{Bool, true, false, not, ◌||◌}
-use mathlib.Core.List.{List, [], ◌∷◌, map}
-use lib.Dec.{leb, ltb}
-use lib.ListN.{length, get_or}
-use borrow.Author.Tests.{leb-true, ltb-true, lt-ltb, not-true}
+use Rattle.std.proofs.Common.{ℕ, ◌+◌, ◌≤◌, ◌<◌, arith, ◌≡◌, refl, ⊎_elim, Bool, true, false, not, ◌||◌, List, [], ◌∷◌, map, leb, ltb, length, get_or, leb-true, ltb-true, lt-ltb}
+use Rattle.std.proofs.lemmas.Bool.{not-true, and_parts, or_cases}
 use Rattle.prelude.specs.Below.{all_below, all_elim, count_ext}
-use Rattle.prelude.specs.Cases.{if◌then◌otherwise◌, clash, both_true, either_true}
+use Rattle.prelude.specs.Cases.{if◌then◌otherwise◌, clash}
 use Rattle.bits.specs.Map.{bit, standing, contains}
 use Rattle.bits.specs.Laws.Map.{contains_bit}
 use Rattle.format.specs.Format.{fields, size, is_text_bit, is_kind, required_bits, allowed_bits, required, allowed, joined, bits_right}
@@ -37,23 +30,23 @@ size_above : (kind b : ℕ) → 16 ≤ kind → kind < 21 → b < 32 → bit (re
 size_above kind b h l m e =
     ⊎_elim (λ p. let q : kind < 16 = ltb-true kind 16 p in absurd (omega arith))
     (λ p. ⊎_elim (λ q. clash _ e (not-true _ q)) (λ q. ltb-true 0 (size b) q)
-    (either_true (not (bit (required kind + allowed kind) b)) (ltb 0 (size b)) (all_elim (takes kind) 32 p b m)))
-    (either_true (ltb kind 16) (all_below (takes kind) 32) (all_elim (λ k. ltb k 16 || all_below (takes k) 32) 21 table kind l))
+    (or_cases (not (bit (required kind + allowed kind) b)) (ltb 0 (size b)) (all_elim (takes kind) 32 p b m)))
+    (or_cases (ltb kind 16) (all_below (takes kind) 32) (all_elim (λ k. ltb k 16 || all_below (takes k) 32) 21 table kind l))
 
 -- ---- one message
 
 module _ (m : Message) (ok : is_message m ≡ true) where
   both : (is_record m ≡ true) × (leb 16 m.kind ≡ true)
   unfolding is_message
-  both = both_true (is_record m) (leb 16 m.kind) ok
+  both = and_parts (is_record m) (leb 16 m.kind) ok
 
   stands : (b : ℕ) → b < 32 → bit m.map b ≡ true → 0 < size b
   unfolding bits_right
   stands b l e =
       let k : ℕ = m.kind in
-      let (kind, rest) = both_true (is_kind k) _ (right m both.0).bits in
-      let (_, more) = both_true (contains m.map (required k)) _ rest in
-      let (within, _) = both_true (contains (required k + allowed k) m.map) (joined k m.map) more in
+      let (kind, rest) = and_parts (is_kind k) _ (right m both.0).bits in
+      let (_, more) = and_parts (contains m.map (required k)) _ rest in
+      let (within, _) = and_parts (contains (required k + allowed k) m.map) (joined k m.map) more in
       size_above k b (leb-true 16 k both.1) (kind_small k kind) l (contains_bit (required k + allowed k) m.map b within e)
 
   -- a text has its length byte, a number its size
@@ -82,5 +75,5 @@ module _ (m : Message) (ok : is_message m ≡ true) where
 pub fields_written : (ms : List Message) → are_messages ms ≡ true → map written_fields ms ≡ map field_count ms
 fields_written [] ok = refl
 fields_written (m ∷ ms) ok =
-    let (first, rest) = both_true (is_message m) (are_messages ms) ok in
+    let (first, rest) = and_parts (is_message m) (are_messages ms) ok in
     λ i. written m first i ∷ fields_written ms rest i

@@ -1,13 +1,6 @@
 -- The header's counts: no write takes them past their tables, and start's are 0. Rests on store's laws.
-use Prim.Native.Nat.{ℕ, ◌+◌, ◌-◌, ◌≤◌}
-use native.Mathlib.Omega.{arith}
-use mathlib.Core.Path.{◌≡◌, refl, ap, ◌∙◌}
-use mathlib.Core.Logic.{inl, inr}
-use mathlib.Core.Bool.{true, false}
-use mathlib.Core.List.{List, [], ◌∷◌}
-use lib.Dec.{eqb}
-use lib.ListN.{length, length-replicate}
-use borrow.Author.Tests.{eq-eqb}
+use Rattle.std.proofs.Common.{ℕ, ◌+◌, ◌-◌, ◌≤◌, arith, ◌≡◌, refl, ap, ◌∙◌, inl, inr, true, false, List, [], ◌∷◌, eqb, length, eq-eqb}
+use Rattle.std.proofs.Math.ListN.{length-replicate}
 use Rattle.prelude.specs.Below.{all_below, all_none}
 use Rattle.prelude.specs.Cases.{if◌then◌otherwise◌, split_if, split_maybe}
 use Rattle.prelude.specs.Lists.{list_below}

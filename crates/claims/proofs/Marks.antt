@@ -1,13 +1,7 @@
 -- Marks over lists: a list of calls is a list of events and returns to books that pass, and a mark stands through what may happen meanwhile. Rests on Calls, Net
 -- and marks' laws.
-use Prim.Native.Nat.{ℕ}
-use native.Mathlib.Omega.{arith}
-use mathlib.Core.Path.{◌≡◌, refl, sym, ap, ◌∙◌, subst}
-use mathlib.Core.Bool.{Bool, true, false}
-use mathlib.Core.List.{List, [], ◌∷◌, ◌++◌}
-use lib.Dec.{eqb}
-use lib.ListN.{length}
-use borrow.Author.Tests.{eqb-true, eqb-false, eq-eqb}
+use Rattle.std.proofs.Common.{ℕ, arith, ◌≡◌, refl, sym, ap, ◌∙◌, subst, Bool, true, false, List, [], ◌∷◌, ◌++◌, eqb, length, eqb-true, eq-eqb}
+use Rattle.std.proofs.lemmas.Bool.{eqb-false}
 use Rattle.prelude.specs.Cases.{if◌then◌otherwise◌, split_if, if_true}
 use Rattle.prelude.specs.Number.{Bytes}
 use Rattle.store.specs.Book.{Book, book_of, empty_book}

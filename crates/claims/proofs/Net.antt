@@ -1,9 +1,5 @@
 -- The net position over lists: the machine's law of bought and sold apart, tied to the lines of the call. Rests on Calls and net's laws.
-use Prim.Native.Nat.{ℕ}
-use native.Mathlib.Nat.{zero-add}
-use mathlib.Core.Path.{◌≡◌, refl, sym, ap, ◌∙◌, subst}
-use mathlib.Core.Bool.{true, false}
-use mathlib.Core.List.{List, [], ◌∷◌}
+use Rattle.std.proofs.Common.{ℕ, zero-add, ◌≡◌, refl, sym, ap, ◌∙◌, subst, true, false, List, [], ◌∷◌}
 use Rattle.prelude.specs.declared.Text.{Text}
 use Rattle.counted.specs.declared.Counted.{Counted}
 use Rattle.store.specs.Book.{Book, book_of, blank, empty_book}

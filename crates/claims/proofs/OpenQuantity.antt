@@ -1,14 +1,8 @@
 -- Wish 4 on bytes: each call leaves a book that keeps its rules, and on such a book the call gives the sum. Rests on Calls and Demands.
-use Prim.Native.Nat.{ℕ, ◌<◌, ◌^◌}
-use native.Mathlib.Omega.{arith}
-use mathlib.Core.Path.{◌≡◌, refl, sym, ap, ◌∙◌, subst}
-use mathlib.Core.Bool.{Bool, true, false}
-use Rattle.std.specs.Prelude.{Some}
-use mathlib.Core.List.{List, [], ◌∷◌}
-use lib.ListN.{length}
-use borrow.Author.Tests.{eq-eqb}
+use Rattle.std.proofs.Common.{ℕ, ◌<◌, ◌^◌, arith, ◌≡◌, refl, sym, ap, ◌∙◌, subst, Bool, true, false, Some, List, [], ◌∷◌, length, eq-eqb}
+use Rattle.std.proofs.lemmas.Bool.{and_from}
 use Rattle.prelude.specs.Below.{all_intro}
-use Rattle.prelude.specs.Cases.{if_true, if_false, maybe_some, both_hold}
+use Rattle.prelude.specs.Cases.{if_true, if_false, maybe_some}
 use Rattle.prelude.specs.Number.{Bytes}
 use Rattle.store.specs.Layout.{book_size, header·orders, most_orders}
 use Rattle.store.specs.Book.{Book, book_of, order_in, order_count, open_at, store_open, blank}
@@ -82,7 +76,7 @@ unfolding opens_right open_right
 stored_all b s = all_intro (open_right b) (order_count b) (λ i h. eq-eqb _ _ (s (order_in (book_of b) i).client))
 
 exact : (b : List ℕ) → ruled_of b ≡ true → ((client : ℕ) → stored_open b client ≡ open_of (book_of b) client) → outcomes_right b ≡ true → check_of b ≡ 0
-exact b r s o = check_kept b (keeps_then b (both_hold (ruled_of b) (outcomes_right b) r o) ∙ stored_all b s)
+exact b r s o = check_kept b (keeps_then b (and_from (ruled_of b) (outcomes_right b) r o) ∙ stored_all b s)
 
 -- what is stored once the word of a client's first order is written
 stored_here : (b : List ℕ) (i q client : ℕ) → i < order_count b → find_client (book_of b) client ≡ Some i → q < 2 ^ 64 → stored_open (store_open b i q) client ≡ q

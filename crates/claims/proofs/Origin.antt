@@ -1,16 +1,10 @@
 -- The request that an event adds: it is unanswered, and its OrigClOrdID, where it has one, is the ClOrdID of a request of the same order. And the requests that were there:
 -- which of them an event answers, and what of them it never changes. Rests on machine's Stepped and Records.
-use Prim.Native.Nat.{ℕ, ◌+◌, ◌-◌, ◌<◌}
-use native.Mathlib.Omega.{arith}
-use mathlib.Core.Path.{◌≡◌, refl, sym, ap, subst, ◌∙◌}
-use mathlib.Core.Bool.{Bool, true, false, not, ◌&&◌, ◌||◌}
-use Rattle.std.specs.Prelude.{Some}
-use mathlib.Core.List.{List}
-use lib.Dec.{eqb, ltb}
-use lib.ListN.{length}
-use borrow.Author.Tests.{eqb-true, eq-eqb, ne_eqb}
+use Rattle.std.proofs.Common.{ℕ, ◌+◌, ◌-◌, ◌<◌, arith, ◌≡◌, refl, sym, ap, subst, ◌∙◌, Bool, true, false, not, ◌&&◌, ◌||◌, Some, List, eqb, ltb, length, eqb-true, eq-eqb, ne_eqb}
+use Rattle.std.proofs.lemmas.Bool.{and_parts}
+use Rattle.std.proofs.Math.Bool.{or-false, or-true}
 use Rattle.prelude.specs.Below.{first_some}
-use Rattle.prelude.specs.Cases.{split_if, clash, both_true}
+use Rattle.prelude.specs.Cases.{split_if, clash}
 use Rattle.prelude.specs.Texts.{same_text}
 use Rattle.prelude.specs.declared.Text.{Text}
 use Rattle.store.specs.declared.Order.{Order}
@@ -30,6 +24,7 @@ use Rattle.machine.proofs.Stepped.{MadeBy, AskedBy, AmendedBy, step_made}
 use Rattle.machine.proofs.Kept.Tables.{at, length_answer, answer_case, more_old}
 use Rattle.machine.proofs.Kept.Lift.{after_case}
 use Rattle.machine.proofs.Claim.Records.{there_like}
+use Rattle.machine.proofs.Claim.Filled.{findings_place}
 
 -- ---- what a handler adds
 
@@ -102,8 +97,8 @@ found_names b client t j h =
     let q = request_in b j in
     let x : Bool = ltb q.order (length b.orders) in
     let y : Bool = eqb (order_in b q.order).client client in
-    let (same, own) = both_true (same_text q.clordid t) (x && y) (both_true (has_clordid q) _ f.passes).1 in
-    record { found = h; below = f.below; client_of = eqb-true _ client (both_true x y own).1; text = same }
+    let (same, own) = and_parts (same_text q.clordid t) (x && y) (and_parts (has_clordid q) _ f.passes).1 in
+    record { found = h; below = f.below; client_of = eqb-true _ client (and_parts x y own).1; text = same }
 
 -- THE REQUEST THAT A CHANGE ADDS: unanswered, and without an OrigClOrdID, or of the order of the request that it names
 pub data Added (b : Book) (c : Change) : Type 0 where
@@ -131,10 +126,6 @@ module _ (b : Book) (e : Event) where
   none_added f o c p (none z) = nothing_added z
   none_added f o c p (adds n i t z own) = absurd (n p)
 
-  place_of : (p : ℕ) → (findings_of b p).place ≡ p
-  unfolding findings_of
-  place_of p = refl
-
   pub step_added : Added b (step_of b e)
   unfolding refusing unchanged alarming adding first_request
   step_added = step_made (Added b) b e (record {
@@ -142,8 +133,8 @@ module _ (b : Book) (e : Event) where
     no_order_lem = λ z. nothing_added refl;
     unknown = λ z. nothing_added refl;
     books = λ t u v. first_one refl refl;
-    amends_none = λ z order full c c' m. none_added (findings_of b 0) _ c (place_of 0) (amended_amends m);
-    amends = λ z k w full c c' m. amends_added k (findings_of b ((request_in b k).order + 1)) _ c w (place_of ((request_in b k).order + 1)) refl (amended_amends m);
+    amends_none = λ z order full c c' m. none_added (findings_of b 0) _ c (findings_place b 0) (amended_amends m);
+    amends = λ z k w full c c' m. amends_added k (findings_of b ((request_in b k).order + 1)) _ c w (findings_place b ((request_in b k).order + 1)) refl (amended_amends m);
     answers = λ y k z c c' m. bare_added b c (made_bare m);
     asks = λ y i z c c' m. bare_added b c (asked_bare m);
   })
@@ -155,16 +146,8 @@ pub link_answered : (link : ℕ) (qs : List Request) (k : ℕ) → k < length qs
 unfolding is_answered
 link_answered link qs k l =
     answer_case (λ (q : Request). is_answered q ≡ is_answered (at qs k) || eqb link (k + 1)) link qs k l
-    (λ n. sym (ap (λ (t : Bool). is_answered (at qs k) || t) (ne_eqb link (k + 1) n) ∙ or_none (is_answered (at qs k))))
-    (λ e. sym (ap (λ (t : Bool). is_answered (at qs k) || t) (eq-eqb link (k + 1) e) ∙ or_some (is_answered (at qs k))))
-  where
-    or_none : (t : Bool) → t || false ≡ t
-    or_none true = refl
-    or_none false = refl
-
-    or_some : (t : Bool) → t || true ≡ true
-    or_some true = refl
-    or_some false = refl
+    (λ n. sym (ap (λ (t : Bool). is_answered (at qs k) || t) (ne_eqb link (k + 1) n) ∙ or-false (is_answered (at qs k))))
+    (λ e. sym (ap (λ (t : Bool). is_answered (at qs k) || t) (eq-eqb link (k + 1) e) ∙ or-true (is_answered (at qs k))))
 
 module _ (b : Book) (c : Change) (k : ℕ) (l : k < length b.requests) where
   -- what a change never changes of a request

@@ -1,16 +1,10 @@
 -- Wish 9 on bytes: an event sets an outcome once, so over a list of calls it stays; and what `check` asks beside each request. Rests on Taken, Settled, Calls and Demands.
-use Prim.Native.Nat.{ℕ, zero, suc, ◌+◌, ◌-◌, ◌≤◌, ◌<◌}
-use native.Mathlib.Decide.{ℕ_discrete, dec_lt}
-use native.Mathlib.Omega.{arith}
-use mathlib.Core.Path.{◌≡◌, refl, sym, ap, subst, ◌∙◌}
-use mathlib.Core.Logic.{◌⊎◌, inl, inr}
-use mathlib.Core.Bool.{Bool, true, false, not, ◌&&◌}
-use mathlib.Core.List.{List, [], ◌∷◌}
-use lib.Dec.{eqb, leb, ltb}
-use lib.ListN.{length, get_or-eq_default}
-use borrow.Author.Tests.{eqb-true, eqb-false, eq-eqb, leb-true, le-leb, ltb-true, lt-ltb}
+use Rattle.std.proofs.Common.{ℕ, ◌+◌, ◌-◌, ◌≤◌, ◌<◌, arith, ◌≡◌, refl, sym, ap, subst, ◌∙◌, ◌⊎◌, inl, inr, Bool, true, false, not, ◌&&◌, List, [], ◌∷◌, eqb, leb, ltb, length, eqb-true, eq-eqb, leb-true, le-leb, ltb-true, lt-ltb}
+use Rattle.std.proofs.Math.Decide.{ℕ_discrete, dec_lt}
+use Rattle.std.proofs.Math.ListN.{get_or-eq_default}
+use Rattle.std.proofs.lemmas.Bool.{eqb-false, and_parts, and_from, cases_Bool}
 use Rattle.prelude.specs.Below.{count_below, all_elim, all_intro}
-use Rattle.prelude.specs.Cases.{if◌then◌otherwise◌, if_true, if_false, clash, both_true, both_hold, true_or_false}
+use Rattle.prelude.specs.Cases.{if◌then◌otherwise◌, if_true, if_false, clash}
 use Rattle.prelude.specs.Number.{Bytes}
 use Rattle.prelude.specs.Span.{splice, length_splice, span_byte, span_splice_same, span_splice_before}
 use Rattle.prelude.specs.Texts.{same_text}
@@ -40,6 +34,7 @@ use Rattle.claims.proofs.Taken.{check_kept, check_broken, kept_check, either_way
 use Rattle.claims.proofs.Settled.{Origin, origin_of_lem, of_origin}
 use Rattle.claims.proofs.Calls.{Good, faithful}
 use Rattle.claims.proofs.Demands.{demand1}
+use Rattle.machine.proofs.Kept.Consequences.{count_passed}
 
 -- ---- one call that is taken
 
@@ -62,7 +57,7 @@ added b r a bytes bytes' z k h l =
 -- ---- what stands beside a request of a book that keeps its rules
 
 beside_of : (b : List ℕ) → keeps_of b ≡ true → (k : ℕ) → k < request_count b → (outcome_rule (request_in (book_of b) k) (outcome_at b k) ≡ true) × (origin_rule (book_of b).requests k (origin_at b k) ≡ true)
-beside_of b g k l = both_true _ _ (unfold outcomes_right beside_right in all_elim (beside_right b) (request_count b) (keeps_outcomes b g) k l)
+beside_of b g k l = and_parts _ _ (unfold outcomes_right beside_right in all_elim (beside_right b) (request_count b) (keeps_outcomes b g) k l)
 
 -- 0 exactly where unanswered, and at most 3
 record Ruled (a : Bool) (n : ℕ) : Type 0 where
@@ -76,7 +71,7 @@ ruled q n e = go (is_answered q) e
   where
     go : (a : Bool) → (if a then ltb 0 n && leb n 3 otherwise eqb n 0) ≡ true → Ruled a n
     go true e =
-        let (u, v) = both_true (ltb 0 n) (leb n 3) (unfold if◌then◌otherwise◌ in e) in
+        let (u, v) = and_parts (ltb 0 n) (leb n 3) (unfold if◌then◌otherwise◌ in e) in
         let low : 0 < n = ltb-true 0 n u in
         record { most = leb-true n 3 v; some = λ y z. omega arith; none = λ y. clash true refl y }
     go false e =
@@ -161,7 +156,7 @@ good b g (i ∷ is) k l n =
 
 first : (b : List ℕ) → Good b → (cs : List Call) (k : ℕ) → answered_in b k ≡ false → answered_in (bytes_after b cs) k ≡ true → SettledBy b cs k
 first b g [] k u a = clash _ a u
-first b g (i ∷ is) k u a = go (true_or_false (answered_in (next b g i) k)) (λ y. first (next b g i) (stays b g i) is k y a)
+first b g (i ∷ is) k u a = go (cases_Bool (answered_in (next b g i) k)) (λ y. first (next b g i) (stays b g i) is k y a)
   where
     go : (answered_in (next b g i) k ≡ true) ⊎ (answered_in (next b g i) k ≡ false) → (answered_in (next b g i) k ≡ false → SettledBy (next b g i) is k) → SettledBy b (i ∷ is) k
     go (inl y) later =
@@ -236,18 +231,6 @@ spelled e = go (eqb e.kind 7) (eqb e.kind 4) (eqb e.exec.status rejected) (eqb e
 
 -- ---- what check asks
 
--- one that counts is counted
-count_less : (p : ℕ → Bool) (j k : ℕ) → j < k → p j ≡ true → count_below p j < count_below p k
-count_less p j zero l e = absurd (omega arith)
-count_less p j (suc k) l e = go (ℕ_discrete j k) (λ h. count_less p j k h e) (unfold count_below in refl)
-  where
-    go : Dec (j ≡ k) → (j < k → count_below p j < count_below p k) → count_below p (suc k) ≡ count_below p k + (if p k then 1 otherwise 0) → count_below p j < count_below p (suc k)
-    go (yes z) less one =
-        let here : ◌≡◌ {A = ℕ} (if p k then 1 otherwise 0) 1 = if_true _ _ _ (ap p (sym z) ∙ e) in
-        let same : count_below p j ≡ count_below p k = ap (count_below p) z in
-        omega arith
-    go (no z) less one = omega (arith, less (omega arith), one)
-
 rule : (b : List ℕ) → check_of b ≡ 0 → (k : ℕ) → k < request_count b → RightBeside b k
 rule b z k l =
     let g : keeps_of b ≡ true = kept_check b z in
@@ -276,7 +259,7 @@ rule b z k l =
           order = r.order;
           number = unfold number_in in
               subst (λ (o : ℕ). count_below (of_order (book_of b).requests o) j < count_below (of_order (book_of b).requests (request_in (book_of b) k).order) k) (sym r.order)
-              (count_less (of_order (book_of b).requests (request_in (book_of b) k).order) j k below (eq-eqb _ _ r.order));
+              (count_passed (of_order (book_of b).requests (request_in (book_of b) k).order) j k below (eq-eqb _ _ r.order));
           text = r.text;
         })
 
@@ -287,7 +270,7 @@ outcome_right q n none most = go (is_answered q) refl (ℕ_discrete n 0)
   where
     go : (a : Bool) → is_answered q ≡ a → Dec (n ≡ 0) → (if is_answered q then ltb 0 n && leb n 3 otherwise eqb n 0) ≡ true
     go true e (yes z) = clash _ e (none.0 z)
-    go true e (no z) = if_true _ _ _ e ∙ both_hold _ _ (lt-ltb 0 n (omega arith)) (le-leb n 3 most)
+    go true e (no z) = if_true _ _ _ e ∙ and_from _ _ (lt-ltb 0 n (omega arith)) (le-leb n 3 most)
     go false e z = if_false _ _ _ e ∙ eq-eqb n 0 (none.1 e)
 
 origin_right : (b : List ℕ) (k : ℕ) → (is_empty (request_in (book_of b) k).origclordid ≡ true) ⊎ Earlier b k → Origin (book_of b).requests k (origin_at b k)
@@ -303,11 +286,11 @@ origin_right b k (inr r) =
 
 exact : (b : List ℕ) → ruled_of b ≡ true → opens_right b ≡ true → ((k : ℕ) → k < request_count b → RightBeside b k) → check_of b ≡ 0
 unfolding beside_right outcomes_right
-exact b r o t = check_kept b (keeps_then b (both_hold (ruled_of b) (outcomes_right b) r all) ∙ o)
+exact b r o t = check_kept b (keeps_then b (and_from (ruled_of b) (outcomes_right b) r all) ∙ o)
   where
     one : (k : ℕ) → k < request_count b → beside_right b k ≡ true
     one k l =
-        both_hold _ _ (outcome_right (request_in (book_of b) k) (outcome_at b k) (t k l).none (t k l).most)
+        and_from _ _ (outcome_right (request_in (book_of b) k) (outcome_at b k) (t k l).none (t k l).most)
         (of_origin (book_of b).requests k (origin_at b k) (origin_right b k (t k l).origin))
 
     all : outcomes_right b ≡ true

@@ -1,19 +1,11 @@
 -- What a change of one order writes into the bytes of a book, as a list of writes, and where they stand: in the order's record, in its own requests' records, in
 -- the first free request record and the count, and in the word of its client. Rests on Splices and store's laws.
-use Prim.Native.Nat.{ℕ, ◌+◌, ◌-◌, ◌≤◌, ◌<◌}
-use native.Mathlib.Decide.{ℕ_discrete}
-use native.Mathlib.Omega.{arith}
-use mathlib.Core.Path.{◌≡◌, refl, sym, ap, ap₂, subst, ◌∙◌}
-use mathlib.Core.Logic.{◌⊎◌, inl, inr, ⊎_elim}
-use mathlib.Core.Bool.{◌&&◌}
-use Rattle.std.specs.Prelude.{Some}
-use mathlib.Core.List.{List, [], ◌∷◌, ◌++◌}
-use lib.Dec.{eqb, ltb}
-use lib.ListN.{length}
-use borrow.Author.Tests.{eqb-false, eq-eqb, ne_eqb, le-leb, lt-ltb}
-use Rattle.prelude.specs.Cases.{if◌then◌otherwise◌, split_if, if_true, if_false, maybe_some, both_hold}
+use Rattle.std.proofs.Common.{ℕ, ◌+◌, ◌-◌, ◌≤◌, ◌<◌, arith, ◌≡◌, refl, sym, ap, ap₂, subst, ◌∙◌, ◌⊎◌, inl, inr, ⊎_elim, ◌&&◌, Some, List, [], ◌∷◌, ◌++◌, eqb, ltb, length, eq-eqb, ne_eqb, le-leb, lt-ltb}
+use Rattle.std.proofs.Math.Decide.{ℕ_discrete}
+use Rattle.std.proofs.lemmas.Bool.{eqb-false, and_from, or_left}
+use Rattle.prelude.specs.Cases.{if◌then◌otherwise◌, split_if, if_true, if_false, maybe_some}
 use Rattle.prelude.specs.Number.{bytes_of}
-use Rattle.prelude.specs.Totals.{Every, every[], every∷, every_map}
+use Rattle.prelude.specs.Totals.{Every, every[], every∷, every_map, every_append}
 use Rattle.store.specs.declared.Order.{Order}
 use Rattle.store.specs.declared.Request.{Request}
 use Rattle.store.specs.Layout.{book_size, header·orders, header·requests, order_size, most_orders, request_size, most_requests, order_base, request_base, request·answered, request·outcome, open_size, open_base}
@@ -30,10 +22,9 @@ use Rattle.machine.specs.declared.Change.{Change}
 use Rattle.machine.specs.Changes.{Event}
 use Rattle.machine.specs.Machine.{after}
 use Rattle.machine.specs.Exchange.{open_of}
-use Rattle.machine.proofs.Kept.Laws.{or_left}
 use Rattle.outcomes.specs.Outcomes.{outcome_by, origin_of}
 use Rattle.step.specs.Entries.{place_order, mark_link, place_requests, place_open, tables_with, book_with}
-use Rattle.claims.proofs.Splices.{Write, write, ends, put, put_all, Inside, Beside, apart, put_append, every_append, all_comm}
+use Rattle.claims.proofs.Splices.{Write, write, ends, put, put_all, Inside, Beside, apart, put_append, all_comm}
 use Rattle.claims.proofs.Written.{few_outcomes, place_book, mark_link_keeps, marked, marked_keeps, marked_count, tables_keeps}
 use Rattle.claims.proofs.Settled.{place_beside, settled_again, settled_same}
 
@@ -155,8 +146,8 @@ pub rest_zones : (x : Book) (i p n f s : ℕ) (r : Requests) → length x.reques
     → ((k : ℕ) → r.answered ≡ k + 1 → (request_in x k).order ≡ i) → ((k : ℕ) → r.superseded ≡ k + 1 → (request_in x k).order ≡ i) → Every (InRest x i p) (rest_writes p n f s r)
 unfolding rest_writes
 rest_zones x i p n f s r few h ha hs own' own =
-    every_append (mark_writes r.answered f) _ (mark_zones x i p r.answered f few ha own')
-    (every_append (mark_writes r.superseded s) _ (mark_zones x i p r.superseded s few hs own) (every∷ (in_word p refl h refl refl) every[]))
+    every_append (mark_zones x i p r.answered f few ha own')
+    (every_append (mark_zones x i p r.superseded s few hs own) (every∷ (in_word p refl h refl refl) every[]))
 
 pub request_zone : (t origin : ℕ) (q : Request) → t < most_requests → WholeRequest q → InRequest t (request_write t origin q)
 request_zone t origin q h w = let l : length (encode_request origin q) ≡ request_size = length_request origin q w in in_request t refl h (omega arith) (omega arith)
@@ -183,7 +174,7 @@ add_zones t origin r room whole =
 
 module _ (b : List ℕ) (long : length b ≡ book_size) where
   in_table : (i most : ℕ) → i < most → (x : List ℕ) → (if is_book b && ltb i most then x otherwise b) ≡ x
-  in_table i most h x = if_true _ _ _ (both_hold _ _ (eq-eqb (length b) book_size long) (lt-ltb i most h))
+  in_table i most h x = if_true _ _ _ (and_from _ _ (eq-eqb (length b) book_size long) (lt-ltb i most h))
 
   mark_is : (k v : ℕ) → k ≤ most_requests → mark_link b k v ≡ put_all b (mark_writes k (settled_as b (k - 1) v))
   unfolding mark_link mark_writes mark_answered
@@ -301,7 +292,7 @@ module _ (b : List ℕ) (e : Event) (i p : ℕ) (c : Change) (h : Placing b i p 
       let m : k < request_count b = omega (arith, length_requests b) in
       settled_same (outcome_by e) b placed h.long placed_long k m (omega (arith, placed_count))
       (ap (λ (x : List ℕ). request_in (book_of x) k) (sym placed_is)
-      ∙ ap (λ (x : Book). request_in x k) (place_book b c h.long (or_left _ (le-leb c.place (length (book_of b).orders) (omega (arith, h.there, h.inside)))) (λ y. h.order)))
+      ∙ ap (λ (x : Book). request_in x k) (place_book b c h.long (or_left _ _ (le-leb c.place (length (book_of b).orders) (omega (arith, h.there, h.inside)))) (λ y. h.order)))
       (ap (λ (x : List ℕ). outcome_at x k) (sym placed_is) ∙ (place_beside b k (omega (arith, m, count_most header·requests most_requests b)) c.place c.order (λ y. h.order)).outcome)
 
   abbrev before : List ℕ

@@ -1,12 +1,8 @@
 -- The number that an event gets is that of the first question answered with no. Rests on machine's Moves: what is no booking and no replace is taken.
-use Prim.Native.Nat.{ℕ, ◌+◌, ◌-◌, ◌≤◌, ◌<◌}
-use native.Mathlib.Omega.{arith}
-use mathlib.Core.Path.{◌≡◌, refl, sym, ap, ◌∙◌, subst}
-use mathlib.Core.Bool.{Bool, true, false, not, ◌&&◌, ◌||◌}
-use mathlib.Core.List.{List, [], ◌∷◌}
-use lib.Dec.{eqb, leb, ltb}
-use lib.ListN.{length, length-append, length-set}
-use borrow.Author.Tests.{leb-true, leb-false, le-leb, lt-leb, lt-ltb, le-ltb, ne_eqb, not-true, not-false}
+use Rattle.std.proofs.Common.{ℕ, ◌+◌, ◌-◌, ◌≤◌, ◌<◌, arith, ◌≡◌, refl, sym, ap, ◌∙◌, subst, Bool, true, false, not, ◌&&◌, ◌||◌, List, [], ◌∷◌, eqb, leb, ltb, length, length-append, length-set, leb-false, le-leb, ne_eqb}
+use Rattle.std.proofs.lemmas.Bool.{lt-leb, not-true, not-false}
+use Rattle.std.proofs.Math.Bool.{or-false}
+use Rattle.std.proofs.lemmas.Bool.Decides.{nat_tests}
 use Rattle.prelude.specs.Below.{first_some}
 use Rattle.prelude.specs.Cases.{if◌then◌otherwise◌, split_if, split_maybe, if_true, if_false, clash}
 use Rattle.prelude.specs.declared.Text.{Text}
@@ -25,6 +21,9 @@ use Rattle.machine.proofs.Claim.Walk.{found_request, found_order}
 use Rattle.claims.specs.Questions.{is_booking, used, replaced, passed_all, mispriced, adds, full, is_replacing}
 use Rattle.claims.specs.Claims.{Grown}
 use Rattle.machine.specs.declared.Findings.{Findings}
+use Rattle.machine.proofs.Kept.Tables.{length_answer}
+use Rattle.machine.proofs.Venue.Books.{step_change}
+use Rattle.machine.proofs.Claim.Filled.{findings_place}
 
 -- ---- a change that books nothing: its number, and its place among the orders in use
 
@@ -44,12 +43,8 @@ module _ (b : Book) where
   unfolding unchanged alarming
   unknown_unbooked = record { number = refl; place = omega arith }
 
-  findings_place : (p : ℕ) → (findings_of b p).place ≡ p
-  unfolding findings_of
-  findings_place p = refl
-
   findings_unbooked : (k p : ℕ) (o : Order) (c : Change) → p ≤ length b.orders → Moves k (findings_of b p).place o c → Unbooked b 0 c
-  findings_unbooked k p o c l m = moves_unbooked k (findings_of b p).place o c (omega (arith, findings_place p)) m
+  findings_unbooked k p o c l m = moves_unbooked k (findings_of b p).place o c (omega (arith, findings_place b p)) m
 
 module _ (b : Book) (r : Ruled b) (e : Event) where
   order_small : (client : ℕ) (t : Text) → order_of b client t ≤ length b.orders
@@ -161,11 +156,7 @@ module _ (b : Book) (e : Event) (book : is_booking e ≡ true) where
 
   mispriced_is : mispriced b e ≡ not (priced_right e.terms.ordtype e)
   unfolding mispriced
-  mispriced_is = rw (book, not_kind e 1 3 book refl) (last (not (priced_right e.terms.ordtype e)))
-    where
-      last : (x : Bool) → x || false ≡ x
-      last true = refl
-      last false = refl
+  mispriced_is = rw (book, not_kind e 1 3 book refl) (or-false (not (priced_right e.terms.ordtype e)))
 
   refused_walked : (n : ℕ) → (n ≡ 0 → ⊥) → n ≡ (if used b e then 5 otherwise if mispriced b e then 6 otherwise 0) → Walked b e (refusing n)
   unfolding refusing
@@ -199,18 +190,10 @@ walked b r e = go (is_booking e) refl
 -- ---- question 7
 
 no_more : (k x y z : Bool) → (not k || not x) && (y || not z) ≡ not ((k && x) || (not y && z))
-no_more true true y z = refl
-no_more true false true z = refl
-no_more true false false z = refl
-no_more false x true z = refl
-no_more false x false z = refl
+no_more k x y z = grind arith
 
 below : (n m : ℕ) → ltb n m ≡ not (leb m n)
-below n m = go (leb m n) refl
-  where
-    go : (t : Bool) → leb m n ≡ t → ltb n m ≡ not t
-    go true h = le-ltb n m (leb-true m n h)
-    go false h = lt-ltb n m (leb-false m n h)
+below n m = grind (arith, nat_tests)
 
 module _ (b : Book) (r : Ruled b) (e : Event) where
   room_is : (change_of b e).refusal ≡ 0 → has_room b (change_of b e) ≡ not (full b e)
@@ -235,10 +218,6 @@ module _ (b : Book) (r : Ruled b) (e : Event) where
 
 -- ---- what an event taken adds
 
-answer_length : (k : ℕ) (qs : List Request) → length (answer_link k qs) ≡ length qs
-unfolding answer_link
-answer_length k qs = split_if (λ (l : List Request). length l ≡ length qs) (eqb k 0) (λ z. refl) (λ z. simp length-set)
-
 -- n more exactly where the test holds
 orders_grow : (os : List Order) (c : Change) (t : Bool) → leb c.place (length os) ≡ not t → length (orders_after os c) ≡ length os + (if t then 1 otherwise 0)
 unfolding orders_after if◌then◌otherwise◌
@@ -259,17 +238,11 @@ requests_grow qs c = go (eqb c.requests.added 0) refl
     settled = answer_link c.requests.superseded (answer_link c.requests.answered qs)
 
     same : length settled ≡ length qs
-    same = answer_length c.requests.superseded _ ∙ answer_length c.requests.answered qs
+    same = length_answer c.requests.superseded _ ∙ length_answer c.requests.answered qs
 
     go : (z : Bool) → eqb c.requests.added 0 ≡ z → length (requests_after qs c) ≡ length qs + (if not z then 1 otherwise 0)
     go true e = rw e (omega (arith, same))
     go false e = rw e (omega (arith, same, length-append settled (c.requests.request ∷ [])))
-
-step_change : (b : Book) (e : Event) → (step_of b e).refusal ≡ 0 → step_of b e ≡ change_of b e
-unfolding step_of refusing
-step_change b e =
-    let P : Change → Type 0 = λ c. c.refusal ≡ 0 → c ≡ change_of b e in
-    split_if P _ (λ t z. refl) (λ t. split_if P (has_room b (change_of b e)) (λ h z. refl) (λ h z. absurd (omega arith)))
 
 pub step_grown : (b : Book) → Ruled b → (e : Event) → (step_of b e).refusal ≡ 0 → Grown b e (after b (step_of b e))
 unfolding after adds

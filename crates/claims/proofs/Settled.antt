@@ -1,17 +1,10 @@
 -- What a change leaves beside the requests' fields: the outcome of each request that it settles, set once and for good, and the origin of the one that it adds. So
 -- both rules of outcomes are kept. Rests on Written, Origin, and store's laws of what each write leaves there.
-use Prim.Native.Nat.{ℕ, ◌+◌, ◌-◌, ◌≤◌, ◌<◌}
-use native.Mathlib.Decide.{ℕ_discrete, dec_lt}
-use native.Mathlib.Omega.{arith}
-use mathlib.Core.Path.{◌≡◌, refl, sym, ap, ap₂, subst, ◌∙◌}
-use mathlib.Core.Logic.{◌⊎◌, inl, inr, ⊎_elim}
-use mathlib.Core.Bool.{Bool, true, false, not, ◌&&◌, ◌||◌}
-use mathlib.Core.List.{List}
-use lib.Dec.{eqb, leb, ltb}
-use lib.ListN.{length}
-use borrow.Author.Tests.{eqb-true, eq-eqb, ne_eqb, leb-true, le-leb, ltb-true, lt-ltb}
+use Rattle.std.proofs.Common.{ℕ, ◌+◌, ◌-◌, ◌≤◌, ◌<◌, arith, ◌≡◌, refl, sym, ap, ap₂, subst, ◌∙◌, ◌⊎◌, inl, inr, ⊎_elim, Bool, true, false, not, ◌&&◌, ◌||◌, List, eqb, leb, ltb, length, eqb-true, eq-eqb, ne_eqb, leb-true, le-leb, ltb-true, lt-ltb}
+use Rattle.std.proofs.Math.Decide.{ℕ_discrete, dec_lt}
+use Rattle.std.proofs.lemmas.Bool.{and_parts, and_from, or_cases, or_left, or_right}
 use Rattle.prelude.specs.Below.{all_elim, all_intro}
-use Rattle.prelude.specs.Cases.{if◌then◌otherwise◌, split_if, split_maybe, if_true, if_false, maybe_some, clash, both_true, both_hold, either_true}
+use Rattle.prelude.specs.Cases.{if◌then◌otherwise◌, split_if, split_maybe, if_true, if_false, maybe_some, clash}
 use Rattle.prelude.specs.Texts.{same_text}
 use Rattle.prelude.specs.declared.Text.{Text}
 use Rattle.store.specs.declared.Order.{Order}
@@ -29,7 +22,6 @@ use Rattle.machine.specs.Orders.{is_empty}
 use Rattle.machine.specs.Changes.{Event, is_answered}
 use Rattle.machine.specs.Machine.{has_room, after}
 use Rattle.machine.specs.Whole.{WholeBook}
-use Rattle.machine.proofs.Kept.Laws.{both, or_left, or_right}
 use Rattle.machine.proofs.Kept.Tables.{at, length_answer}
 use Rattle.machine.proofs.Claim.Records.{added_at, added_long, none_kept}
 use Rattle.outcomes.specs.Outcomes.{outcome_by, outcome_after, outcome_rule, origin_rule, beside_right, outcomes_right, origin_of}
@@ -179,17 +171,17 @@ unfolding origin_rule
 origin_of_lem qs k link e =
     ⊎_elim inl
     (λ z.
-    let (z, t) = both_true _ (same_text (at qs (link - 1)).clordid (at qs k).origclordid) z in
-    let (z, o) = both_true _ (eqb (at qs (link - 1)).order (at qs k).order) z in
-    let (a, w) = both_true (ltb 0 link) (leb link k) z in
+    let (z, t) = and_parts _ (same_text (at qs (link - 1)).clordid (at qs k).origclordid) z in
+    let (z, o) = and_parts _ (eqb (at qs (link - 1)).order (at qs k).order) z in
+    let (a, w) = and_parts (ltb 0 link) (leb link k) z in
     inr (record { above = ltb-true 0 link a; within = leb-true link k w; order = eqb-true _ _ o; text = t }))
-    (either_true (is_empty (at qs k).origclordid) _ e)
+    (or_cases (is_empty (at qs k).origclordid) _ e)
 
 pub of_origin : (qs : List Request) (k link : ℕ) → Origin qs k link → origin_rule qs k link ≡ true
 unfolding origin_rule
-of_origin qs k link (inl e) = or_left _ e
+of_origin qs k link (inl e) = or_left _ _ e
 of_origin qs k link (inr r) =
-    or_right (is_empty (at qs k).origclordid) (both (both (both (lt-ltb 0 link r.above) (le-leb link k r.within)) (eq-eqb _ _ r.order)) r.text)
+    or_right (is_empty (at qs k).origclordid) _ (and_from _ _ (and_from _ _ (and_from _ _ (lt-ltb 0 link r.above) (le-leb link k r.within)) (eq-eqb _ _ r.order)) r.text)
 
 -- the outcome of a request: n before and v where it is settled now
 rule_after : (a y : Bool) (n v : ℕ) → (a ≡ true → y ≡ true) → (if a then ltb 0 n && leb n 3 otherwise eqb n 0) ≡ true → ltb 0 v && leb v 3 ≡ true
@@ -248,7 +240,7 @@ module _ (b : List ℕ) (e : Event) (c : Change) (long : length b ≡ book_size)
 
   d_requests : (book_of d).requests ≡ x.requests
   unfolding has_room
-  d_requests = ap (λ (z : Book). z.requests) (place_book b c long (both_true _ _ room).0 (order_written x c whole))
+  d_requests = ap (λ (z : Book). z.requests) (place_book b c long (and_parts _ _ room).0 (order_written x c whole))
 
   d_count : request_count d ≡ request_count b
   d_count = sym (length_requests d) ∙ ap length d_requests ∙ length_requests b
@@ -260,7 +252,7 @@ module _ (b : List ℕ) (e : Event) (c : Change) (long : length b ≡ book_size)
 
   rules_of : (k : ℕ) → k < request_count b → (outcome_rule (request_in x k) (outcome_at b k) ≡ true) × (origin_rule x.requests k (origin_at b k) ≡ true)
   unfolding outcomes_right beside_right
-  rules_of k l = both_true _ _ (all_elim (beside_right b) (request_count b) right k l)
+  rules_of k l = and_parts _ _ (all_elim (beside_right b) (request_count b) right k l)
 
   unanswered_none : (k : ℕ) → k < request_count b → is_answered (request_in (book_of d) k) ≡ false → outcome_at d k ≡ 0
   unanswered_none k l z =
@@ -422,7 +414,7 @@ module _ (b : List ℕ) (e : Event) (c : Change) (long : length b ≡ book_size)
       each : (k : ℕ) → k < request_count f → Dec (k < request_count b) → beside_right f k ≡ true
       each k h t =
           let r : Right k = by k h t in
-          subst (λ (z : Book). outcome_rule (request_in z k) (outcome_at f k) && origin_rule z.requests k (origin_at f k) ≡ true) (sym w.is) (both_hold _ _ r.0 r.1)
+          subst (λ (z : Book). outcome_rule (request_in z k) (outcome_at f k) && origin_rule z.requests k (origin_at f k) ≡ true) (sym w.is) (and_from _ _ r.0 r.1)
         where
           by : (k : ℕ) → k < request_count f → Dec (k < request_count b) → Right k
           by k h (yes l) = old_right k l

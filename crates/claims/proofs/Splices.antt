@@ -1,12 +1,5 @@
 -- Splices of a buffer in either order: those beside each other commute, one by one and list by list. Rests on prelude's Span.
-use Prim.Native.Nat.{ℕ, ◌+◌, ◌-◌, ◌≤◌, ◌<◌}
-use native.Mathlib.Decide.{dec_lt}
-use native.Mathlib.Omega.{arith}
-use mathlib.Core.Path.{◌≡◌, refl, sym, ap, ◌∙◌}
-use mathlib.Core.Logic.{◌⊎◌, inl, inr, ⊎_elim}
-use mathlib.Core.List.{List, [], ◌∷◌, ◌++◌}
-use lib.ListN.{length, take, drop, length-drop, take-append-drop}
-use lib.Seq.{take_at, drop_at, length-take-le}
+use Rattle.std.proofs.Common.{ℕ, ◌+◌, ◌-◌, ◌≤◌, ◌<◌, arith, ◌≡◌, refl, sym, ap, ◌∙◌, ◌⊎◌, ⊎_elim, List, [], ◌∷◌, ◌++◌, length, take, drop, length-drop, take-append-drop, take_at, drop_at, length-take-le}
 use Rattle.prelude.specs.Span.{span, splice, length_span, length_splice, span_splice_same, span_splice_after, splice_append, splice_before}
 use Rattle.prelude.specs.Totals.{Every, every[], every∷}
 
@@ -83,19 +76,11 @@ abbrev pub Beside : Write → Write → Type 0
 Beside w v = (ends w ≤ v.at) ⊎ (ends v ≤ w.at)
 
 pub apart : (k l : ℕ) → (k ≡ l → ⊥) → (k < l) ⊎ (l < k)
-apart k l n = go (dec_lt k l)
-  where
-    go : Dec (k < l) → (k < l) ⊎ (l < k)
-    go (yes h) = inl h
-    go (no h) = inr (omega arith)
+apart k l n = grind arith
 
 pub put_append : (s : List ℕ) (ws vs : List Write) → put_all s (ws ++ vs) ≡ put_all (put_all s ws) vs
 put_append s [] vs = refl
 put_append s (w ∷ ws) vs = put_append (put s w) ws vs
-
-pub every_append : {P : Write → Type 0} (ws vs : List Write) → Every P ws → Every P vs → Every P (ws ++ vs)
-every_append [] vs every[] q = q
-every_append (w ∷ ws) vs (every∷ p ps) q = every∷ p (every_append ws vs ps q)
 
 length_put : (s : List ℕ) (w : Write) → Inside (length s) w → length (put s w) ≡ length s
 length_put s w h = length_splice s w.at w.bytes h

@@ -1,20 +1,11 @@
 -- Two changes of orders of different clients, written into the bytes of a book one after the other and the other way round: where at most one of them adds a
 -- request, the bytes are the same; where both do, the two records are exchanged and the two orders' links. Rests on Placed, and on machine's Frame and Commute.
-use Prim.Native.Nat.{ℕ, ◌+◌, ◌-◌, ◌≤◌, ◌<◌}
-use native.Mathlib.Decide.{ℕ_discrete}
-use native.Mathlib.Omega.{arith}
-use mathlib.Core.Path.{◌≡◌, refl, sym, ap, ap₂, subst, ◌∙◌}
-use mathlib.Core.Logic.{◌⊎◌, inl, inr, ⊎_elim}
-use mathlib.Core.Bool.{Bool}
-use Rattle.std.specs.Prelude.{Option, None, Some}
-use mathlib.Core.List.{List, [], ◌∷◌, ◌++◌}
-use lib.Dec.{eqb}
-use lib.ListN.{length}
-use borrow.Author.Tests.{eqb-true, eq-eqb, ne_eqb}
+use Rattle.std.proofs.Common.{ℕ, ◌+◌, ◌-◌, ◌≤◌, ◌<◌, arith, ◌≡◌, refl, sym, ap, ap₂, subst, ◌∙◌, ◌⊎◌, inl, inr, ⊎_elim, Bool, Option, None, Some, List, [], ◌∷◌, ◌++◌, eqb, length, eqb-true, eq-eqb, ne_eqb}
+use Rattle.std.proofs.Math.Decide.{ℕ_discrete}
 use Rattle.prelude.specs.Below.{first_below, First, first_elim, first_ext, first_some}
 use Rattle.prelude.specs.Cases.{if◌then◌otherwise◌, maybe, if_false, clash}
 use Rattle.prelude.specs.Span.{span}
-use Rattle.prelude.specs.Totals.{Every, every[], every∷, every_map, total_ext}
+use Rattle.prelude.specs.Totals.{Every, every[], every∷, every_map, total_ext, every_append}
 use Rattle.store.specs.declared.Order.{Order}
 use Rattle.store.specs.declared.Request.{Request}
 use Rattle.store.specs.Layout.{book_size, most_orders, most_requests, request_size, request_base}
@@ -41,7 +32,7 @@ use Rattle.outcomes.specs.Outcomes.{outcome_by, origin_of}
 use Rattle.step.specs.Entries.{book_with}
 use Rattle.claims.proofs.Written.{Writes}
 use Rattle.claims.proofs.Settled.{Settled, settled_same}
-use Rattle.claims.proofs.Splices.{Write, put, put_all, Inside, Beside, put_append, every_append, length_all, all_comm, put_over, span_put}
+use Rattle.claims.proofs.Splices.{Write, put, put_all, Inside, Beside, put_append, length_all, all_comm, put_over, span_put}
 use Rattle.claims.proofs.Placed.{order_write, rest_writes, rest_values, value_of, origin_by, request_write, count_write, add_writes, none_added, one_added, Zone, No, InOrder, InRest, InRequest, InAdded, in_count, zone_inside, zones_beside, order_zone, rest_zones, request_zone, behind_zone, count_zone, add_zones, change_is}
 
 -- ---- a client's first order
@@ -528,8 +519,8 @@ module _ (b : List ℕ) (i j : ℕ) (v w : Event) (c c' d d' : Change) (h : Pair
         ap (λ (z : List ℕ). put z (order_write j y)) (sym (put_append s (order_write j u ∷ more) ws))
         ∙ put_over book_size s (order_write j u) (order_write j y) (more ++ ws) (own_long b i j v w c c' d d' h o a) (zone_inside _ (order_j u e)) refl
         (length_order y f.fits ∙ sym (length_order u e.fits))
-        (every_append more ws (inside_all (rest_in b j i w v d d' c c' k')) (inside_all zs))
-        (every_append more ws (beside_order j _ (order_j y f) (rest_in b j i w v d d' c c' k')) (beside_order j _ (order_j y f) zs))
+        (every_append (inside_all (rest_in b j i w v d d' c c' k')) (inside_all zs))
+        (every_append (beside_order j _ (order_j y f) (rest_in b j i w v d d' c c' k')) (beside_order j _ (order_j y f) zs))
         ∙ put_append s (order_write j y ∷ more) ws
 
     over_i : (o u y : Order) (ws : List Write) → WholeOrder o → WholeOrder u → WholeOrder y → Every (InAdded n) ws
@@ -542,8 +533,8 @@ module _ (b : List ℕ) (i j : ℕ) (v w : Event) (c c' d d' : Change) (h : Pair
         let flat : (z : Write) → put_all (put_all (put_all b (z ∷ more)) next) ws ≡ put_all b (z ∷ (more ++ (next ++ ws))) = λ z. sym (put_append b (z ∷ more) (next ++ ws) ∙ put_append (put_all b (z ∷ more)) next ws) in
         ap (λ (z : List ℕ). put z (order_write i y)) (flat (order_write i o))
         ∙ put_over book_size b (order_write i o) (order_write i y) (more ++ (next ++ ws)) h.long (zone_inside _ (order_i o a)) refl (length_order y f.fits ∙ sym (length_order o a.fits))
-        (every_append more _ (inside_all (rest_in b i j v w c c' d d' h)) (every_append next ws (every∷ (zone_inside _ (order_j u e)) (inside_all (rest_in b j i w v d d' c c' k'))) (inside_all zs)))
-        (every_append more _ (beside_order i _ (order_i y f) (rest_in b i j v w c c' d d' h)) (every_append next ws nexts (beside_order i _ (order_i y f) zs)))
+        (every_append (inside_all (rest_in b i j v w c c' d d' h)) (every_append (every∷ (zone_inside _ (order_j u e)) (inside_all (rest_in b j i w v d d' c c' k'))) (inside_all zs)))
+        (every_append (beside_order i _ (order_i y f) (rest_in b i j v w c c' d d' h)) (every_append nexts (beside_order i _ (order_i y f) zs)))
         ∙ sym (flat (order_write i y))
 
     -- THE BYTES the other way round are these with four records written again

@@ -1,10 +1,5 @@
 -- Machine's laws of a venue's event, on bytes: the book that is left and the answer that is read are the machine's. Rests on Taken and Calls.
-use Prim.Native.Nat.{ℕ, ◌+◌}
-use mathlib.Core.Path.{◌≡◌, refl, sym, ap, ◌∙◌, subst}
-use mathlib.Core.Logic.{◌⊎◌, inl, inr}
-use mathlib.Core.Bool.{true, false}
-use mathlib.Core.List.{List}
-use lib.Dec.{eqb}
+use Rattle.std.proofs.Common.{ℕ, ◌+◌, ◌≡◌, refl, sym, ap, ◌∙◌, subst, ◌⊎◌, inl, inr, true, false, List, eqb}
 use Rattle.prelude.specs.Number.{Bytes}
 use Rattle.prelude.specs.Totals.{Every}
 use Rattle.records.specs.Record.{event_in}

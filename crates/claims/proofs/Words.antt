@@ -1,15 +1,8 @@
 -- What is stored behind the tables after a change: the word of the order's client is its open quantity in the book as it is left, and every other client's word
 -- and sum are as they were. Rests on Written, and on opens' laws of what a change moves.
-use Prim.Native.Nat.{ℕ, ◌-◌, ◌<◌}
-use native.Mathlib.Decide.{ℕ_discrete}
-use native.Mathlib.Omega.{arith}
-use mathlib.Core.Path.{◌≡◌, refl, sym, ap, ◌∙◌}
-use mathlib.Core.Bool.{Bool, true, false}
-use Rattle.std.specs.Prelude.{Option, None, Some}
-use mathlib.Core.List.{List}
-use lib.Dec.{eqb}
-use lib.ListN.{length}
-use borrow.Author.Tests.{eqb-true, eqb-false, eq-eqb}
+use Rattle.std.proofs.Common.{ℕ, ◌-◌, ◌<◌, arith, ◌≡◌, refl, sym, ap, ◌∙◌, Bool, true, false, Option, None, Some, List, eqb, length, eqb-true, eq-eqb}
+use Rattle.std.proofs.Math.Decide.{ℕ_discrete}
+use Rattle.std.proofs.lemmas.Bool.{eqb-false}
 use Rattle.prelude.specs.Below.{First, first_some, all_intro}
 use Rattle.prelude.specs.Cases.{if◌then◌otherwise◌, maybe, split_if, if_true, if_false, maybe_some}
 use Rattle.prelude.specs.Lists.{first_in}

@@ -1,15 +1,8 @@
 -- A change written into the bytes of a book is the change on the book. Rests on store's laws, and on the rules for what a book in bytes can hold.
-use Prim.Native.Nat.{ℕ, ◌-◌, ◌^◌, ◌≤◌, ◌<◌}
-use native.Mathlib.Omega.{arith}
-use mathlib.Core.Path.{◌≡◌, refl, sym, ap, ◌∙◌, subst}
-use mathlib.Core.Logic.{⊎_elim}
-use mathlib.Core.Bool.{Bool, true, false, not, ◌&&◌, ◌||◌}
-use mathlib.Core.List.{List, [], ◌∷◌, ◌++◌}
-use lib.Dec.{eqb, leb, ltb}
-use lib.ListN.{length, get_or, set, length-append, length-set}
-use lib.Seq.{get_or_at, get_or-set_same}
-use borrow.Author.Tests.{eqb-false, leb-true, ltb-true, not-true}
-use Rattle.prelude.specs.Cases.{if◌then◌otherwise◌, split_if, split_maybe, if_true, if_false, clash, both_true, either_true}
+use Rattle.std.proofs.Common.{ℕ, ◌-◌, ◌^◌, ◌≤◌, ◌<◌, arith, ◌≡◌, refl, sym, ap, ◌∙◌, subst, ⊎_elim, Bool, true, false, not, ◌&&◌, ◌||◌, List, [], ◌∷◌, ◌++◌, eqb, leb, ltb, length, get_or, set, length-append, length-set, get_or-set_same, leb-true, ltb-true}
+use Rattle.std.proofs.Math.Seq.{get_or_at}
+use Rattle.std.proofs.lemmas.Bool.{eqb-false, not-true, and_parts, or_cases}
+use Rattle.prelude.specs.Cases.{if◌then◌otherwise◌, split_if, split_maybe, if_true, if_false, clash}
 use Rattle.prelude.specs.Number.{Bytes}
 use Rattle.store.specs.declared.Order.{Order}
 use Rattle.store.specs.declared.Request.{Request}
@@ -42,7 +35,7 @@ one_stage : (n : ℕ) (g : GatewayCancel) → gateway_range n g ≡ true → g.u
 unfolding gateway_range
 one_stage n g e =
     not-true (g.unsent && g.stuck)
-    (both_true (not (g.unsent && g.stuck)) (leb g.origdownstream n) (both_true (not (g.unsent && g.stuck) && leb g.origdownstream n) _ e).0).0
+    (and_parts (not (g.unsent && g.stuck)) (leb g.origdownstream n) (and_parts (not (g.unsent && g.stuck) && leb g.origdownstream n) _ e).0).0
 
 setting_fits : (b : List ℕ) → Bytes b → (book_of b).setting < 2 ^ 32
 unfolding book_of setting_of
@@ -157,7 +150,7 @@ place_book b c l room w = go (eqb c.place 0) (leb c.place (order_count b)) refl 
     go false true e f = rw (e, length_orders b, f) (store_order_book b (c.place - 1) c.order (w e))
     go false false e f =
         let either : leb c.place (order_count b) || ltb (order_count b) 64 ≡ true = rw (length_orders b) at room in
-        let h : order_count b < 64 = ⊎_elim (λ z. clash (leb c.place (order_count b)) z f) (λ z. ltb-true (order_count b) 64 z) (either_true (leb c.place (order_count b)) _ either) in
+        let h : order_count b < 64 = ⊎_elim (λ z. clash (leb c.place (order_count b)) z f) (λ z. ltb-true (order_count b) 64 z) (or_cases (leb c.place (order_count b)) _ either) in
         rw (e, length_orders b, f) (add_order_book b c.order l h (w e))
 
 module _ (v : ℕ) where
@@ -192,7 +185,7 @@ module _ (v : ℕ) where
           let d : List ℕ = marked v b c.requests in
           let q : Request = c.requests.request in
           let h : request_count d < 256 =
-          ⊎_elim (λ z. clash (eqb c.requests.added 0) z e) (λ z. omega (arith, ltb-true (length (book_of b).requests) 256 z, marked_count b c.requests)) (either_true _ _ room) in
+          ⊎_elim (λ z. clash (eqb c.requests.added 0) z e) (λ z. omega (arith, ltb-true (length (book_of b).requests) 256 z, marked_count b c.requests)) (or_cases _ _ room) in
           rw e
           (add_request_book d origin q ((marked_keeps v small b c.requests).same ∙ l) h (w e)
           ∙ ap (λ (x : Book). with_requests (x.requests ++ (q ∷ [])) x) (marked_book b c.requests))
@@ -222,7 +215,7 @@ tables_writes : (b : List ℕ) (e : Event) (c : Change) → length b ≡ book_si
 unfolding tables_with after has_room
 tables_writes b e c l room w =
     let d : List ℕ = place_order b c.place c.order in
-    let (orders, requests) = both_true _ _ room in
+    let (orders, requests) = and_parts _ _ room in
     let o : (eqb c.place 0 ≡ false → WholeOrder c.order) = order_written (book_of b) c w in
     let q : (eqb c.requests.added 0 ≡ false → WholeRequest c.requests.request) = request_written (book_of b) c w in
     let k : Keeps b d = place_keeps b c.place c.order o in

@@ -47,7 +47,7 @@ impl fmt::Display for Tally {
 // Whether an answer, written again, is the bytes that it was read from.
 fn written_again(s: &[u8], answer: &Answer) -> bool {
     let mut out = [0u8; 1024];
-    // By `as`: std has no `From<u32>` for usize.
+    // By `as`: std has no `From<u32>` for usize, and `try_from` would have a branch that nothing takes.
     let n = records::write(&mut out, answer) as usize;
     match out.get(..n) {
         Some(written) => s.starts_with(written),

@@ -1,18 +1,15 @@
 // A day: records from standard input, each after its length in two bytes, go to one book in their order.
 // For each event a line says its number, the refusal, how many messages went out, and the two
-// alarms.
-// Rests on gateway and input.
+// alarms. A record that the end of the input cuts gets the refusal of one that does not read whole.
+// Rests on prelude, gateway and input.
 #![tactic(auto)]
 
 use input::Next;
+use prelude::Refusal;
 use std::{fmt, io};
 
 // The most ClOrdIDs that a client may use.
 const SETTING: u32 = 10000;
-
-// What is printed for a record that the end of the input cuts: it stands where the refusals do, numbers as
-// the call gives them to a host.
-const CUT: u32 = 3;
 
 // A line: what is told of an event. The refusal is printed as the number that the call gives, 0 for none.
 #[derive(Clone, Copy, Default)]
@@ -71,7 +68,9 @@ fn main(rt: HostRuntime) -> io::Result<()> {
     for event in 1..u64::MAX {
         match input::read_record(&mut input, &mut space)? {
             Next::Record(size) => rt.println(taken(&mut book, event, &space[..size]))?,
-            Next::Cut => return rt.println(Line::refused(event, CUT)),
+            Next::Cut => {
+                return rt.println(Line::refused(event, Refusal::BadRecord.number()));
+            }
             Next::End => break,
         }
     }

@@ -32,7 +32,7 @@ fn take_all<R: Read>(input: &mut R, book: &mut [u8]) -> io::Result<()> {
 // The page of a book that was just run.
 fn print<W: Write>(output: &mut W, book: &[u8]) -> io::Result<()> {
     let mut out = [0u8; PAGE];
-    // By `as`: std has no `From<u32>` for usize.
+    // By `as`: std has no `From<u32>` for usize, and `try_from` would have a branch that nothing takes.
     let long = gateway::page(book, &mut out).number as usize;
     if let Some(page) = out.get(..long) {
         output.write_all(page)?;

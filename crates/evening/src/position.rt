@@ -49,7 +49,7 @@ fn print_line<W: Write>(output: &mut W, line: &[u8; LINE]) -> io::Result<()> {
 pub(crate) fn print<W: Write>(output: &mut W, book: &[u8]) -> io::Result<()> {
     let mut scratch = [0u64; SCRATCH];
     let mut space = [0u8; LINES];
-    // By `as`: std has no `From<u32>` for usize.
+    // By `as`: std has no `From<u32>` for usize, and `try_from` would have a branch that nothing takes.
     let count = gateway::net_position(book, &mut scratch, &mut space).number as usize;
     if count == 0 {
         return Ok(());

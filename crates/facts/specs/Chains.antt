@@ -1,7 +1,7 @@
 -- Small days beside the chains that they leave: of a replace of a replace, past a refused request, to the first from a later one. Rests on chain and Play. What
 -- they shut out: a chain without the first request, one that goes from entry to entry by number, another client's name, and an empty name that finds a gateway cancel.
 use Rattle.std.specs.Prelude.{ℕ, ◌≡◌, refl, List, [], ◌∷◌, ◌++◌, replicate, None}
-use Rattle.prelude.specs.Pieces.{joined}
+use Rattle.std.specs.List.{concat}
 use Rattle.text.specs.Words.{no_text}
 use Rattle.store.specs.Finds.{find_clordid}
 use Rattle.chain.specs.Chain.{chain_from, called_by, chain_of, entry_fields}
@@ -50,9 +50,9 @@ days = record {
 }
 
 -- an entry: C, accepted
-entry : joined (entry_fields C 1) ≡ 1 ∷ 67 ∷ (replicate 31 0 ++ (1 ∷ []))
+entry : concat (entry_fields C 1) ≡ 1 ∷ 67 ∷ (replicate 31 0 ++ (1 ∷ []))
 entry = refl
 
 -- one of 32 bytes, refused: no byte of it is lost
-whole : joined (entry_fields (replicate 31 67 ++ D) 2) ≡ 32 ∷ (replicate 31 67 ++ (68 ∷ 2 ∷ []))
+whole : concat (entry_fields (replicate 31 67 ++ D) 2) ≡ 32 ∷ (replicate 31 67 ++ (68 ∷ 2 ∷ []))
 whole = refl

@@ -1,5 +1,5 @@
 // A message's fields, written into a slice that has room for them. Rests on `value`, fix_table and decimal.
-ghost use Rattle.std.specs.Prelude.{◌≡◌, [], ◌∷◌, ◌++◌, ℕ, ◌+◌, ◌*◌, ◌^◌, ◌≤◌, ◌<◌, length};
+ghost use Rattle.std.specs.Prelude.{◌≡◌, Some, [], ◌∷◌, ◌++◌, ℕ, ◌+◌, ◌*◌, ◌^◌, ◌≤◌, ◌<◌, length};
 ghost use Rattle.prelude.specs.Span.{span, splice};
 ghost use Rattle.decimal.specs.Decimal.{digits, decimal};
 ghost use Rattle.fix_words.specs.Spelling.{field, spellings};
@@ -9,10 +9,13 @@ ghost use Rattle.fix.specs.Laws.Plan.{said_by, long_of, field_long, field_shown,
 
 use crate::session::Session;
 use crate::value::{Value, value_at};
+use decimal::digits::Digits;
 use fix_table::spoken::words;
+use format::codes;
 use records::parts::Parts;
 
 // The bytes of a text, written at `at`; where they end.
+#[tactic(auto, using(prelude::specs::Span::part_splice))]
 fn put_bytes(out: &mut [u8], at: usize, text: &[u8]) -> usize
     requires { at + length text.now ≤ length out.old }
     ensures { (result ≡ at + length text.now) × (out.new ≡ splice out.old at text.now) }
@@ -23,6 +26,7 @@ fn put_bytes(out: &mut [u8], at: usize, text: &[u8]) -> usize
 }
 
 // Some bytes of a slice.
+#[tactic(auto, using(prelude::specs::Span::part_span, prelude::specs::Span::length_span))]
 fn put_part(out: &mut [u8], at: usize, s: &[u8], from: usize, count: usize) -> usize
     requires { («from» + count ≤ length s.now) × (at + count ≤ length out.old) }
     ensures { (result ≡ at + count) × (out.new ≡ splice out.old at (span s.now «from» count)) }
@@ -31,6 +35,7 @@ fn put_part(out: &mut [u8], at: usize, s: &[u8], from: usize, count: usize) -> u
 }
 
 // A number of two words.
+#[tactic(auto, using(decimal::specs::Laws::Columns::written_room))]
 fn put_decimal(out: &mut [u8], at: usize, low: u64, high: u64, places: u8) -> usize
     requires { at + length (decimal places (low + 2 ^ 64 * high)) ≤ length out.old }
     ensures { (result ≡ at + length (decimal places (low + 2 ^ 64 * high))) × (out.new ≡ splice out.old at (decimal places (low + 2 ^ 64 * high))) }
@@ -42,6 +47,7 @@ fn put_decimal(out: &mut [u8], at: usize, low: u64, high: u64, places: u8) -> us
 }
 
 // The digits of a number.
+#[tactic(auto, using(decimal::specs::Laws::Columns::written_room))]
 fn put_digits(out: &mut [u8], at: usize, n: u64) -> usize
     requires { at + length (decimal 0 n) ≤ length out.old }
     ensures { (result ≡ at + length (decimal 0 n)) × (out.new ≡ splice out.old at (decimal 0 n)) }
@@ -56,18 +62,21 @@ fn put_tag(out: &mut [u8], at: usize, tag: u64) -> usize
     ensures { (result ≡ at + length (decimal 0 tag)) × (out.new ≡ splice out.old at (decimal 0 tag)) }
 {
     if tag < 10 {
-        out[at] = b'0' + (tag % 10) as u8;
+        out[at] = b'0' + tag.split_lowest().1;
         return at + 1;
     }
     if tag < 100 {
-        out[at + 1] = b'0' + (tag % 10) as u8;
-        out[at] = b'0' + (tag / 10 % 10) as u8;
+        let (tens, last) = tag.split_lowest();
+        out[at + 1] = b'0' + last;
+        out[at] = b'0' + tens.split_lowest().1;
         return at + 2;
     }
     if tag < 1000 {
-        out[at + 2] = b'0' + (tag % 10) as u8;
-        out[at + 1] = b'0' + (tag / 10 % 10) as u8;
-        out[at] = b'0' + (tag / 10 / 10 % 10) as u8;
+        let (rest, last) = tag.split_lowest();
+        let (hundreds, middle) = rest.split_lowest();
+        out[at + 2] = b'0' + last;
+        out[at + 1] = b'0' + middle;
+        out[at] = b'0' + hundreds.split_lowest().1;
         return at + 3;
     }
     put_digits(out, at, tag)
@@ -85,11 +94,10 @@ fn put_exec(out: &mut [u8], at: usize, s: &[u8], from: usize, count: usize, n: u
 
 // A value.
 fn put_value(out: &mut [u8], at: usize, s: &[u8], v: Value) -> usize
-    requires { (Sound s.now v) × (at + long_of v ≤ length out.old) }
+    requires { (Sound s.now (Some v)) × (at + long_of v ≤ length out.old) }
     ensures { (result ≡ at + long_of v) × (out.new ≡ splice out.old at (said_by s.now v)) }
 {
     match v {
-        Value::Nothing => at,
         Value::Bytes(from, count) => put_part(out, at, s, from, count),
         Value::Number(low, high, places) => put_decimal(out, at, low, high, places),
         Value::Words(n) => put_bytes(out, at, words(n)),
@@ -98,34 +106,37 @@ fn put_value(out: &mut [u8], at: usize, s: &[u8], v: Value) -> usize
 }
 
 // A field, where it stands: tag = value SOH; where it ends.
-fn put_field(out: &mut [u8], at: usize, tag: u64, s: &[u8], v: Value) -> usize
+#[tactic(auto, using(crate::specs::Laws::Putting::field_some))]
+fn put_field(out: &mut [u8], at: usize, tag: u64, s: &[u8], v: Option<Value>) -> usize
     requires { (Sound s.now v) × (at + field_long tag v ≤ length out.old) }
     ensures { (result ≡ at + field_long tag v) × (out.new ≡ splice out.old at (field_shown s.now tag v)) }
 {
-    if let Value::Nothing = v {
+    let Some(value) = v else {
         return at;
-    }
+    };
     let a = put_tag(out, at, tag);
     out[a] = b'=';
-    let b = put_value(out, a + 1, s, v);
+    let b = put_value(out, a + 1, s, value);
     out[b] = 1;
     b + 1
 }
 
 // A field whose value is a text.
+#[tactic(auto, using(crate::specs::Laws::Putting::text_field, crate::specs::Laws::Putting::text_long))]
 fn put_text(out: &mut [u8], at: usize, tag: u64, text: &[u8]) -> usize
     requires { at + length (spellings (field tag text.now ∷ [])) ≤ length out.old }
     ensures { (result ≡ at + length (spellings (field tag text.now ∷ []))) × (out.new ≡ splice out.old at (spellings (field tag text.now ∷ []))) }
 {
-    put_field(out, at, tag, text, Value::Bytes(0, text.len()))
+    put_field(out, at, tag, text, Some(Value::Bytes(0, text.len())))
 }
 
 // A field whose value is a number.
+#[tactic(auto, using(crate::specs::Laws::Putting::number_field, crate::specs::Laws::Putting::number_long))]
 fn put_number(out: &mut [u8], at: usize, tag: u64, n: u64) -> usize
     requires { at + length (spellings (field tag (digits n) ∷ [])) ≤ length out.old }
     ensures { (result ≡ at + length (spellings (field tag (digits n) ∷ []))) × (out.new ≡ splice out.old at (spellings (field tag (digits n) ∷ []))) }
 {
-    put_field(out, at, tag, &[], Value::Number(n, 0, 0))
+    put_field(out, at, tag, &[], Some(Value::Number(n, 0, 0)))
 }
 
 // 8 and 9.
@@ -139,7 +150,7 @@ pub(crate) fn put_first(out: &mut [u8], body: u64) -> usize
 
 // 35 to 52.
 pub(crate) fn put_head(out: &mut [u8], at: usize, kind: u8, header: &Session) -> usize
-    requires { (16 ≤ kind) × (kind ≤ 20) × (at + length (spellings (head_fields kind header.now.sender.now header.now.target.now header.now.sequence header.now.time.now)) ≤ length out.old) }
+    requires { at + length (spellings (head_fields kind header.now.sender.now header.now.target.now header.now.sequence header.now.time.now)) ≤ length out.old }
     ensures { (result ≡ at + length (spellings (head_fields kind header.now.sender.now header.now.target.now header.now.sequence header.now.time.now))) × (out.new ≡ splice out.old at (spellings (head_fields kind header.now.sender.now header.now.target.now header.now.sequence header.now.time.now))) }
 {
     let letter = [fix_table::type_of(kind)];
@@ -152,7 +163,7 @@ pub(crate) fn put_head(out: &mut [u8], at: usize, kind: u8, header: &Session) ->
 
 // The fields of a record.
 pub(crate) fn put_body(out: &mut [u8], start: usize, s: &[u8], kind: u8, parts: &Parts) -> usize
-    requires { (16 ≤ kind) × (kind ≤ 20) × ((b : ℕ) → b < 32 → Sound s.now (planned kind parts.now.map parts.now.at parts.now.numbers parts.now.high b)) × (start + rows_long (rows kind) (planned kind parts.now.map parts.now.at parts.now.numbers parts.now.high) ≤ length out.old) }
+    requires { ((b : ℕ) → b < 32 → Sound s.now (planned kind parts.now.map parts.now.at parts.now.numbers parts.now.high b)) × (start + rows_long (rows kind) (planned kind parts.now.map parts.now.at parts.now.numbers parts.now.high) ≤ length out.old) }
     ensures { (result ≡ start + rows_long (rows kind) (planned kind parts.now.map parts.now.at parts.now.numbers parts.now.high)) × (out.new ≡ splice out.old start (rows_shown s.now (rows kind) (planned kind parts.now.map parts.now.at parts.now.numbers parts.now.high))) }
 {
     let mut p = start;
@@ -164,17 +175,19 @@ pub(crate) fn put_body(out: &mut [u8], start: usize, s: &[u8], kind: u8, parts: 
 }
 
 // 60 where it stands.
+#[tactic(auto, using(fix_table::specs::Laws::Choices::choices, prelude::specs::Span::splice_nil), unfolding(fix_words::specs::Spelling::spellings))]
 pub(crate) fn put_stamp(out: &mut [u8], at: usize, kind: u8, time: &[u8]) -> usize
     requires { at + length (spellings (stamp_fields kind time.now)) ≤ length out.old }
     ensures { (result ≡ at + length (spellings (stamp_fields kind time.now))) × (out.new ≡ splice out.old at (spellings (stamp_fields kind time.now))) }
 {
-    if kind < 18 {
+    if kind < codes::NEW_ORDER {
         return at;
     }
     put_text(out, at, 60, time)
 }
 
 // 10, the sum of all bytes before it.
+#[tactic(auto, using(crate::specs::Laws::Whole::ten_long, decimal::specs::Laws::Width::length_low))]
 pub(crate) fn put_trailer(out: &mut [u8], at: usize) -> usize
     requires { at + 7 ≤ length out.old }
     ensures { (result ≡ at + 7) × (out.new ≡ splice out.old at (spellings (trailer (span out.old 0 at) ∷ []))) }

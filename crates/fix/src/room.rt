@@ -10,6 +10,7 @@ ghost use Rattle.fix.specs.Laws.Plan.{less_by, long_of, field_long, rows_long, p
 use crate::session::Session;
 use crate::value::{Value, value_at};
 use fix_table::spoken;
+use format::codes;
 use records::parts::Parts;
 
 // The room behind n bytes more, where what was counted fits.
@@ -33,7 +34,6 @@ fn less_value(room: Option<usize>, v: Value) -> Option<usize>
     ensures { result ≡ less_by room (long_of v) }
 {
     match v {
-        Value::Nothing => less(room, 0),
         Value::Bytes(_, count) => less(room, count),
         Value::Number(low, high, places) => less(room, number_length(low, high, places)),
         Value::Words(n) => less(room, spoken::words(n).len()),
@@ -42,21 +42,20 @@ fn less_value(room: Option<usize>, v: Value) -> Option<usize>
 }
 
 // A field: the tag, =, the value, SOH.
-pub(crate) fn less_field(room: Option<usize>, tag: u64, v: Value) -> Option<usize>
+pub(crate) fn less_field(room: Option<usize>, tag: u64, v: Option<Value>) -> Option<usize>
     ensures { result ≡ less_by room (field_long tag v) }
 {
-    if let Value::Nothing = v {
-        return less(room, 0);
-    }
+    let Some(value) = v else {
+        return room;
+    };
     less(
-        less_value(less(room, decimal::decimal_length(tag, 0)), v),
+        less_value(less(room, decimal::decimal_length(tag, 0)), value),
         2,
     )
 }
 
 // The fields of a record.
 pub(crate) fn less_body(room: Option<usize>, kind: u8, parts: &Parts) -> Option<usize>
-    requires { (16 ≤ kind) × (kind ≤ 20) }
     ensures { result ≡ less_by room (rows_long (rows kind) (planned kind parts.now.map parts.now.at parts.now.numbers parts.now.high)) }
 {
     let mut left = room;
@@ -68,6 +67,7 @@ pub(crate) fn less_body(room: Option<usize>, kind: u8, parts: &Parts) -> Option<
 }
 
 // The header from 35 on: tags and ends, and the lengths of the texts.
+#[tactic(auto, using(crate::specs::Laws::Putting::less_three, fix_words::specs::Laws::Counting::decimal_none), unfolding(crate::specs::Laws::Plan::head_long))]
 pub(crate) fn less_head(room: Option<usize>, header: &Session) -> Option<usize>
     ensures { result ≡ less_by room (head_long (length header.now.sender.now) (length header.now.target.now) header.now.sequence (length header.now.time.now)) }
 {
@@ -80,18 +80,20 @@ pub(crate) fn less_head(room: Option<usize>, header: &Session) -> Option<usize>
 }
 
 // 60 where it stands.
+#[tactic(auto, using(fix_table::specs::Laws::Choices::choices, crate::specs::Laws::Putting::less_more, crate::specs::Laws::Putting::less_none), unfolding(crate::specs::Laws::Plan::stamp_long))]
 pub(crate) fn less_stamp(room: Option<usize>, kind: u8, time: usize) -> Option<usize>
     ensures { result ≡ less_by room (stamp_long kind time) }
 {
-    if kind < 18 {
-        return less(room, 0);
+    if kind < codes::NEW_ORDER {
+        return room;
     }
     less(less(room, 4), time)
 }
 
 // 8, 9 with the body's length, and 10.
-pub(crate) fn less_frame(room: Option<usize>, body: usize) -> Option<usize>
+#[tactic(auto, using(fix_words::specs::Laws::Counting::decimal_none), unfolding(crate::specs::Laws::Plan::frame_long))]
+pub(crate) fn less_frame(room: Option<usize>, body: u64) -> Option<usize>
     ensures { result ≡ less_by room (frame_long body) }
 {
-    less(room, 20 + decimal::decimal_length(body as u64, 0))
+    less(room, 20 + decimal::decimal_length(body, 0))
 }

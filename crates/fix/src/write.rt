@@ -1,5 +1,6 @@
 // The writer: the questions first, then the length, then the bytes. Rests on records' `parts`, `room`
-// and `put`.
+// and `put`. Lengths are u64 in the message and for C, and a bit's number is a u32 in bits: by `as`,
+// since std has no From between them and usize, and `try_from` would have a branch that nothing takes.
 ghost use Rattle.std.specs.Prelude.{◌≡◌, ℕ, Some, IfOk, IfErr, ◌+◌, ◌-◌, ◌≤◌, ◌<◌, length, get_or};
 ghost use Rattle.prelude.specs.Refusal.{number_of};
 ghost use Rattle.prelude.specs.Span.{splice};
@@ -11,6 +12,7 @@ ghost use Rattle.fix_table.specs.declared.Form.TheVariants.{Text};
 ghost use Rattle.fix_claims.specs.Call.{wrote, write_call};
 
 use crate::session::Session;
+use crate::value::text_place;
 use crate::{put, room};
 use fix_claims::Written;
 use fix_table::{Form, form_of};
@@ -21,7 +23,7 @@ use records::parts::{Parts, message_parts};
 #[derive(Clone, Copy)]
 pub(crate) struct Plan {
     pub parts: Parts,
-    pub body: usize,
+    pub body: u64,
 }
 
 // Whether a text has bytes, and none below 32.
@@ -32,6 +34,7 @@ fn is_text(s: &[u8]) -> bool
 }
 
 // The same of bit b, where it is a text, stands, and ends at `to`.
+#[tactic(auto, using(fix_table::specs::Laws::Choices::choices, crate::specs::Laws::Whole::form_text, crate::specs::Laws::Whole::form_other, prelude::specs::Span::part_span), unfolding(crate::specs::Laws::Plan::text_right))]
 fn text_right(s: &[u8], map: u32, to: usize, n: u64, b: usize) -> bool
     requires { (b < 32) × (form_of b ≡ Text → (to - n) + n ≤ length s.now) }
     ensures { result ≡ text_right s.now map to n b }
@@ -41,8 +44,7 @@ fn text_right(s: &[u8], map: u32, to: usize, n: u64, b: usize) -> bool
             if !bits::has(map, b as u32) {
                 return true;
             }
-            let count = n as usize;
-            let from = to.saturating_sub(count);
+            let (from, count) = text_place(to, n);
             is_text(&s[from..from + count])
         }
         _ => true,
@@ -50,6 +52,7 @@ fn text_right(s: &[u8], map: u32, to: usize, n: u64, b: usize) -> bool
 }
 
 // Of all bits.
+#[tactic(auto, using(prelude::specs::Below::all_none, prelude::specs::Below::all_more, prelude::specs::Below::all_done), unfolding(crate::specs::Laws::Plan::texts_right))]
 fn texts_right(s: &[u8], parts: &Parts) -> bool
     requires { (b : ℕ) → b < 32 → form_of b ≡ Text → (get_or parts.now.at (b + 1) 0 - get_or parts.now.numbers b 0) + get_or parts.now.numbers b 0 ≤ length s.now }
     ensures { result ≡ texts_right s.now parts.now.map parts.now.at parts.now.numbers }
@@ -63,6 +66,7 @@ fn texts_right(s: &[u8], parts: &Parts) -> bool
 }
 
 // Whether FIX can carry every text, of the session and of the record.
+#[tactic(auto, using(crate::specs::Laws::Whole::texts_right_lem, crate::specs::Laws::Whole::and_assoc), unfolding(fix_words::specs::Message::texted))]
 fn texted(record: &[u8], header: &Session, parts: &Parts) -> bool
     requires { Parted «record».now parts.now.map parts.now.at parts.now.numbers parts.now.high }
     ensures { result ≡ texted (writing_of «record».now (session header.now.sender.now header.now.target.now header.now.sequence header.now.time.now)) }
@@ -74,8 +78,8 @@ fn texted(record: &[u8], header: &Session, parts: &Parts) -> bool
 }
 
 // The room behind what 9 counts.
+#[tactic(auto, using(crate::specs::Laws::Putting::less_three), unfolding(crate::specs::Laws::Plan::inner_long))]
 fn inside(room: usize, header: &Session, kind: u8, parts: &Parts) -> Option<usize>
-    requires { (16 ≤ kind) × (kind ≤ 20) }
     ensures { result ≡ less_by (Some room) (inner_long (length header.now.sender.now) (length header.now.target.now) header.now.sequence (length header.now.time.now) kind parts.now.map parts.now.at parts.now.numbers parts.now.high) }
 {
     let head = room::less_head(Some(room), header);
@@ -96,7 +100,7 @@ fn decide(record: &[u8], header: &Session, room: usize) -> Result<Plan, Refusal>
     let Some(rest) = left else {
         return Err(Refusal::NoRoom);
     };
-    let body = room - rest;
+    let body = (room - rest) as u64;
     if room::less_frame(left, body).is_none() {
         return Err(Refusal::NoRoom);
     }
@@ -109,7 +113,7 @@ fn put_message(out: &mut [u8], record: &[u8], header: &Session, p: &Plan) -> usi
     ensures { (result ≡ length (write_of «record».now (session header.now.sender.now header.now.target.now header.now.sequence header.now.time.now))) × (out.new ≡ splice out.old 0 (write_of «record».now (session header.now.sender.now header.now.target.now header.now.sequence header.now.time.now))) }
 {
     let kind = record[0];
-    let a = put::put_first(out, p.body as u64);
+    let a = put::put_first(out, p.body);
     let b = put::put_head(out, a, kind, header);
     let c = put::put_body(out, b, record, kind, &p.parts);
     let d = put::put_stamp(out, c, kind, header.time);

@@ -12,8 +12,10 @@ ghost use Rattle.fix_reader.specs.Laws.Ending.{sum_digits};
 use crate::fields::Fields;
 use crate::values;
 use fix_table::sum::sum_digits;
+use format::codes;
 
 // Whether a value is the sum of bytes in three digits.
+#[tactic(auto, using(fix_words::specs::Laws::Lists::same_list))]
 fn is_sum(s: &[u8], v: &[u8]) -> bool
     ensures { result ≡ same v.now (sum_digits s.now) }
 {
@@ -21,6 +23,7 @@ fn is_sum(s: &[u8], v: &[u8]) -> bool
 }
 
 // Whether 10 is field i and the last.
+#[tactic(auto, using(crate::specs::Laws::Ending::sum_early, crate::specs::Laws::Ending::sum_here, crate::specs::Laws::Ending::place_10, crate::specs::Laws::Cut::part_within))]
 fn sum_right(f: &Fields, i: usize) -> bool
     ensures { result ≡ same_fields (drop i (fields_in f.now.message.now)) (sum_field (fields_in f.now.message.now) ∷ []) }
 {
@@ -39,10 +42,11 @@ fn sum_right(f: &Fields, i: usize) -> bool
 }
 
 // Whether 60, where it stands, and 10 are the fields from i on, and the last.
+#[tactic(auto, using(crate::specs::Laws::Ending::stamp_none, crate::specs::Laws::Ending::stamp_past, crate::specs::Laws::Ending::stamp_here, crate::specs::Laws::Numbers::told_other, crate::specs::Laws::Numbers::told_same))]
 fn fields_right(f: &Fields, kind: u8, i: usize) -> bool
     ensures { result ≡ same_fields (drop i (fields_in f.now.message.now)) (stamp kind (value_at (fields_in f.now.message.now) 6) (sum_field (fields_in f.now.message.now) ∷ [])) }
 {
-    if kind < 18 {
+    if kind < codes::NEW_ORDER {
         return sum_right(f, i);
     }
     if f.count() <= i {
@@ -58,6 +62,7 @@ fn fields_right(f: &Fields, kind: u8, i: usize) -> bool
 }
 
 // Whether 9 is the length from 35 to 10.
+#[tactic(auto, using(crate::specs::Laws::Ending::three_more, crate::specs::Laws::Ending::places_order, crate::specs::Laws::Ending::length_between, crate::specs::Laws::Ending::same_turned), unfolding(decimal::specs::Decimal::decimal))]
 fn length_right(f: &Fields) -> bool
     requires { (tag_of (fields_in f.now.message.now) 2 ≡ 35) × (tag_of (fields_in f.now.message.now) (length (fields_in f.now.message.now) - 1) ≡ 10) }
     ensures { result ≡ same (value_at (fields_in f.now.message.now) 1) (digits (length (spellings (drop 2 (init (fields_in f.now.message.now)))))) }
@@ -67,6 +72,7 @@ fn length_right(f: &Fields) -> bool
 }
 
 // Whether the end is one that the writer yields, where the rows have taken the fields before i.
+#[tactic(auto, using(crate::specs::Laws::Ending::last_tag), unfolding(crate::specs::Laws::Checks::closed))]
 pub(crate) fn closed(f: &Fields, kind: u8, i: usize) -> bool
     requires { (kind ≡ kind_in (fields_in f.now.message.now)) × (tag_of (fields_in f.now.message.now) 2 ≡ 35) }
     ensures { result ≡ closed (fields_in f.now.message.now) (drop i (fields_in f.now.message.now)) }

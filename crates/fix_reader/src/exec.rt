@@ -17,6 +17,7 @@ fn behind_point(v: &[u8]) -> &[u8]
 }
 
 // One byte more of a number that wraps.
+#[tactic(auto, using(crate::specs::Laws::Numbers::step_more, crate::specs::Laws::Numbers::step_other, crate::specs::Laws::Wrapping::tenfold_wraps))]
 fn step(n: u64, c: u8) -> u64
     ensures { result ≡ step_of n c % word }
 {
@@ -28,6 +29,7 @@ fn step(n: u64, c: u8) -> u64
 }
 
 // The number that a value's digits are, modulo 2^64.
+#[tactic(auto, using(crate::specs::Laws::Numbers::read_more, crate::specs::Laws::Numbers::read_all, crate::specs::Laws::Wrapping::step_word))]
 fn wrapped(v: &[u8]) -> u64
     ensures { result ≡ number_in v.now % word }
 {

@@ -1,12 +1,11 @@
 // A message and the table of its fields: their tags, where their values start and how long they are.
-// The table is the C structure's, whose numbers become sizes by `as`, here and in `ending`: std has no
-// `From` for them. Rests on specs/Laws/Cut.
+// Rests on specs/Laws/Cut.
 ghost use Rattle.std.specs.Prelude.{◌≡◌, ◌<◌, length, drop};
 ghost use Rattle.fix_words.specs.Spelling.{fields_in};
 ghost use Rattle.fix_words.specs.Rows.{leads};
 ghost use Rattle.fix_words.specs.Message.{value_at};
 ghost use Rattle.fix_claims.specs.Reading.{tag_of};
-ghost use Rattle.fix_reader.specs.Laws.Cut.{Cut};
+ghost use Rattle.fix_reader.specs.Laws.Cut.{Cut, cut_props};
 
 use fix_claims::FixFields;
 
@@ -14,19 +13,20 @@ use fix_claims::FixFields;
 pub(crate) struct Fields<'a> {
     pub message: &'a [u8],
     pub table: &'a FixFields,
-    pub ghost cut: { Cut message.now table.now.count table.now.tag table.now.at table.now.length },
+    pub ghost cut: { Cut message.now table.now.count table.now.tag table.now.at table.now.length } by { Prim.hlevel cut_props },
 }
 
 impl<'a> Fields<'a> {
     // How many there are.
-    pub fn count(&self) -> usize
+    pub(crate) fn count(&self) -> usize
         ensures { result ≡ length (fields_in self.now.message.now) }
     {
+        // By `as`: the C structure has u32 here, for which std has no `From` to a size.
         self.table.count as usize
     }
 
     // The tag of field i, 0 behind the last.
-    pub fn tag(&self, i: usize) -> u32
+    pub(crate) fn tag(&self, i: usize) -> u32
         requires { i < 32 }
         ensures { result ≡ tag_of (fields_in self.now.message.now) i }
     {
@@ -34,16 +34,19 @@ impl<'a> Fields<'a> {
     }
 
     // The value of field i, no bytes behind the last.
-    pub fn value(&self, i: usize) -> &'a [u8]
+    #[tactic(auto, using(crate::specs::Laws::Cut::part_within, crate::specs::Laws::Cut::part_value))]
+    pub(crate) fn value(&self, i: usize) -> &'a [u8]
         requires { i < 32 }
         ensures { result.now ≡ value_at (fields_in self.now.message.now) i }
     {
+        // By `as`: the C structure has u64 here, for which std has no `From` to a size.
         let at = self.table.at[i] as usize;
         &self.message[at..at + self.table.length[i] as usize]
     }
 
     // Whether field i stands and has this tag.
-    pub fn leads(&self, i: usize, tag: u64) -> bool
+    #[tactic(auto, using(crate::specs::Laws::Cut::cut_leads))]
+    pub(crate) fn leads(&self, i: usize, tag: u64) -> bool
         ensures { result ≡ leads tag (drop i (fields_in self.now.message.now)) }
     {
         if self.count() <= i {

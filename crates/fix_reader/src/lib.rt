@@ -22,6 +22,7 @@ mod values; // texts, codes, numbers, names
 mod walk;
 
 // Whether the fields pass the reader's questions.
+#[tactic(auto, using(crate::specs::Laws::Header::headed_type, crate::specs::Laws::Header::checks_walked, crate::specs::Laws::Header::checks_unheaded, crate::specs::Laws::Header::kind_none, crate::specs::Laws::Header::kind_some))]
 fn passes(f: &Fields) -> bool
     ensures { result ≡ checks (fields_in f.now.message.now) }
 {
@@ -31,10 +32,11 @@ fn passes(f: &Fields) -> bool
     let Some(next) = walk::walk(f, kind) else {
         return false;
     };
-    ending::closed(f, kind, next)
+    ending::closed(f, kind.number, next)
 }
 
 // The fields of a message.
+#[tactic(auto, using(crate::specs::Laws::Cut::cut_of, crate::specs::Laws::End::read_missing, crate::specs::Laws::End::fields_taken, crate::specs::Laws::End::fields_refused))]
 pub fn read(message: &[u8]) -> FixFields
     ensures { result ≡ fields_read message.now }
 {

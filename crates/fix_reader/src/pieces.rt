@@ -42,6 +42,7 @@ fn digit(t: &[u8], i: usize) -> Option<u32>
 }
 
 // The tag at the front, of at most three digits.
+#[tactic(auto, using(crate::specs::Laws::Pieces::no_tag))]
 fn tag_here(t: &[u8]) -> Option<Tag>
     ensures { Tagged t.now result }
 {
@@ -83,6 +84,7 @@ fn end_of(t: &[u8], from: usize) -> usize
 }
 
 // The field at the front.
+#[tactic(auto, using(crate::specs::Laws::Pieces::untagged, crate::specs::Laws::Pieces::tag_within, crate::specs::Laws::Pieces::soh_at, crate::specs::Laws::Pieces::piece_here))]
 fn piece_here(t: &[u8]) -> Option<Piece>
     ensures { Pieced t.now result }
 {
@@ -111,8 +113,7 @@ pub(crate) fn nothing() -> FixFields
     }
 }
 
-// All fields of a message, where they are at most 32. Sizes become the C structure's numbers by `as`: std
-// has no `From` for them, and `try_from` would have branches that nothing takes.
+// All fields of a message, where they are at most 32.
 pub(crate) fn split(m: &[u8]) -> Option<FixFields>
     ensures { Splits m.now result }
 {
@@ -128,6 +129,8 @@ pub(crate) fn split(m: &[u8]) -> Option<FixFields>
         }
         let g = piece_here(&m[p..])?;
         tag[n] = g.tag;
+        // By `as`, here and for the count: the C structure has u64 and u32, for which std has no `From` of a
+        // size, and `try_from` would have branches that nothing takes.
         at[n] = (p + g.at) as u64;
         length[n] = (g.end - g.at) as u64;
         n += 1;

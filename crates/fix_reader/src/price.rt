@@ -16,6 +16,7 @@ struct Tenfold {
     over: u64,
 }
 
+#[tactic(auto, using(crate::specs::Laws::Wrapping::over_word))]
 fn times_ten(n: u64, d: u64) -> Tenfold
     requires { d < 10 }
     ensures { (result.low ≡ (n * 10 + d) % word) × (result.over ≡ (n * 10 + d) / word) }
@@ -40,6 +41,7 @@ fn step(n: [u64; 2], c: u8) -> [u64; 2]
 }
 
 // The number that a value's digits are, modulo 2^128.
+#[tactic(auto, using(crate::specs::Laws::Numbers::read_more, crate::specs::Laws::Numbers::read_all, crate::specs::Laws::Wrapping::step_word, crate::specs::Laws::Wrapping::step_high_lem), unfolding(crate::specs::Laws::Wrapping::two_low))]
 fn wrapped(v: &[u8]) -> [u64; 2]
     ensures { value result ≡ two_low (number_in v.now) }
 {
@@ -52,6 +54,7 @@ fn wrapped(v: &[u8]) -> [u64; 2]
 }
 
 // Whether a value is a number's decimal with eight decimals.
+#[tactic(auto, using(crate::specs::Laws::Numbers::written_taken, fix_words::specs::Laws::Lists::same_list, decimal::specs::Laws::Width::width_words, decimal::specs::Laws::Width::decimal_long))]
 fn spelled(v: &[u8], n: [u64; 2]) -> bool
     ensures { result ≡ same (decimal 8 (value n)) v.now }
 {
@@ -60,9 +63,6 @@ fn spelled(v: &[u8], n: [u64; 2]) -> bool
     }
     let mut out = [0u8; 320];
     let end = decimal::put_decimal(&mut out, 0, n, 8);
-    if out.len() < end {
-        return false;
-    }
     &out[..end] == v
 }
 

@@ -14,8 +14,10 @@ ghost use Rattle.fix_reader.specs.Laws.Checks.{is_number};
 ghost use Rattle.fix_reader.specs.Laws.Decimals.{is_whole};
 
 use fix_table::spoken;
+use format::codes;
 
 // One byte more of a number.
+#[tactic(auto, using(crate::specs::Laws::Numbers::step_more, crate::specs::Laws::Numbers::step_other))]
 fn step(n: u64, c: u8) -> Option<u64>
     ensures { Steps n c result }
 {
@@ -26,6 +28,7 @@ fn step(n: u64, c: u8) -> Option<u64>
 }
 
 // The number that a value's digits are, where it is below 2^64.
+#[tactic(auto, using(crate::specs::Laws::Numbers::read_more, crate::specs::Laws::Numbers::read_all, crate::specs::Laws::Numbers::read_least))]
 fn number(v: &[u8]) -> Option<u64>
     ensures { Parses v.now result }
 {
@@ -37,6 +40,7 @@ fn number(v: &[u8]) -> Option<u64>
 }
 
 // Whether a value is a number's decimal.
+#[tactic(auto, using(crate::specs::Laws::Numbers::same_long, crate::specs::Laws::Numbers::written_taken, fix_words::specs::Laws::Lists::same_list))]
 pub(crate) fn spelled(v: &[u8], n: u64, places: u8) -> bool
     ensures { result ≡ same (decimal places n) v.now }
 {
@@ -55,7 +59,7 @@ pub(crate) fn text_fits(b: usize, v: &[u8]) -> bool
     ensures { result ≡ (in_range (range b) (length v.now) && is_text v.now) }
 {
     // By `as`: std has no `From<usize>` for u64.
-    places::may_hold(b, v.len() as u64) & !v.is_empty()
+    places::may_hold(b, v.len() as u64) && !v.is_empty()
 }
 
 // Whether a value is a code of bit b.
@@ -88,16 +92,18 @@ fn all_digits(v: &[u8]) -> bool
 }
 
 // Whether a value is digits, with no zero before another.
+#[tactic(auto, using(crate::specs::Laws::Decimals::whole_none), unfolding(crate::specs::Laws::Decimals::is_whole))]
 fn is_whole(v: &[u8]) -> bool
     ensures { result ≡ is_whole v.now }
 {
     if v.is_empty() {
         return false;
     }
-    all_digits(v) & ((v.len() == 1) | (b'0' < v[0]))
+    all_digits(v) && (v.len() == 1 || b'0' < v[0])
 }
 
 // Whether a value is the decimal of the number that it is.
+#[tactic(auto, using(std::proofs::lemmas::List::take_rest, crate::specs::Laws::Decimals::pointed_is, crate::specs::Laws::Decimals::pointed_parts, crate::specs::Laws::Decimals::pointed_short, crate::specs::Laws::Decimals::whole_is), unfolding(decimal::specs::Decimal::decimal))]
 fn is_decimal(v: &[u8], places: u8) -> bool
     ensures { result ≡ same (decimal places (number_in v.now)) v.now }
 {
@@ -112,7 +118,7 @@ fn is_decimal(v: &[u8], places: u8) -> bool
     if v[k] != b'.' {
         return false;
     }
-    is_whole(&v[..k]) & all_digits(&v[k + 1..])
+    is_whole(&v[..k]) && all_digits(&v[k + 1..])
 }
 
 // Whether a value is a number of bit b, spelled with so many decimals.
@@ -124,12 +130,13 @@ pub(crate) fn number_fits(b: usize, s: usize, places: u8, v: &[u8]) -> bool
         return false;
     }
     match number(v) {
-        Some(n) => below(n, s) & places::may_hold(b, n),
+        Some(n) => below(n, s) && places::may_hold(b, n),
         None => false,
     }
 }
 
 // Whether a value is a number of one word.
+#[tactic(auto, using(crate::specs::Laws::Numbers::parsed, crate::specs::Laws::Decimals::whole_is))]
 pub(crate) fn is_number(v: &[u8]) -> bool
     ensures { result ≡ is_number v.now }
 {
@@ -147,16 +154,18 @@ fn alnums(v: &[u8]) -> bool
 }
 
 // Whether a value is an order's name; in a reject it may be NONE.
+#[tactic(auto, using(fix_words::specs::Laws::Lists::same_list, prelude::specs::Cases::if_true, prelude::specs::Cases::if_false))]
 pub(crate) fn name_fits(kind: u8, v: &[u8]) -> bool
     ensures { result ≡ (if same v.now none_word then (kind == 17) otherwise (within 1 20 (length v.now) && every is_alnum v.now)) }
 {
     if v == b"NONE".as_slice() {
-        return kind == 17;
+        return kind == codes::CANCEL_REJECT;
     }
-    ((1 <= v.len()) & (v.len() <= 20)) & alnums(v)
+    1 <= v.len() && v.len() <= 20 && alnums(v)
 }
 
 // Whether a value is one of the fixed texts.
+#[tactic(auto, using(crate::specs::Laws::Special::words_empty, crate::specs::Laws::Special::words_start, crate::specs::Laws::Special::words_found, crate::specs::Laws::Special::words_missing, crate::specs::Laws::Special::spoken_words, crate::specs::Laws::Ending::same_turned, fix_words::specs::Laws::Lists::same_list, prelude::specs::Below::first_more))]
 pub(crate) fn words_fit(v: &[u8]) -> bool
     ensures { result ≡ nat_le 1 (word_number v.now) }
 {

@@ -15,6 +15,24 @@ use crate::fields::Fields;
 use crate::{exec, price, values};
 use fix_table::Form;
 
+// The bits whose values go their own way, and the venue's text.
+const NAME: usize = 2;
+
+const TEXT: usize = 20;
+
+const EXEC: usize = 25;
+
+const PRICE: usize = 26;
+
+const WORDS: usize = 27;
+
+// The kind of a message, one of the five that have rows.
+#[derive(Clone, Copy)]
+pub(crate) struct MessageKind {
+    pub number: u8,
+    pub ghost known: { within 16 20 number ≡ true },
+}
+
 // How far the rows have taken the fields, and whether the venue's text stood.
 #[derive(Clone, Copy)]
 pub(crate) struct Taken {
@@ -22,16 +40,19 @@ pub(crate) struct Taken {
     pub seen: bool,
 }
 
-// Whether a value is one that the writer yields for bit b, where 37 has the value `name`.
-fn value_fits(kind: u8, b: usize, v: &[u8], name: &[u8]) -> bool
-    requires { (within 16 20 kind ≡ true) × (in_rows (rows kind) b ≡ true) × (every is_print v.now ≡ true) }
-    ensures { result ≡ fits kind name.now b v.now }
+// Whether a value is one that the writer yields for bit b, where 37 has the value `name`. That the kind has
+// a row of this bit is asked down to here from `take_row`: it joins two numbers, and a type for the pair
+// would be no plainer, since `Row` holds the one and `MessageKind` the other.
+#[tactic(auto, using(crate::specs::Laws::Classes::text_fits, crate::specs::Laws::Classes::code_fits, crate::specs::Laws::Classes::number_fits, crate::specs::Laws::Classes::name_fits, crate::specs::Laws::Special::exec_fits, crate::specs::Laws::Special::price_fits, crate::specs::Laws::Special::words_fit, crate::specs::Laws::Bits::may_stand, crate::specs::Laws::Bits::name_must, crate::specs::Laws::Bits::text_bit, crate::specs::Laws::Bits::code_bit, crate::specs::Laws::Bits::number_bit, crate::specs::Laws::End::bytes_all, fix_words::proofs::Laws::Kinds::row_small))]
+fn value_fits(kind: MessageKind, b: usize, v: &[u8], name: &[u8]) -> bool
+    requires { (in_rows (rows kind.number) b ≡ true) × (every is_print v.now ≡ true) }
+    ensures { result ≡ fits kind.number name.now b v.now }
 {
     match b {
-        2 => values::name_fits(kind, v),
-        25 => exec::exec_fits(name, v),
-        26 => price::price_fits(v),
-        27 => values::words_fit(v),
+        NAME => values::name_fits(kind.number, v),
+        EXEC => exec::exec_fits(name, v),
+        PRICE => price::price_fits(v),
+        WORDS => values::words_fit(v),
         _ => match fix_table::form_of(b) {
             Form::Text => values::text_fits(b, v),
             Form::Code => values::code_fits(b, v),
@@ -41,17 +62,18 @@ fn value_fits(kind: u8, b: usize, v: &[u8], name: &[u8]) -> bool
 }
 
 // The same of field i; behind a venue's text no words of our own stand.
-fn asked(f: &Fields, kind: u8, b: usize, i: usize, seen: bool) -> bool
-    requires { (within 16 20 kind ≡ true) × (in_rows (rows kind) b ≡ true) × (i < 32) }
-    ensures { result ≡ asked_by kind (value_at (fields_in f.now.message.now) 7) seen b (value_at (fields_in f.now.message.now) i) }
+fn asked(f: &Fields, kind: MessageKind, b: usize, i: usize, seen: bool) -> bool
+    requires { (in_rows (rows kind.number) b ≡ true) × (i < 32) }
+    ensures { result ≡ asked_by kind.number (value_at (fields_in f.now.message.now) 7) seen b (value_at (fields_in f.now.message.now) i) }
 {
-    value_fits(kind, b, f.value(i), f.value(7)) & !(seen & (b == 27))
+    value_fits(kind, b, f.value(i), f.value(7)) && !(seen && b == WORDS)
 }
 
 // One row.
-fn take_row(f: &Fields, kind: u8, row: &fix_table::Row, t: Taken) -> Option<Taken>
-    requires { (within 16 20 kind ≡ true) × (in_rows (rows kind) row.now.bit ≡ true) }
-    ensures { (rs : List Row) → walk_on (fields_in f.now.message.now) kind result rs ≡ walk_on (fields_in f.now.message.now) kind (Some t) (as_row row.now ∷ rs) }
+#[tactic(auto, using(crate::specs::Laws::Taking::row_taken, crate::specs::Laws::Taking::row_refused, crate::specs::Laws::Taking::row_missing, crate::specs::Laws::Taking::row_passed, crate::specs::Laws::Taking::led_within))]
+fn take_row(f: &Fields, kind: MessageKind, row: &fix_table::Row, t: Taken) -> Option<Taken>
+    requires { in_rows (rows kind.number) row.now.bit ≡ true }
+    ensures { (rs : List Row) → walk_on (fields_in f.now.message.now) kind.number result rs ≡ walk_on (fields_in f.now.message.now) kind.number (Some t) (as_row row.now ∷ rs) }
 {
     let i = t.next;
     if !f.leads(i, row.tag) {
@@ -62,20 +84,20 @@ fn take_row(f: &Fields, kind: u8, row: &fix_table::Row, t: Taken) -> Option<Take
     }
     Some(Taken {
         next: i + 1,
-        seen: t.seen | (row.bit == 20),
+        seen: t.seen || row.bit == TEXT,
     })
 }
 
 // All rows, from the field behind the header on: which field is next.
-pub(crate) fn walk(f: &Fields, kind: u8) -> Option<usize>
-    requires { within 16 20 kind ≡ true }
-    ensures { left_from (fields_in f.now.message.now) result ≡ walk_all (fields_in f.now.message.now) kind }
+#[tactic(auto, using(crate::specs::Laws::Taking::row_in, crate::specs::Laws::Taking::walked_all, fix_table::specs::Laws::Rows::row_is, fix_table::specs::Laws::Rows::rows_next))]
+pub(crate) fn walk(f: &Fields, kind: MessageKind) -> Option<usize>
+    ensures { left_from (fields_in f.now.message.now) result ≡ walk_all (fields_in f.now.message.now) kind.number }
 {
     let mut t = Taken {
         next: 7,
         seen: false,
     };
-    for row in fix_table::rows(kind) {
+    for row in fix_table::rows(kind.number) {
         t = take_row(f, kind, row, t)?;
     }
     Some(t.next)

@@ -1,2 +1,4 @@
 pub mod Rows
 pub mod Forms
+pub mod Spoken
+pub mod Choices

@@ -1,12 +1,14 @@
 // The tables of FIX messages in code, for the writer and the reader: the rows of each kind (`rows`), the
 // message types, how each bit is written, the words of our own (`spoken`) and the checksum (`sum`). Each
 // function is total and equals a definition of specs/Table or of fix_words. Tables are statics: a constant
-// would be built on the stack at each access. Rests on fix_words.
+// would be built on the stack at each access. Rests on fix_words and format.
 #![tactic(auto)]
 
 ghost use Rattle.std.specs.Prelude.{◌≡◌, map};
 ghost use Rattle.fix_words.specs.Values.{rows, type_of};
 ghost use Rattle.fix_table.specs.Table.{as_row, form_of, kind_for};
+
+use format::codes;
 
 pub mod spoken;
 pub mod sum;
@@ -50,11 +52,11 @@ pub fn rows(kind: u8) -> &'static [Row]
     ensures { map as_row result.now ≡ rows kind }
 {
     match kind {
-        0..=16 => &tables::REPORT,
-        17 => &tables::REJECT,
-        18 => &tables::ORDER,
-        19 => &tables::CANCEL,
-        20 => &tables::REPLACE,
+        0..=codes::REPORT => &tables::REPORT,
+        codes::CANCEL_REJECT => &tables::REJECT,
+        codes::NEW_ORDER => &tables::ORDER,
+        codes::CANCEL_REQUEST => &tables::CANCEL,
+        codes::REPLACE_REQUEST => &tables::REPLACE,
         _ => &[],
     }
 }
@@ -65,30 +67,32 @@ pub fn type_of(kind: u8) -> u8
     ensures { result ≡ type_of kind }
 {
     match kind {
-        0..=16 => b'8',
-        17 => b'9',
-        18 => b'D',
-        19 => b'F',
-        20 => b'G',
+        0..=codes::REPORT => b'8',
+        codes::CANCEL_REJECT => b'9',
+        codes::NEW_ORDER => b'D',
+        codes::CANCEL_REQUEST => b'F',
+        codes::REPLACE_REQUEST => b'G',
         _ => 0,
     }
 }
 
 // The kind of a MsgType.
+#[tactic(auto, using(crate::specs::Laws::Choices::choices), unfolding(crate::specs::Table::kind_for, fix_words::specs::Values::kind_of))]
 pub fn kind_of(letter: u8) -> Option<u8>
     ensures { result ≡ kind_for letter }
 {
     match letter {
-        b'8' => Some(16),
-        b'9' => Some(17),
-        b'D' => Some(18),
-        b'F' => Some(19),
-        b'G' => Some(20),
+        b'8' => Some(codes::REPORT),
+        b'9' => Some(codes::CANCEL_REJECT),
+        b'D' => Some(codes::NEW_ORDER),
+        b'F' => Some(codes::CANCEL_REQUEST),
+        b'G' => Some(codes::REPLACE_REQUEST),
         _ => None,
     }
 }
 
 // How a bit is written; past the last as a whole number.
+#[tactic(auto, using(crate::specs::Laws::Forms::form_past))]
 pub fn form_of(b: usize) -> Form
     ensures { result ≡ form_of b }
 {

@@ -4,6 +4,7 @@ ghost use Rattle.decimal.specs.Decimal.{low_digits};
 ghost use Rattle.fix_words.specs.Message.{sum};
 
 // A byte that wraps.
+#[tactic(auto, using(fix_words::specs::Laws::Counting::sum_more))]
 pub fn checksum(s: &[u8]) -> u8
     ensures { result ≡ sum s.now % 256 }
 {
@@ -15,6 +16,7 @@ pub fn checksum(s: &[u8]) -> u8
 }
 
 // The sum as three digits.
+#[tactic(auto, unfolding(decimal::specs::Decimal::low_digits))]
 pub fn sum_digits(s: &[u8]) -> [u8; 3]
     ensures { result ≡ low_digits 3 (sum s.now % 256) }
 {

@@ -1,6 +1,7 @@
 -- A FIX 4.4 message: what is written, the writer's questions, and the reader. Rests on Values.
 use Rattle.std.specs.Prelude.{ℕ, ◌%◌, List, [], ◌∷◌, ◌++◌, Bool, true, false, not, ◌&&◌, ◌||◌, eqb, leb, ltb, length, get_or, drop, Option, None, Some}
-use Rattle.prelude.specs.Cases.{if◌then◌otherwise◌, is_some}
+use Rattle.std.specs.Option.{is_some}
+use Rattle.prelude.specs.Cases.{if◌then◌otherwise◌}
 use Rattle.prelude.specs.Below.{all_below}
 use Rattle.prelude.specs.Number.{bound}
 use Rattle.prelude.specs.Totals.{total_of}

@@ -1,8 +1,8 @@
 -- Messages in small: of each kind one or two, byte for byte as the definitions write them; every bit that a kind may have stands in one of them, and
 -- a field of every form. Rests on Small and Message.
 use Rattle.std.specs.Prelude.{ℕ, ◌≡◌, refl, List, [], ◌∷◌, ◌++◌, Bool, true, ◌&&◌, eqb}
-use Prim.Native.String.{String}
 use Rattle.std.proofs.Common.{ap, lit<}
+use Prim.Native.String.{String}
 use Rattle.prelude.specs.Number.{bytes_of}
 use Rattle.prelude.specs.Cases.{if◌then◌otherwise◌}
 use Rattle.prelude.specs.Below.{all_below}

@@ -1,8 +1,9 @@
 -- FIX 4.4's codes by name and their lists, the ranges of quantities and prices, and the rule of an order name. Each code is an ASCII character.
 -- Rests on prelude.
-use Rattle.std.specs.Prelude.{ℕ, List, [], ◌∷◌, Bool, false, not, ◌&&◌, ◌||◌, get_or, eqb, leb}
+use Rattle.std.specs.Prelude.{ℕ, ◌-◌, List, [], ◌∷◌, Bool, false, not, ◌&&◌, ◌||◌, get_or, eqb, leb}
 use Rattle.prelude.specs.Below.{all_below}
 use Rattle.prelude.specs.declared.Text.{Text}
+use Rattle.bits.specs.Map.{bit}
 
 abbrev pub within : ℕ → ℕ → ℕ → Bool
 within a b v = leb a v && leb v b
@@ -155,3 +156,8 @@ alnum_at t k = is_alnum (get_or t.bytes k 0)
 -- 1 to 20 letters and digits, not NONE
 unfoldable pub is_name : Text → Bool
 is_name t = within 1 20 t.len && (all_below (alnum_at t) t.len && not (is_none t))
+
+-- ---- a list of codes as a map of the bits above the character 0
+
+abbrev pub in_map : ℕ → ℕ → Bool
+in_map m v = leb 48 v && bit m (v - 48)

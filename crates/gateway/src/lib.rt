@@ -26,6 +26,7 @@ mod beside; // what goes beside the requests' fields, by value
 mod write; // a change written into the book
 
 // Makes an empty book: zeros but for the setting, the most ClOrdIDs that a client may use.
+#[tactic(auto, unfolding(step::specs::Entries::start_refusal, step::specs::Entries::start_of, store::specs::Book::clear_book), using(orders::specs::Laws::Choices::choices))]
 pub fn start(book: &mut [u8], setting: u32) -> u32
     ensures { (result ≡ start_refusal book.old) × (book.new ≡ start_of book.old setting) }
 {
@@ -37,6 +38,7 @@ pub fn start(book: &mut [u8], setting: u32) -> u32
 }
 
 // Takes the event in `record`: the book changes, and the answer stands at the start of `answer`.
+#[tactic(auto, using(crate::specs::Laws::Entered::left_0, orders::specs::Laws::Choices::choices))]
 pub fn event(book: &mut [u8], record: &[u8], answer: &mut [u8]) -> u32
     ensures { outcome result book.new answer.new ≡ event_of book.old «record».now answer.old }
 {
@@ -59,6 +61,7 @@ pub fn event(book: &mut [u8], record: &[u8], answer: &mut [u8]) -> u32
 }
 
 // Whether the book keeps its rules: 0, or 1.
+#[tactic(auto, unfolding(step::specs::Entries::check_of), using(orders::specs::Laws::Choices::choices))]
 pub fn check(book: &[u8]) -> u32
     ensures { result ≡ check_of book.now }
 {

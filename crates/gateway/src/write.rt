@@ -9,30 +9,33 @@ use opens::Word;
 use store::Order;
 
 // The order goes to the place of its link: 0 is none, one past those in use is a new order.
+#[tactic(auto, unfolding(step::specs::Entries::place_order), using(orders::specs::Laws::Choices::choices))]
 pub(crate) fn place_order(book: &mut [u8], place: u16, o: Order)
     ensures { book.new ≡ place_order book.old place o }
 {
     if place == 0 {
         return;
     }
-    if (place as usize) <= store::order_count(book) {
-        store::store_order(book, (place - 1) as usize, o);
+    if usize::from(place) <= store::order_count(book) {
+        store::store_order(book, usize::from(place - 1), o);
         return;
     }
     store::add_order(book, o);
 }
 
 // The request of this link is marked answered, with this outcome where it was not; 0 is none.
+#[tactic(auto, unfolding(step::specs::Entries::mark_link), using(orders::specs::Laws::Choices::choices))]
 fn mark_link(book: &mut [u8], link: u16, outcome: u8)
     ensures { book.new ≡ mark_link book.old link outcome }
 {
     if link == 0 {
         return;
     }
-    store::mark_answered(book, (link - 1) as usize, outcome);
+    store::mark_answered(book, usize::from(link - 1), outcome);
 }
 
 // The requests settled have the outcome, and the one added has the origin beside it.
+#[tactic(auto, unfolding(step::specs::Entries::place_requests), using(orders::specs::Laws::Choices::choices))]
 pub(crate) fn place_requests(book: &mut [u8], outcome: u8, origin: u16, r: Requests)
     ensures { book.new ≡ place_requests book.old outcome origin r }
 {
@@ -45,6 +48,7 @@ pub(crate) fn place_requests(book: &mut [u8], outcome: u8, origin: u16, r: Reque
 }
 
 // The open quantity of the client of the order at `place`, 0 for none, goes to its word.
+#[tactic(auto, using(orders::specs::Laws::Choices::choices))]
 pub(crate) fn place_open(book: &mut [u8], place: u16, opening: Word)
     ensures { book.new ≡ (if eqb place 0 then book.old otherwise store_open book.old opening.at opening.quantity) }
 {

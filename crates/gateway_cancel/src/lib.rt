@@ -13,6 +13,7 @@ use store::{GatewayCancel, Order, kinds};
 
 pub mod tries;
 
+// How many times the gateway sends its cancel before it gives up.
 const MAX_GATEWAY_CANCEL_TRIES: u8 = 3;
 
 // The order's latest cancel is not answered.
@@ -122,7 +123,7 @@ fn stuck(c: Change) -> Change
 {
     let mut out = c;
     out.order.gateway = given_up(c.order);
-    change::alarming(Alarm::StuckCancel, out)
+    change::alarming(Alarm::StuckCancel.number(), out)
 }
 
 #[tactic(auto, unfolding(machine::specs::GatewayCancel::retry_gateway_cancel), using(orders::specs::Laws::Choices::choices))]

@@ -2,7 +2,7 @@
 // input goes. Rests on nothing.
 #![tactic(auto)]
 
-ghost use Rattle.std.specs.Prelude.{◌≤◌, ◌<◌, IfOk, OnOk, IfSome, length, take};
+ghost use Rattle.std.specs.Prelude.{◌≤◌, ◌<◌, IfOk, OnOk, MatchOption, length, take};
 ghost use Rattle.std.specs.Io.KnownBytes.{Consumes, IsAtEnd};
 ghost use Rattle.input.specs.Reading.{Padded, Given};
 
@@ -30,7 +30,7 @@ pub fn read_full<R: Read>(input: &mut R, space: &mut [u8]) -> io::Result<usize>
 
 // The next N bytes; None where the input ends before them.
 pub fn read_array<R: Read, const N: usize>(input: &mut R) -> io::Result<Option<[u8; N]>>
-    ensures { IfOk result (λ found. IfSome found (λ bytes. Consumes (R.remaining input.old) (R.remaining input.new) bytes)) }
+    ensures { IfOk result (λ found. MatchOption found (IsAtEnd (R.remaining input.new)) (λ bytes. Consumes (R.remaining input.old) (R.remaining input.new) bytes)) }
 {
     let mut bytes = [0u8; N];
     let got = read_full(input, &mut bytes)?;

@@ -50,31 +50,14 @@ fn refusal(book: &mut [u8], record: &[u8]) -> u32 {
     gateway::event(book, record, &mut answer)
 }
 
-// Bookings until one is refused: how many were taken.
-fn bookings(book: &mut [u8]) -> u16 {
-    for i in 0..99 {
-        if refusal(book, &booking(i)) != 0 {
-            return i;
-        }
-    }
-    99
-}
-
-// Cancels until one is refused: how many were taken.
-fn cancels(book: &mut [u8]) -> u16 {
-    for i in 0..999 {
-        if refusal(book, &cancel(i)) != 0 {
-            return i;
-        }
-    }
-    999
-}
-
 fn main(rt: HostRuntime) -> io::Result<()> {
     let mut book = [0u8; 65536];
     let _ = gateway::start(&mut book, SETTING);
-    let taken = bookings(&mut book);
-    println!(rt; "bookings taken: {taken}")?;
+    // Until one is refused.
+    let bookings = (0..99)
+        .take_while(|i| refusal(&mut book, &booking(*i)) == 0)
+        .count();
+    println!(rt; "bookings taken: {bookings}")?;
     let another = refusal(&mut book, &booking(65));
     println!(rt; "another booking: {another}")?;
     let another = refusal(&mut book, &cancel(0));
@@ -82,8 +65,10 @@ fn main(rt: HostRuntime) -> io::Result<()> {
     let _ = gateway::start(&mut book, SETTING);
     let first = refusal(&mut book, &booking(0));
     println!(rt; "a booking: {first}")?;
-    let taken = cancels(&mut book);
-    println!(rt; "cancels taken: {taken}")?;
+    let cancels = (0..999)
+        .take_while(|i| refusal(&mut book, &cancel(*i)) == 0)
+        .count();
+    println!(rt; "cancels taken: {cancels}")?;
     let another = refusal(&mut book, &cancel(990));
     println!(rt; "another cancel: {another}")?;
     let second = refusal(&mut book, &booking(1));

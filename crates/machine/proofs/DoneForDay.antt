@@ -1,10 +1,7 @@
 -- Done for the day: its statements proved. A test that is the same of New, PartiallyFilled and a 3 is the same of a status and of what it is asked as. Rests on DoneForDay.
-use Prim.Native.Nat.{ℕ, ◌-◌}
-use mathlib.Core.Path.{◌≡◌, refl, sym, ap, ◌∙◌}
-use mathlib.Core.Bool.{Bool, true, false, not, ◌&&◌, ◌||◌}
-use lib.Dec.{eqb}
-use borrow.Author.Tests.{eqb-true}
-use Rattle.prelude.specs.Cases.{if◌then◌otherwise◌, split_if, if_false, both_true}
+use Rattle.std.proofs.Common.{ℕ, ◌-◌, ◌≡◌, refl, sym, ap, ◌∙◌, Bool, true, false, not, ◌&&◌, ◌||◌, eqb, eqb-true}
+use Rattle.std.proofs.lemmas.Bool.{and_parts}
+use Rattle.prelude.specs.Cases.{if◌then◌otherwise◌, split_if, if_false}
 use Rattle.format.specs.Codes.{pending_new, new, partially_filled, pending_cancel, pending_replace, rejected, done_for_day, exec_status, exec_rejected}
 use Rattle.store.specs.declared.Order.{Order}
 use Rattle.store.specs.declared.Request.{Request}
@@ -137,6 +134,6 @@ repeats_itself k o e h =
     let same : Bool = eqb e.exec.status o.state.status in
     let filled : Bool = eqb e.exec.cumqty o.state.cumqty in
     let quiet : Bool = eqb e.exec.lastqty 0 in
-    let (p, _) = both_true (at && same && filled && quiet) _ h in
-    let (u, _) = both_true (at && same && filled) quiet p in
-    ap (λ (n : ℕ). eqb n done_for_day) (eqb-true e.exec.status o.state.status (both_true at same (both_true (at && same) filled u).0).1)
+    let (p, _) = and_parts (at && same && filled && quiet) _ h in
+    let (u, _) = and_parts (at && same && filled) quiet p in
+    ap (λ (n : ℕ). eqb n done_for_day) (eqb-true e.exec.status o.state.status (and_parts at same (and_parts (at && same) filled u).0).1)

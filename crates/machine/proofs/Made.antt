@@ -1,13 +1,8 @@
 -- Every change, by the way that it was put together: one walk through the handlers, of which each property of changes is an induction. Rests on Machine.
 -- A handler is followed twice, with findings that differ in the count of the requests alone; where the count does not matter, both are the same.
-use Prim.Native.Nat.{ℕ, ◌-◌, ◌≤◌, ◌<◌, max}
-use native.Mathlib.Omega.{arith}
-use mathlib.Core.Path.{◌≡◌, refl, sym, ap, subst, ◌∙◌}
-use mathlib.Core.Logic.{◌⊎◌, inl, inr}
-use mathlib.Core.Bool.{Bool, true, false, not, ◌&&◌, ◌||◌}
-use lib.Dec.{eqb, ltb}
-use borrow.Author.Tests.{eqb-true, ltb-false, leb-false, not-false, not-true}
-use Rattle.prelude.specs.Cases.{if◌then◌otherwise◌, split_if, clash, both_true, either_false, if_false}
+use Rattle.std.proofs.Common.{ℕ, ◌-◌, ◌≤◌, ◌<◌, max, arith, ◌≡◌, refl, sym, ap, subst, ◌∙◌, ◌⊎◌, inl, inr, Bool, true, false, not, ◌&&◌, ◌||◌, eqb, ltb, eqb-true, ltb-false, leb-false}
+use Rattle.std.proofs.lemmas.Bool.{not-false, not-true, and_parts, or_parts, and_left, and_right}
+use Rattle.prelude.specs.Cases.{if◌then◌otherwise◌, split_if, clash, if_false}
 use Rattle.store.specs.declared.Order.{Order}
 use Rattle.store.specs.declared.Request.{Request}
 use Rattle.store.specs.Requests.{no_request}
@@ -21,6 +16,7 @@ use Rattle.machine.specs.GatewayCancel.{outstanding_cancel, gateway_cancel_in_fl
 use Rattle.machine.specs.Amend.{amend_refusal, refuse, redelivered_report, already_taken, cancel_refusal, cancel_goes, cancel, or_own, replace_refusal, priced_right, replace_goes, replace, refused_order, refused_alarm, refused_note, refuse_request, venue_note, venue_cancel_reject, send_refused, first_failed, send_failed, resendable, unsent}
 use Rattle.machine.specs.Report.{unknown_at_venue, stale, dropped_stale, dropped_repeat, status_taken, accepts, answers_request, ordered_qty, reported_order, fill_price_of, client_report, settles, apply_report, venue_report}
 use Rattle.machine.specs.Machine.{text_note, on_report}
+use Rattle.machine.proofs.Kept.Laws.{and_else}
 use Rattle.machine.specs.declared.Findings.{Findings}
 use Rattle.machine.specs.declared.Note.{Note}
 use Rattle.machine.specs.declared.Reject.{Reject}
@@ -201,11 +197,7 @@ module _ {A : Type 0} (R : A → A → Type 0) where
 -- a gateway cancel that went out does not wait
 not_waiting : (f : Findings) (c : Change) → c.order.gateway.unsent ≡ false → gateway_cancel_waiting f c ≡ false
 unfolding gateway_cancel_waiting
-not_waiting f c u = shut (has_gateway c.order) c.order.gateway.unsent _ u
-  where
-    shut : (a v z : Bool) → v ≡ false → a && v && z ≡ false
-    shut true v z e = rw e
-    shut false v z e = refl
+not_waiting f c u = and_left _ _ (and_right (has_gateway c.order) c.order.gateway.unsent u)
 
 sent_once : (f : Findings) (c : Change) → resume_gateway_cancel f (send_gateway_cancel f c) ≡ send_gateway_cancel f c
 unfolding resume_gateway_cancel
@@ -215,12 +207,12 @@ sent_once f c = if_false (gateway_cancel_waiting f (send_gateway_cancel f c)) _ 
 not_stale : (k : ℕ) (q : Request) (o : Order) (e : Event) → stale k q o e ≡ false → (is_done o.state.status ≡ false) × (o.state.cumqty ≤ e.exec.cumqty)
 unfolding stale
 not_stale k q o e h =
-    let (d, l) = either_false (is_done o.state.status) (ltb e.exec.cumqty o.state.cumqty)
-    (either_false (is_done o.state.status || ltb e.exec.cumqty o.state.cumqty) _ h).0 in
+    let (d, l) = or_parts (is_done o.state.status) (ltb e.exec.cumqty o.state.cumqty)
+    (or_parts (is_done o.state.status || ltb e.exec.cumqty o.state.cumqty) _ h).0 in
     (d, ltb-false _ _ l)
 
 level : (a b c d : Bool) → a && b && c && d ≡ true → b ≡ true
-level a b c d h = (both_true a b (both_true (a && b) c (both_true (a && b && c) d h).0).0).1
+level a b c d h = grind arith
 
 module _ (k : ℕ) (q : Request) (o : Order) (e : Event) (p : ℕ) (x : Request) (m n : ℕ) where
   abbrev M : Change → Change → Type 0
@@ -254,7 +246,7 @@ module _ (k : ℕ) (q : Request) (o : Order) (e : Event) (p : ℕ) (x : Request)
       (λ first. split_two N _ (λ z. none)
       (λ there. split_two N _ (λ z. none)
       (λ un. let u : Open k q o e = record { later = first; there = not-false _ there; unanswered = un } in
-      split_two N _ (λ g. unfold alarming answering unchanged if◌then◌otherwise◌ in quietly (gone w u (both_true (is_gateway q) _ g).0))
+      split_two N _ (λ g. unfold alarming answering unchanged if◌then◌otherwise◌ in quietly (gone w u (and_parts (is_gateway q) _ g).0))
       (λ z. split_two N _ (λ g. unfold alarming answering unchanged if◌then◌otherwise◌ in gateway_made r.note w u g)
       (λ g. unfold telling alarming answering unchanged if◌then◌otherwise◌ in quietly (told w u g))))))
     where
@@ -267,7 +259,7 @@ module _ (k : ℕ) (q : Request) (o : Order) (e : Event) (p : ℕ) (x : Request)
   resume_made : eqb e.kind 7 ≡ false → {c c' : Change} → N c c' → M (resume_gateway_cancel f c) (resume_gateway_cancel f' c')
   unfolding resume_gateway_cancel gateway_cancel_waiting outstanding_cancel
   resume_made z (quietly {y} {j} {s} {out} r) =
-      split_two M _ (λ w. let (h, t) = both_true (has_gateway y) y.gateway.unsent (both_true (has_gateway y && y.gateway.unsent) _ w).0 in resumes z r h t) (λ w. refusing! z (quietly r))
+      split_two M _ (λ w. let (h, t) = and_parts (has_gateway y) y.gateway.unsent (and_parts (has_gateway y && y.gateway.unsent) _ w).0 in resumes z r h t) (λ w. refusing! z (quietly r))
   resume_made z (retries {r} w u g h t) = once z (left p (refused_order k r o) k 0 (calm (refused_alarm r o))) (retries w u g h t)
 
   pub reject_made : eqb e.kind 7 ≡ false → M (venue_cancel_reject f k q o e) (venue_cancel_reject f' k q o e)
@@ -290,7 +282,7 @@ module _ (k : ℕ) (q : Request) (o : Order) (e : Event) (p : ℕ) (x : Request)
 
   settles_made : (P : Change → Type 0) (y : Order) → ((j s : ℕ) → Settles k q o e j s → P (left p y j s (calm 0))) → P (settles (accepts k q o e) (status_taken k q o e) k q o (unchanged p y))
   unfolding settles superseding answering unchanged
-  settles_made P y h = split_if P _ (λ t. h _ _ (replaced t)) (λ t. split_if P _ (λ u. h _ _ (cancelled t (both_true (is_cancel q) _ u).0)) (λ u. h _ _ (neither t)))
+  settles_made P y h = split_if P _ (λ t. h _ _ (replaced t)) (λ t. split_if P _ (λ u. h _ _ (cancelled t (and_parts (is_cancel q) _ u).0)) (λ u. h _ _ (neither t)))
 
   abbrev Quiet : Change → Type 0
   Quiet c = M (alarming (reported_alarm k q o e) c) (alarming (reported_alarm k q o e) c)
@@ -345,19 +337,15 @@ module _ (k : ℕ) (q : Request) (o : Order) (e : Event) (p : ℕ) (x : Request)
   failed_fails w =
       split_two F _ (λ z. same)
       (λ there. split_two F _ (λ z. same)
-      (λ a. split_two F _ (λ h. unfold answering unchanged in rests (freed (both_true (is_gateway q) _ h).0 (not-true _ (both_true (is_gateway q) _ h).1)))
+      (λ a. split_two F _ (λ h. unfold answering unchanged in rests (freed (and_parts (is_gateway q) _ h).0 (not-true _ (and_parts (is_gateway q) _ h).1)))
       (λ h. split_two F _
-      (λ g. unfold answering unchanged in rests (fell (not-false _ there) g (other_false (is_gateway q) (is_answered q) g a) (not-false _ (other_false (is_gateway q) _ g h))))
+      (λ g. unfold answering unchanged in rests (fell (not-false _ there) g (and_else (is_gateway q) (is_answered q) g a) (not-false _ (and_else (is_gateway q) _ g h))))
       (λ g. split_two F _ (λ t. client_failed g (refuse_made (by_failure w)))
       (λ t. split_two F _ (λ z. same)
-      (λ z. unfold telling answering unchanged if◌then◌otherwise◌ in rests (ended w (not-false _ t) g (not-false _ (either_false (is_answered q) _ z).1))))))))
+      (λ z. unfold telling answering unchanged if◌then◌otherwise◌ in rests (ended w (not-false _ t) g (not-false _ (or_parts (is_answered q) _ z).1))))))))
     where
       same : F (unchanged p o) (unchanged p o)
       same = unfold unchanged in rests unfailed
-
-      other_false : (a b : Bool) → a ≡ true → a && b ≡ false → b ≡ false
-      other_false true b z h = h
-      other_false false b z h = clash false z refl
 
   abbrev G : Change → Change → Type 0
   G = Rests k q o e p x m n (Resends k q o e)
@@ -369,8 +357,8 @@ module _ (k : ℕ) (q : Request) (o : Order) (e : Event) (p : ℕ) (x : Request)
   unfolding unsent
   unsent_resends =
       split_two G _ (λ h. unfold telling unchanged if◌then◌otherwise◌ in rests new_again)
-      (λ h. split_two G (resendable q e.venue o && is_cancel q) (λ t. unfold telling unchanged if◌then◌otherwise◌ in rests (cancel_again (both_true (resendable q e.venue o) _ t).1))
-      (λ t. split_two G _ (λ u. unfold telling unchanged if◌then◌otherwise◌ in rests (replace_again (both_true (resendable q e.venue o && is_replace q) _ u).1))
+      (λ h. split_two G (resendable q e.venue o && is_cancel q) (λ t. unfold telling unchanged if◌then◌otherwise◌ in rests (cancel_again (and_parts (resendable q e.venue o) _ t).1))
+      (λ t. split_two G _ (λ u. unfold telling unchanged if◌then◌otherwise◌ in rests (replace_again (and_parts (resendable q e.venue o && is_replace q) _ u).1))
       (λ u. failing_again t (failed_fails not_sent))))
 
   pub failed_made : eqb e.kind 7 ≡ true → M (send_failed f k q e.venue (text_note e) o) (send_failed f' k q e.venue (text_note e) o)

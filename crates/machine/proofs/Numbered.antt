@@ -1,24 +1,18 @@
 -- What the theorems use of a name with a number, and that it holds of the crate text's. A name is letters and digits, so the dash is no part of it.
 -- An order's requests are numbered 1 to 255; the counter alone goes on to 65,535. Rests on text's laws and on the format's names.
-use Prim.Native.Nat.{ℕ, zero, suc, ◌+◌, ◌/◌, ◌%◌, ◌≤◌, ◌<◌}
-use native.Mathlib.Decide.{dec_lt}
-use native.Mathlib.Omega.{arith}
-use mathlib.Core.Path.{◌≡◌, refl, sym, ap, subst, ◌∙◌}
-use mathlib.Core.Logic.{◌⊎◌, inl, inr}
-use mathlib.Core.Bool.{true, false}
-use mathlib.Core.List.{List, [], ◌∷◌, ◌++◌}
-use lib.Dec.{eqb, leb, ltb}
-use lib.ListN.{length, get_or, take, replicate, length-take, get_or-eq_default}
-use lib.Seq.{ext_get_or, get_or-take, length-take-le}
-use borrow.Author.Tests.{eqb-true, eq-eqb, leb-true, le-leb, le-ltb, ltb-true, ltb-false}
+use Rattle.std.proofs.Common.{ℕ, zero, suc, ◌+◌, ◌/◌, ◌%◌, ◌≤◌, ◌<◌, arith, ◌≡◌, refl, sym, ap, subst, ◌∙◌, ◌⊎◌, inl, inr, true, false, List, [], ◌∷◌, ◌++◌, eqb, leb, ltb, length, get_or, take, replicate, length-take, ext_get_or, get_or-take, length-take-le, eqb-true, eq-eqb, leb-true, le-leb, le-ltb, ltb-true, ltb-false}
+use Rattle.std.proofs.Math.Decide.{dec_lt}
+use Rattle.std.proofs.Math.ListN.{get_or-eq_default}
+use Rattle.std.proofs.lemmas.Bool.{and_parts, and_from, or_cases, cases_Bool}
 use Rattle.prelude.specs.Below.{all_below, all_elim, all_intro}
-use Rattle.prelude.specs.Cases.{split_if, clash, both_true, both_hold, either_true, true_or_false}
+use Rattle.prelude.specs.Cases.{split_if, clash}
 use Rattle.prelude.specs.Texts.{contents, text_of, is_text, filled_at, agree_at, same_text, same_text_lem, WholeText}
 use Rattle.prelude.specs.declared.Text.{Text}
 use Rattle.format.specs.Codes.{is_alnum, alnum_at, is_name, within}
 use Rattle.text.specs.Numbered.{digits_of, decimal, numbered_bytes, numbered_text}
 use Rattle.text.specs.Laws.Names.{NoDash, no_dash, Fits, numbered_fits, numbered_is_text, numbered_long, numbered_len, numbered_same, numbered_no_name}
 use Rattle.machine.specs.Ranges.{name_range, text_within}
+use Rattle.prelude.specs.Bytes.{bytes_append, bytes_take, bytes_one, bytes_zeros}
 
 pub record NumberedLaws : Type 0 where
   pub within : (name : Text) (n : ℕ) → name_range name ≡ true → 0 < n → n ≤ 255 → text_within 1 32 (numbered_text name n) ≡ true
@@ -39,12 +33,12 @@ record Name (t : Text) : Type 0 where
 named : (t : Text) → name_range t ≡ true → Name t
 unfolding name_range is_name
 named t e =
-    let (x, y) = both_true (is_text t) _ e in
-    let (w, z) = both_true (within 1 20 t.len) _ y in
+    let (x, y) = and_parts (is_text t) _ e in
+    let (w, z) = and_parts (within 1 20 t.len) _ y in
     record {
       text = x;
-      short = leb-true t.len 20 (both_true (leb 1 t.len) (leb t.len 20) w).1;
-      letters = all_elim (alnum_at t) t.len (both_true (all_below (alnum_at t) t.len) _ z).0;
+      short = leb-true t.len 20 (and_parts (leb 1 t.len) (leb t.len 20) w).1;
+      letters = all_elim (alnum_at t) t.len (and_parts (all_below (alnum_at t) t.len) _ z).0;
     }
 
 zero_plain : is_alnum 0 ≡ false
@@ -85,7 +79,7 @@ module _ (t : Text) (n : Name t) where
 
   behind : (k : ℕ) → t.len ≤ k → k < 32 → get_or t.bytes k 0 ≡ 0
   unfolding is_text
-  behind k l u = eqb-true (get_or t.bytes k 0) 0 (go (either_true (ltb k t.len) (eqb (get_or t.bytes k 0) 0) (all_elim (filled_at t) 32 (both_true (leb t.len 32) _ n.text).1 k u)))
+  behind k l u = eqb-true (get_or t.bytes k 0) 0 (go (or_cases (ltb k t.len) (eqb (get_or t.bytes k 0) 0) (all_elim (filled_at t) 32 (and_parts (leb t.len 32) _ n.text).1 k u)))
     where
       go : (ltb k t.len ≡ true) ⊎ (eqb (get_or t.bytes k 0) 0 ≡ true) → eqb (get_or t.bytes k 0) 0 ≡ true
       go (inl z) = clash _ z (le-ltb k t.len l)
@@ -99,7 +93,7 @@ same_contents : (a b : Text) → Name a → Name b → contents a ≡ contents b
 unfolding same_text
 same_contents a b na nb e =
     let l : a.len ≡ b.len = sym (contents_long a na) ∙ ap length e ∙ contents_long b nb in
-    both_hold _ _ (eq-eqb a.len b.len l)
+    and_from _ _ (eq-eqb a.len b.len l)
     (all_intro (agree_at a.bytes b.bytes) 32 (λ k u. eq-eqb (get_or a.bytes k 0) (get_or b.bytes k 0) (at l k u (dec_lt k a.len))))
   where
     at : a.len ≡ b.len → (k : ℕ) → k < 32 → Dec (k < a.len) → get_or a.bytes k 0 ≡ get_or b.bytes k 0
@@ -110,7 +104,7 @@ same_contents a b na nb e =
 same_bytes : (a b : Text) (n : ℕ) → Name b → Fits a n → same_text (numbered_text a n) b ≡ true → contents (numbered_text a n) ≡ contents b
 unfolding contents same_text
 same_bytes a b n nb f e =
-    let s = both_true (eqb (numbered_text a n).len b.len) _ e in
+    let s = and_parts (eqb (numbered_text a n).len b.len) _ e in
     let l : (numbered_text a n).len ≡ b.len = eqb-true _ _ s.0 in
     ext_get_or 0 (take (numbered_text a n).len (numbered_text a n).bytes) (take b.len b.bytes)
     (length-take-le (numbered_text a n).len (numbered_text a n).bytes (let z = nb.short in let y = numbered_long a n in omega arith) ∙ l ∙ sym (length-take-le b.len b.bytes (long b nb)))
@@ -123,36 +117,15 @@ same_bytes a b n nb f e =
 
 -- ---- every byte of a numbered text is one
 
-module _ (P : ℕ → Type 0) (blank : P 0) where
-  append_bytes : (l m : List ℕ) → ((k : ℕ) → P (get_or l k 0)) → ((k : ℕ) → P (get_or m k 0)) → (k : ℕ) → P (get_or (l ++ m) k 0)
-  append_bytes [] m f g k = g k
-  append_bytes (x ∷ l) m f g zero = f zero
-  append_bytes (x ∷ l) m f g (suc k) = append_bytes l m (λ n. f (suc n)) g k
-
-  take_bytes : (n : ℕ) (l : List ℕ) → ((k : ℕ) → P (get_or l k 0)) → (k : ℕ) → P (get_or (take n l) k 0)
-  take_bytes zero l f k = blank
-  take_bytes (suc n) [] f k = blank
-  take_bytes (suc n) (x ∷ l) f zero = f zero
-  take_bytes (suc n) (x ∷ l) f (suc k) = take_bytes n l (λ m. f (suc m)) k
-
-  one_byte : (x : ℕ) → P x → (k : ℕ) → P (get_or (x ∷ []) k 0)
-  one_byte x p zero = p
-  one_byte x p (suc k) = blank
-
-  zero_bytes : (n k : ℕ) → P (get_or (replicate n 0) k 0)
-  zero_bytes zero k = blank
-  zero_bytes (suc n) zero = blank
-  zero_bytes (suc n) (suc k) = zero_bytes n k
-
 digits_bytes : (f n k : ℕ) → n ≤ f → get_or (digits_of f n) k 0 < 256
 unfolding digits_of
-digits_bytes zero n k h = one_byte (λ x. x < 256) (omega arith) (48 + n) (omega arith) k
+digits_bytes zero n k h = bytes_one (48 + n) (omega arith) k
 digits_bytes (suc f) n k h =
     split_if (λ (l : List ℕ). get_or l k 0 < 256) (ltb n 10)
-    (λ t. one_byte (λ x. x < 256) (omega arith) (48 + n) (omega (arith, ltb-true n 10 t)) k)
-    (λ t. append_bytes (λ x. x < 256) (omega arith) (digits_of f (n / 10)) ((48 + n % 10) ∷ [])
+    (λ t. bytes_one (48 + n) (omega (arith, ltb-true n 10 t)) k)
+    (λ t. bytes_append (digits_of f (n / 10)) ((48 + n % 10) ∷ [])
     (λ j. digits_bytes f (n / 10) j (omega (arith, ltb-false n 10 t)))
-    (one_byte (λ x. x < 256) (omega arith) (48 + n % 10) (omega arith)) k)
+    (bytes_one (48 + n % 10) (omega arith)) k)
 
 dashed_bytes : (n k : ℕ) → get_or (45 ∷ decimal n) k 0 < 256
 unfolding decimal
@@ -162,21 +135,21 @@ dashed_bytes n (suc k) = digits_bytes n n k (omega arith)
 numbered_bytes_lem : (t : Text) (n k : ℕ) → WholeText t → get_or (numbered_bytes t n) k 0 < 256
 unfolding contents
 numbered_bytes_lem t n k w =
-    append_bytes (λ x. x < 256) (omega arith) (take t.len t.bytes) (45 ∷ decimal n)
-    (take_bytes (λ x. x < 256) (omega arith) t.len t.bytes w.bytes) (dashed_bytes n) k
+    bytes_append (take t.len t.bytes) (45 ∷ decimal n)
+    (bytes_take t.bytes t.len w.bytes) (dashed_bytes n) k
 
 numbered_short : (t : Text) (n : ℕ) → (numbered_text t n).len ≤ 32
 unfolding is_text
-numbered_short t n = leb-true (numbered_text t n).len 32 (both_true (leb (numbered_text t n).len 32) _ (numbered_is_text t n)).0
+numbered_short t n = leb-true (numbered_text t n).len 32 (and_parts (leb (numbered_text t n).len 32) _ (numbered_is_text t n)).0
 
 numbered_small : (t : Text) (n k : ℕ) → WholeText t → get_or (numbered_text t n).bytes k 0 < 256
 unfolding numbered_text text_of
 numbered_small t n k w =
     split_if (λ (u : Text). get_or u.bytes k 0 < 256) (leb (length (numbered_bytes t n)) 32)
-    (λ e. take_bytes (λ x. x < 256) (omega arith) 32 (numbered_bytes t n ++ replicate 32 0)
-    (append_bytes (λ x. x < 256) (omega arith) (numbered_bytes t n) (replicate 32 0) (λ j. numbered_bytes_lem t n j w)
-    (zero_bytes (λ x. x < 256) (omega arith) 32)) k)
-    (λ e. zero_bytes (λ x. x < 256) (omega arith) 32 k)
+    (λ e. bytes_take (numbered_bytes t n ++ replicate 32 0) 32
+    (bytes_append (numbered_bytes t n) (replicate 32 0) (λ j. numbered_bytes_lem t n j w)
+    (bytes_zeros 32)) k)
+    (λ e. bytes_zeros 32 k)
 
 numbered_whole : (t : Text) (n : ℕ) → WholeText t → t.len ≤ 20 → n ≤ 65535 → WholeText (numbered_text t n)
 numbered_whole t n w h l = record { long = numbered_long t n; len = omega (arith, numbered_short t n); bytes = λ k. numbered_small t n k w }
@@ -185,7 +158,7 @@ numbered_within : (t : Text) (n : ℕ) → Name t → n ≤ 255 → text_within 
 unfolding text_within
 numbered_within t n m h =
     let long : (numbered_text t n).len ≡ length (contents t) + (length (decimal n) + 1) = numbered_len t n (fits t m n h) in
-    both_hold _ _ (both_hold _ _ (numbered_is_text t n) (le-leb 1 (numbered_text t n).len (omega arith))) (le-leb (numbered_text t n).len 32 (numbered_short t n))
+    and_from _ _ (and_from _ _ (numbered_is_text t n) (le-leb 1 (numbered_text t n).len (omega arith))) (le-leb (numbered_text t n).len 32 (numbered_short t n))
 
 pub numbered_laws : NumberedLaws
 numbered_laws = record {
@@ -201,7 +174,7 @@ numbered_laws = record {
 }
   where
     no_name : (a b : Text) (n : ℕ) → Name a → Name b → n ≤ 255 → same_text (numbered_text a n) b ≡ false
-    no_name a b n na nb l = go (true_or_false (same_text (numbered_text a n) b))
+    no_name a b n na nb l = go (cases_Bool (same_text (numbered_text a n) b))
       where
         go : (same_text (numbered_text a n) b ≡ true) ⊎ (same_text (numbered_text a n) b ≡ false) → same_text (numbered_text a n) b ≡ false
         go (inl e) = absurd (numbered_no_name a (numbered_text a n) n (fits a na n l) (subst NoDash (sym (same_bytes a b n nb (fits a na n l) e)) (undashed b nb)) refl)

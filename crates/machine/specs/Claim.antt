@@ -2,9 +2,10 @@
 -- All of it is counted from the history: the messages sent, the events, and the books before and after them. Of what the book stores, only what
 -- is spoken of is read. What stands in quotes is the desk's wording; docs/SCOPE.md, Demand 3, has all of it. An order is known by its name: names are distinct.
 use Rattle.std.specs.Prelude.{ℕ, ◌+◌, ◌≤◌, ◌<◌, ◌≡◌, Bool, true, false, not, ◌&&◌, List, [], ◌∷◌, ◌++◌, eqb, length, Option, None, Some}
+use Rattle.std.specs.List.{list_any}
 use Rattle.prelude.specs.Cases.{if◌then◌otherwise◌, maybe}
 use Rattle.prelude.specs.Texts.{same_text}
-use Rattle.prelude.specs.Totals.{total_of, some_of, how_many, those, Every}
+use Rattle.prelude.specs.Totals.{total_of, how_many, those, Every}
 use Rattle.prelude.specs.declared.Text.{Text}
 use Rattle.store.specs.declared.Order.{Order}
 use Rattle.store.specs.Book.{Book, order_in, request_in}
@@ -55,7 +56,7 @@ begins name e = eqb e.refusal 0 && asks name e.before e.input
 
 -- the ClOrdID is among them
 abbrev pub holds : Text → List Text → Bool
-holds d = some_of (same_text d)
+holds d = list_any (same_text d)
 
 -- the downstream ClOrdIDs of the messages 19
 unfoldable pub cancels_in : List Message → List Text
@@ -69,7 +70,7 @@ once (d ∷ ds) = if holds d ds then once ds otherwise d ∷ once ds
 
 -- a message 19 with that ClOrdID has been sent
 abbrev pub sent : Text → List Entry → Bool
-sent d = some_of (λ e. holds d (cancels_in e.messages))
+sent d = list_any (λ e. holds d (cancels_in e.messages))
 
 -- "It is for the order whose request record bears that ClOrdID"
 abbrev pub is_for : Text → Book → Text → Bool
@@ -98,7 +99,7 @@ abbrev pub fails : Entry → Text → Bool
 fails e d = of_kind 7 e.input && (not (answered_in e.before d) && answered_in e.left d)
 
 abbrev pub failed : List Entry → Text → Bool
-failed past d = some_of (λ e. fails e d) past
+failed past d = list_any (λ e. fails e d) past
 
 -- ---- the claim
 

@@ -1,6 +1,6 @@
 -- The order parts of src/book.rs: `impl Order` and what stands around it, on the book's own types. Rests on store and wide's words.
 -- Beside each definition stands the Rust's name.
-use Rattle.std.specs.Prelude.{ℕ, ◌+◌, ◌-◌, ◌^◌, Bool, true, false, not, ◌&&◌, ◌||◌, [], ◌∷◌, eqb, ltb, Option, None}
+use Rattle.std.specs.Prelude.{ℕ, ◌+◌, ◌-◌, ◌^◌, Bool, not, ◌&&◌, ◌||◌, [], ◌∷◌, eqb, ltb, Option, None}
 use Rattle.prelude.specs.Cases.{if◌then◌otherwise◌}
 use Rattle.prelude.specs.Texts.{text_of, same_text}
 use Rattle.prelude.specs.declared.Text.{Text}

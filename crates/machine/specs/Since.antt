@@ -1,9 +1,10 @@
 -- Demand 3 from any book that keeps its rules, the image: what holds after every list of calls since it. Rests on Claim.
 -- Demand 3 from the empty book is a case. What stands in quotes is the desk's wording of wish 10. The image is the first argument throughout.
 use Rattle.std.specs.Prelude.{ℕ, ◌+◌, ◌≤◌, ◌≡◌, Bool, true, false, not, ◌&&◌, ◌||◌, List, [], ◌∷◌, eqb, length, Some}
+use Rattle.std.specs.List.{list_any}
 use Rattle.prelude.specs.Cases.{if◌then◌otherwise◌, maybe}
 use Rattle.prelude.specs.Texts.{same_text}
-use Rattle.prelude.specs.Totals.{total_of, some_of, how_many, Every}
+use Rattle.prelude.specs.Totals.{total_of, how_many, Every}
 use Rattle.prelude.specs.declared.Text.{Text}
 use Rattle.store.specs.declared.Order.{Order}
 use Rattle.store.specs.declared.Request.{Request}
@@ -48,7 +49,7 @@ new_out image name past = put_out_of (known image) name past
 
 -- of the image, what counts still: "until the gateway cancel begins again"
 abbrev pub begun_since : Text → List Entry → Bool
-begun_since name = some_of (begins name)
+begun_since name = list_any (begins name)
 
 abbrev pub base_tries : Book → Text → List Entry → ℕ
 base_tries image name past = if begun_since name past then 0 otherwise held_tries image name

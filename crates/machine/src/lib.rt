@@ -1,5 +1,6 @@
 // The machine: what an event does to the book, as definitions in specs/, and the types that they
-// need beside the records' and the book's. No code. Rests on records, store, text and wide.
+// need beside the records' and the book's. No code. Codes, reasons, texts and alarms are the numbers
+// that records have, in which any byte may stand. Rests on records, store, text and wide.
 #![tactic(auto)]
 
 use prelude::Text;

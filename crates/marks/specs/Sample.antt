@@ -1,7 +1,6 @@
 -- Small cases of names and places, by value. Rests on Marks. What they shut out: a name by its letters alone, a mark beside one of its name, a return to
 -- a damaged image or to a later one, a last part that counts.
-use Rattle.std.specs.Prelude.{ℕ, ◌≡◌, true, false, List, [], ◌∷◌, ◌++◌, length, replicate, None, Some}
-use Rattle.std.proofs.Math.Path.{refl}
+use Rattle.std.specs.Prelude.{ℕ, ◌≡◌, true, false, List, [], ◌∷◌, ◌++◌, length, replicate, None, Some, refl}
 use Rattle.prelude.specs.Below.{all_below, first_below}
 use Rattle.prelude.specs.Bytes.{zeros}
 use Rattle.prelude.specs.Cases.{if◌then◌otherwise◌, maybe}

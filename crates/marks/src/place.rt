@@ -6,27 +6,18 @@ ghost use Rattle.prelude.specs.Below.{first_below};
 ghost use Rattle.prelude.specs.Span.{splice};
 ghost use Rattle.store.specs.Layout.{book_size};
 ghost use Rattle.opens.specs.Keeps.{keeps_of};
-ghost use Rattle.marks.specs.Marks.{name_size, place, place_count, image_at, name_bytes, has_name, set_place, return_place};
+ghost use Rattle.marks.specs.Marks.{place, place_count, image_at, name_bytes, has_name, set_place, return_place};
 
+use crate::name::{NAME, Name};
+use opens::Kept;
 use store::layout;
 
 // A place: 32 bytes of name, then the image.
-const NAME: usize = 32;
-
 const PLACE: usize = 65568;
 
-// The name, and zeros after it.
-fn name_bytes(name: &[u8]) -> [u8; 32]
-    requires { length name.now ≤ name_size }
-    ensures { result ≡ name_bytes name.now }
-{
-    let mut bytes = [0; NAME];
-    bytes[..name.len()].copy_from_slice(name);
-    bytes
-}
-
 // Whether place i has these bytes for its name.
-fn has_name(places: &[u8], i: usize, bytes: &[u8; 32]) -> bool
+#[tactic(auto, using(prelude::specs::Span::part_span, crate::proofs::Laws::Places::name_same), unfolding(crate::specs::Marks::name_at))]
+fn has_name(places: &[u8], i: usize, bytes: &[u8; NAME]) -> bool
     requires { i < place_count places.now }
     ensures { result ≡ has_name places.now bytes.now i }
 {
@@ -35,22 +26,22 @@ fn has_name(places: &[u8], i: usize, bytes: &[u8; 32]) -> bool
 }
 
 // The first place that has.
-fn find(places: &[u8], bytes: &[u8; 32]) -> Option<usize>
+fn find(places: &[u8], bytes: &[u8; NAME]) -> Option<usize>
     ensures { result ≡ first_below (has_name places.now bytes.now) (place_count places.now) }
 {
     (0..places.len() / PLACE).find(|i| has_name(places, *i, bytes))
 }
 
 // The place to which a mark of that name goes.
-pub(crate) fn set_place(places: &[u8], name: &[u8]) -> Option<usize>
-    requires { length name.now ≤ name_size }
-    ensures { result ≡ set_place places.now name.now }
+pub(crate) fn set_place(places: &[u8], name: &Name<'_>) -> Option<usize>
+    ensures { result ≡ set_place places.now name.now.letters.now }
 {
-    find(places, &name_bytes(name)).or_else(|| find(places, &[0; NAME]))
+    find(places, &name.bytes()).or_else(|| find(places, &[0; NAME]))
 }
 
 // Whether place i has these bytes for its name, and an image that keeps the book's rules.
-fn is_mark(places: &[u8], i: usize, bytes: &[u8; 32]) -> bool
+#[tactic(auto, using(prelude::specs::Span::part_span), unfolding(crate::specs::Marks::image_at))]
+fn is_mark(places: &[u8], i: usize, bytes: &[u8; NAME]) -> bool
     requires { i < place_count places.now }
     ensures { result ≡ has_name places.now bytes.now i && keeps_of (image_at places.now i) }
 {
@@ -59,25 +50,26 @@ fn is_mark(places: &[u8], i: usize, bytes: &[u8; 32]) -> bool
 }
 
 // The place that a return to that name takes.
-pub(crate) fn return_place(places: &[u8], name: &[u8]) -> Option<usize>
-    requires { length name.now ≤ name_size }
-    ensures { result ≡ return_place places.now name.now }
+pub(crate) fn return_place(places: &[u8], name: &Name<'_>) -> Option<usize>
+    ensures { result ≡ return_place places.now name.now.letters.now }
 {
-    let bytes = name_bytes(name);
+    let bytes = name.bytes();
     (0..places.len() / PLACE).find(|i| is_mark(places, *i, &bytes))
 }
 
 // Name and book over all of place i.
-pub(crate) fn put_place(places: &mut [u8], i: usize, name: &[u8], book: &[u8])
-    requires { (i < place_count places.old) × (length name.now ≤ name_size) × (length book.now ≡ book_size) }
-    ensures { places.new ≡ splice places.old (place i) (name_bytes name.now ++ book.now) }
+#[tactic(auto, using(crate::proofs::Laws::Stands::book_long))]
+pub(crate) fn put_place(places: &mut [u8], i: usize, name: &Name<'_>, book: &Kept<'_>)
+    requires { i < place_count places.old }
+    ensures { places.new ≡ splice places.old (place i) (name_bytes name.now.letters.now ++ book.now.bytes.now) }
 {
     let at = i * PLACE;
-    places[at..at + NAME].copy_from_slice(&name_bytes(name));
-    places[at + NAME..at + NAME + layout::BOOK].copy_from_slice(book);
+    places[at..at + NAME].copy_from_slice(&name.bytes());
+    places[at + NAME..at + NAME + layout::BOOK].copy_from_slice(book.bytes);
 }
 
 // The image of place i over all of the book.
+#[tactic(auto, using(prelude::specs::Span::part_span), unfolding(crate::specs::Marks::image_at))]
 pub(crate) fn take_image(book: &mut [u8], places: &[u8], i: usize)
     requires { (i < place_count places.now) × (length book.old ≡ book_size) }
     ensures { book.new ≡ image_at places.now i }

@@ -71,6 +71,7 @@ fn added_count(added: u8) -> u32
 }
 
 // The needs of an event that is taken, puts this out and adds a request or none.
+#[tactic(auto, using(crate::specs::Laws::Needs::counted))]
 fn needed(out: Output, added: u8) -> Needs
     ensures { result ≡ needed (chosen out.count out.first out.second) added }
 {
@@ -92,6 +93,7 @@ fn needed(out: Output, added: u8) -> Needs
 }
 
 // What the event in `record` will need on this book.
+#[tactic(auto, using(step::specs::Laws::Taken::numbered, crate::specs::Laws::Needs::called), unfolding(machine::specs::Changes::refusing))]
 pub fn needs_of(book: &[u8], record: &[u8]) -> Needs
     ensures { result ≡ needs_call book.now «record».now }
 {

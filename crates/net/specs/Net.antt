@@ -1,11 +1,11 @@
 -- THE NET POSITION of a book (change request 6): for each client and symbol that has an order, what was bought less what was sold, as values
 -- and as the bytes of a line; and the call that writes the lines. Rests on counted, store's book, machine's `filled_on` and opens' `keeps_of`.
 use Rattle.std.specs.Prelude.{ℕ, zero, suc, ◌-◌, ◌*◌, ◌^◌, ◌≡◌, Bool, true, false, not, ◌&&◌, ◌||◌, List, [], ◌∷◌, ◌++◌, map, eqb, ltb, length, replicate}
+use Rattle.std.specs.List.{concat}
 use Rattle.prelude.specs.Below.{all_below}
 use Rattle.prelude.specs.Cases.{if◌then◌otherwise◌}
 use Rattle.prelude.specs.Lists.{list_below}
 use Rattle.prelude.specs.Number.{number, bytes_of}
-use Rattle.prelude.specs.Pieces.{joined}
 use Rattle.prelude.specs.Span.{span, splice}
 use Rattle.prelude.specs.Texts.{contents, text_of, same_text}
 use Rattle.prelude.specs.Totals.{total_of}
@@ -94,10 +94,10 @@ abbrev pub fields : (client : ℕ) (symbol : Text) (net : ℕ) → List (List �
 fields client symbol net = bytes_of 2 client ∷ (symbol.len ∷ []) ∷ padded 16 (contents symbol) ∷ bytes_of 8 net ∷ []
 
 unfoldable pub line_bytes : Position → List ℕ
-line_bytes p = joined (fields p.client p.symbol (twos p.net))
+line_bytes p = concat (fields p.client p.symbol (twos p.net))
 
 unfoldable pub net_bytes : List Position → List ℕ
-net_bytes ps = joined (map line_bytes ps)
+net_bytes ps = concat (map line_bytes ps)
 
 -- ---- a line read
 

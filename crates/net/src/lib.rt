@@ -34,6 +34,7 @@ const LEAST_LINES: usize = 1728;
 
 // Behind so many lines, the line of order i where it is the first of its client and symbol. Returns how
 // many lines there are then.
+#[tactic(auto, using(store::specs::Laws::Stored::count_most))]
 fn put_next(book: &Kept<'_>, out: &mut [u8], i: usize, lines: usize) -> usize
     requires { (i < order_count book.now.bytes.now) × (lines ≤ i) × (least_lines ≤ length out.old) }
     ensures { IsNext (book_of book.now.bytes.now) i lines out.old result out.new }
@@ -53,6 +54,7 @@ fn put_next(book: &Kept<'_>, out: &mut [u8], i: usize, lines: usize) -> usize
 }
 
 // The lines of the book's orders; returns how many.
+#[tactic(auto, using(crate::specs::Laws::Call::turns))]
 fn put_lines(book: &Kept<'_>, out: &mut [u8]) -> usize
     requires { least_lines ≤ length out.old }
     ensures { (result ≡ length (net_of (book_of book.now.bytes.now))) × (out.new ≡ splice out.old 0 (net_bytes (net_of (book_of book.now.bytes.now)))) }
@@ -66,6 +68,7 @@ fn put_lines(book: &Kept<'_>, out: &mut [u8]) -> usize
 
 // Writes the lines to the front of `lines`; the number is their count. Refuses a book that does not
 // keep its rules, then a `scratch` or `lines` that is shorter than what is asked.
+#[tactic(auto, using(crate::specs::Laws::Call::calls))]
 pub fn net_position(book: &[u8], scratch: &mut [u64], lines: &mut [u8]) -> Result<u32, Refusal>
     ensures { IsNet book.now scratch.old lines.old (counted_of result) scratch.new lines.new }
 {

@@ -1,6 +1,6 @@
 // One line, over 27 bytes. Rests on pair.
 ghost use Rattle.std.specs.Prelude.{◌≡◌, true, ◌+◌, ◌≤◌, length};
-ghost use Rattle.prelude.specs.Pieces.{joined};
+ghost use Rattle.std.specs.List.{concat};
 ghost use Rattle.prelude.specs.Span.{splice};
 ghost use Rattle.prelude.specs.Texts.{is_text};
 ghost use Rattle.net.specs.Net.{fields};
@@ -8,6 +8,7 @@ ghost use Rattle.net.specs.Net.{fields};
 use crate::pair::Pair;
 
 // Writes w into s from index at.
+#[tactic(auto, using(prelude::specs::Span::part_splice))]
 fn put(s: &mut [u8], at: usize, w: &[u8])
     requires { at + length w.now ≤ length s.old }
     ensures { s.new ≡ splice s.old at w.now }
@@ -18,7 +19,7 @@ fn put(s: &mut [u8], at: usize, w: &[u8])
 // The line over all of s. The first 16 bytes of a stored symbol are the text and its zeros.
 pub(crate) fn put_line(s: &mut [u8], pair: Pair, net: u64)
     requires { (length s.old ≡ 27) × (is_text pair.symbol ≡ true) × (pair.symbol.len ≤ 16) }
-    ensures { s.new ≡ joined (fields pair.client pair.symbol net) }
+    ensures { s.new ≡ concat (fields pair.client pair.symbol net) }
 {
     put(s, 0, &pair.client.to_le_bytes());
     put(s, 2, &[pair.symbol.len]);

@@ -9,6 +9,7 @@ use crate::Amounts;
 use opens::Kept;
 use prelude::Text;
 use store::layout;
+use words::{get16, get64};
 
 // Side(54): a purchase. Every other is a sale: a byte of the book, in which any may stand, so no enum.
 const BUY: u8 = b'1';
@@ -31,13 +32,14 @@ pub(crate) struct Pair {
 
 impl Pair {
     // Whether order k is that client's in that symbol.
+    #[tactic(auto, using(store::specs::Laws::Stored::count_most))]
     fn has(self, book: &[u8], k: usize) -> bool
         requires { k < order_count book.now }
         ensures { result ≡ of_pair self.client self.symbol (order_in (book_of book.now) k) }
     {
         let base = layout::ORDERS + k * layout::ORDER;
         let at = base + layout::CLIENT;
-        words::get16(&book[at..at + 2]) == self.client
+        get16(&book[at..at + 2]) == self.client
             && text::text_is(book, base + layout::SYMBOL, self.symbol)
     }
 
@@ -59,7 +61,7 @@ impl Pair {
         }
         let base = layout::ORDERS + k * layout::ORDER;
         let at = base + layout::CUMQTY;
-        let filled = words::get64(&book.bytes[at..at + 8]);
+        let filled = get64(&book.bytes[at..at + 8]);
         if book.bytes[base + layout::SIDE] == BUY {
             Amounts {
                 bought: a.bought + filled,

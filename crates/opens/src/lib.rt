@@ -12,9 +12,10 @@ ghost use Rattle.opens.specs.Opens.{opening_of};
 ghost use Rattle.opens.specs.Keeps.{keeps_of, opened_of, open_call};
 
 use prelude::Refusal;
+use sums::Ruled;
 
 mod checked; // a book that is known to keep its rules
-mod sums; // the sum of each client's leaves, in one pass
+mod sums; // each client's leaves summed up
 
 pub use checked::Kept;
 
@@ -53,13 +54,18 @@ pub struct Word {
 
 // Whether the book keeps its rules: machine's and what stands beside the requests, then the open
 // quantities.
+#[tactic(auto, using(crate::specs::Laws::Keeps::decides))]
 pub fn keeps(book: &[u8]) -> bool
     ensures { result ≡ keeps_of book.now }
 {
-    rules::ruled(book) && sums::opens_right(book)
+    let Some(bytes) = book.as_array() else {
+        return false;
+    };
+    rules::ruled(book) && Ruled { bytes }.opens_right()
 }
 
 // The open quantity of a client, 0 for one without orders. Refuses a book that does not keep its rules.
+#[tactic(auto, using(crate::specs::Laws::Keeps::calls))]
 pub fn open_quantity(book: &[u8], client: u16) -> Result<u64, Refusal>
     ensures { opened_of result ≡ open_call book.now client }
 {
@@ -71,21 +77,26 @@ pub fn open_quantity(book: &[u8], client: u16) -> Result<u64, Refusal>
 }
 
 // What the order of a link has left, 0 where there is none.
+#[tactic(auto, using(store::specs::Laws::Stored::count_most, crate::specs::Laws::Moved::links))]
 fn leaves_at_link(book: &[u8], place: u16) -> u64
     ensures { result ≡ leaves_qty (order_at_link (book_of book.now) place) }
 {
+    let Some(bytes) = book.as_array() else {
+        return 0;
+    };
     if place == 0 {
         return 0;
     }
     let i = usize::from(place - 1);
-    if i >= store::order_count(book) {
+    if i >= store::order_count(bytes) {
         return 0;
     }
-    sums::leaves_at(book, i)
+    sums::leaves_at(bytes, i)
 }
 
 // Where the client's open quantity stands and what it becomes, once the order of link `place`, which
 // is the client's, has these leaves.
+#[tactic(auto, using(crate::specs::Laws::Moved::by_found, crate::specs::Laws::Moved::by_none))]
 pub fn opening(book: &[u8], place: u16, client: u16, leaves: u64) -> Word
     ensures { result ≡ opening_of book.now place client leaves }
 {

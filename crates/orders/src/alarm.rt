@@ -13,7 +13,7 @@ pub enum Alarm {
 }
 
 impl Alarm {
-    pub(crate) fn number(self) -> u8
+    pub fn number(self) -> u8
         ensures { result ≡ alarm_number self }
     {
         // By `as`: std has nothing else that gives the number of a variant.

@@ -3,7 +3,7 @@
 // machine's Changes. Rests on order and message.
 ghost use Rattle.std.specs.Prelude.{◌≡◌};
 ghost use Rattle.machine.specs.Changes.{is_first, is_replace, is_gateway, is_cancel, is_answered, no_requests, silent, unchanged, with_order, answering, superseding, adding, telling, alarming, next_link, next_number, next_downstream, next_request, numbered_order};
-ghost use Rattle.orders.specs.Alarms.{alarm_number, alarm_in};
+ghost use Rattle.orders.specs.Alarms.{alarm_in};
 
 use crate::alarm::Alarm;
 use crate::message::no_message;
@@ -156,23 +156,23 @@ pub fn sending_on(m: Record, q: Request, o: Order, c: Change) -> Change
     telling(m, adding(q, out))
 }
 
-// An alarm is raised, behind the one that is there.
+// An alarm is raised, by its number, behind the one that is there.
 #[tactic(auto, unfolding(machine::specs::Changes::alarming), using(crate::specs::Laws::Choices::choices))]
-pub fn alarming(a: Alarm, c: Change) -> Change
-    ensures { result ≡ alarming (alarm_number a) c }
+pub fn alarming(a: u8, c: Change) -> Change
+    ensures { result ≡ alarming a c }
 {
     let mut out = c;
     if c.output.alarm == 0 {
-        out.output.alarm = a.number();
+        out.output.alarm = a;
     } else {
-        out.output.alarm2 = a.number();
+        out.output.alarm2 = a;
     }
     out
 }
 
 // An alarm, and the order at a place stands as it is given.
-pub fn raising(a: Alarm, place: u16, o: Order) -> Change
-    ensures { result ≡ alarming (alarm_number a) (unchanged place o) }
+pub fn raising(a: u8, place: u16, o: Order) -> Change
+    ensures { result ≡ alarming a (unchanged place o) }
 {
     alarming(a, unchanged(place, o))
 }
@@ -183,7 +183,7 @@ pub fn raising_if(a: Option<Alarm>, place: u16, o: Order) -> Change
     ensures { result ≡ alarming (alarm_in a) (unchanged place o) }
 {
     match a {
-        Some(a) => raising(a, place, o),
+        Some(a) => raising(a.number(), place, o),
         None => unchanged(place, o),
     }
 }

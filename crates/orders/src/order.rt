@@ -29,7 +29,8 @@ pub fn has_gateway(o: Order) -> bool
     o.gateway.origdownstream != 0
 }
 
-// `Status::is_done`.
+// `Status::is_done`. `rules`, which this crate does not rest on, has the same `matches!`: its status.rt
+// says why.
 #[tactic(auto, unfolding(machine::specs::Orders::is_done))]
 pub fn is_done(s: u8) -> bool
     ensures { result ≡ is_done s }

@@ -1,4 +1,5 @@
-// Why a request is refused, and by whom: constants and no enum, since a venue may give any number.
+// Why a request is refused, and by whom: constants and no enum, since a venue may give any number, and
+// a message may hold any byte as the origin.
 
 // CxlRejReason(102).
 pub const TOO_LATE: u32 = 0;

@@ -19,6 +19,7 @@ const REFUSED: u8 = 2;
 pub const FAILED_TO_SEND: u8 = 3;
 
 // The link of the request that an OrigClOrdID of a client names, 0 for none.
+#[tactic(auto, using(prelude::specs::Cases::maybe_some, prelude::specs::Cases::maybe_none, crate::specs::Laws::Found::found_few), unfolding(crate::specs::Outcomes::origin_of))]
 pub fn origin_of(book: &[u8], client: u16, t: Text) -> u16
     ensures { result ≡ origin_of book.now client t }
 {
@@ -30,6 +31,7 @@ pub fn origin_of(book: &[u8], client: u16, t: Text) -> u16
 }
 
 // What the requests that an event settles come to.
+#[tactic(auto, using(crate::specs::Laws::Found::tests), unfolding(crate::specs::Outcomes::outcome_by))]
 fn outcome_by(e: Record) -> u8
     ensures { result ≡ outcome_by e }
 {

@@ -1,8 +1,8 @@
 -- THE EVENING PAGE of a book (change request 1): a line for each order, as values and as the bytes that are printed; and the call that
 -- prints it. Rests on decimal, counted, store's book, machine's `leaves_qty` and opens' `keeps_of`.
 use Rattle.std.specs.Prelude.{ℕ, ◌-◌, ◌*◌, not, List, [], ◌∷◌, ◌++◌, map, ltb, length, take, replicate}
+use Rattle.std.specs.List.{concat}
 use Rattle.prelude.specs.Cases.{if◌then◌otherwise◌}
-use Rattle.prelude.specs.Pieces.{joined}
 use Rattle.prelude.specs.Span.{splice}
 use Rattle.prelude.specs.Texts.{contents}
 use Rattle.decimal.specs.Decimal.{blank, decimal, right}
@@ -68,11 +68,11 @@ fields l =
     ∷ []
 
 unfoldable pub line_bytes : Line → List ℕ
-line_bytes l = joined (fields l)
+line_bytes l = concat (fields l)
 
 -- one line behind the other
 unfoldable pub page_bytes : List Line → List ℕ
-page_bytes ls = joined (map line_bytes ls)
+page_bytes ls = concat (map line_bytes ls)
 
 -- ---- the call
 

@@ -20,6 +20,7 @@ use store::Order;
 const LINE: usize = 81;
 
 // Byte i of a text, as it prints: a blank for one below 32, and behind the end.
+#[tactic(auto, using(crate::specs::Laws::Line::shows))]
 fn shown(t: Text, i: usize) -> u8
     requires { i < 32 }
     ensures { result ≡ (if ltb i t.len then printable (get_or t.bytes i 0) otherwise 32) }
@@ -32,6 +33,7 @@ fn shown(t: Text, i: usize) -> u8
 }
 
 // A text from the left of its columns, filled with blanks.
+#[tactic(auto, using(crate::specs::Laws::Line::columns), unfolding(prelude::specs::Texts::contents))]
 fn put_left(s: &mut [u8], at: usize, width: usize, t: Text)
     requires { (at + width ≤ length s.old) × (width ≤ 32) }
     ensures { s.new ≡ splice s.old at (left width (contents t)) }
@@ -42,6 +44,7 @@ fn put_left(s: &mut [u8], at: usize, width: usize, t: Text)
 }
 
 // A quantity in its fourteen columns.
+#[tactic(auto, using(crate::specs::Laws::Line::quantity_room))]
 fn put_quantity(s: &mut [u8], at: usize, n: u64)
     requires { (at + 14 ≤ length s.old) × (n ≤ 10 ^ 12) }
     ensures { s.new ≡ splice s.old at (quantity n) }
@@ -66,6 +69,7 @@ fn put_line(s: &mut [u8], o: Order)
 }
 
 // The lines of the book's orders.
+#[tactic(auto, using(crate::specs::Laws::Call::turns))]
 fn put_lines(book: &Kept<'_>, out: &mut [u8])
     requires { 81 * order_count book.now.bytes.now ≤ length out.old }
     ensures { out.new ≡ splice out.old 0 (page_bytes (page_of (book_of book.now.bytes.now))) }
@@ -79,6 +83,7 @@ fn put_lines(book: &Kept<'_>, out: &mut [u8])
 
 // Prints the page to the front of `out`; the number is its length. Refuses a book that does not keep
 // its rules, then an `out` that is shorter than the page.
+#[tactic(auto, using(store::specs::Laws::Stored::count_most, crate::specs::Laws::Call::calls))]
 pub fn page(book: &[u8], out: &mut [u8]) -> Result<u32, Refusal>
     ensures { paged (counted_of result) out.new ≡ page_call book.now out.old }
 {

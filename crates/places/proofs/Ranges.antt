@@ -1,6 +1,6 @@
 -- The ranges of the code are those of the format's table, and no list has a code above a byte. Rests on Ranges and format's laws.
-use Rattle.std.specs.Prelude.{◌≡◌, refl, ℕ, zero, suc, ◌≤◌, Bool, true, false, List as Row, [], ◌∷◌, get_or}
-use Rattle.std.proofs.Common.{arith, rules}
+use Rattle.std.specs.Prelude.{List as Row}
+use Rattle.std.proofs.Common.{◌≡◌, refl, ℕ, zero, suc, ◌≤◌, Bool, true, false, [], ◌∷◌, get_or, arith, rules}
 use Rattle.prelude.specs.Cases.{if◌then◌otherwise◌}
 use Rattle.format.specs.Codes.{listed, is_side, is_ordtype, is_timeinforce, is_exectype, is_status, sides, ordtypes, timesinforce, exectypes, statuses}
 use Rattle.format.specs.Format.{Field, fields, range, in_range}

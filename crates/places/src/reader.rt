@@ -1,7 +1,8 @@
 // A reader over a record: the bytes, and how far it has read. Each function over it takes it apart
 // and calls the core, which has slice and number apart (`walk`). `next_at` and `left_at` stand above
-// them: their parameters are plain, so no caller sees a reader. That a position is below 131,072 stands at
-// each, since one that has read past a field may be 256 above it.
+// them: their parameters are plain, so no caller sees a reader. That a position is below 131,072 stands in
+// the contracts, since no ghost field of the reader could say it: one that has read past a field may stand
+// up to 256 further on, and how far it has come is for the loop of `walk` to say.
 ghost use Rattle.std.specs.Prelude.{◌≡◌, ◌<◌, ◌+◌, ◌-◌, ◌≤◌, length};
 ghost use Rattle.format.specs.Places.{next};
 

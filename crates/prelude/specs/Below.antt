@@ -1,16 +1,13 @@
 -- What a loop over the numbers below n answers: whether all pass a test, the first that does, and how many do. Rests on Cases.
 -- Each recurs at the end of its range, so that it meets a loop that counts up. A loop's invariant is `all_below p i ≡ true` or
 -- `first_below p i ≡ none`, and four laws carry it: at the start, one more, a miss or a hit, and done.
-use Rattle.std.specs.Prelude.{◌≡◌, Bool, true, ◌&&◌, ◌||◌, List, eqb, leb, length, get_or, set, Option, None, Some}
-use Rattle.std.proofs.Math.Path.{refl, ap, subst}
-use Rattle.std.proofs.Common.{sym, ◌∙◌, not-suc-le-zero, eq-or-lt_of_le, le_of_suc-le-suc, add-one, eq-eqb, ne_eqb, le-leb, get_or-set_same, get_or-set_other}
-use Rattle.std.proofs.Math.Bool.{false}
-use Rattle.std.proofs.Math.Logic.{⊎_elim}
-use Prim.Native.Nat.{ℕ, zero, suc, ◌+◌, ◌≤◌, ◌<◌}
+use Rattle.std.specs.Prelude.{◌≡◌, Bool, true, ◌&&◌, ◌||◌, List, eqb, leb, length, get_or, set, Option, None, Some, refl, false, ℕ, zero, suc, ◌+◌, ◌≤◌, ◌<◌}
+use Rattle.std.proofs.Common.{ap, subst, sym, ◌∙◌, not-suc-le-zero, eq-or-lt_of_le, le_of_suc-le-suc, add-one, eq-eqb, ne_eqb, le-leb, get_or-set_same, get_or-set_other, ⊎_elim, arith}
+use Rattle.std.proofs.Math.Bool.{and-false}
 use Rattle.std.proofs.Math.Decide.{ℕ_discrete, dec_lt}
-use native.Mathlib.Omega.{arith}
-use Rattle.std.proofs.lemmas.Bool.{lt-leb}
-use Rattle.prelude.specs.Cases.{if◌then◌otherwise◌, maybe, split_if, both_true, both_false, test_same}
+use Rattle.std.proofs.lemmas.Bool.{lt-leb, and_parts}
+use Rattle.std.specs.Cmp.{both_ways}
+use Rattle.prelude.specs.Cases.{if◌then◌otherwise◌, maybe, split_if}
 
 -- every number below n passes
 unfoldable pub all_below : (ℕ → Bool) → ℕ → Bool
@@ -41,7 +38,7 @@ module _ (p : ℕ → Bool) where
   all_miss zero i l h = absurd (not-suc-le-zero l)
   all_miss (suc n) i l h =
       ⊎_elim
-      (λ e. ap (λ (b : Bool). all_below p n && b) (ap p (sym e) ∙ h) ∙ both_false (all_below p n))
+      (λ e. ap (λ (b : Bool). all_below p n && b) (ap p (sym e) ∙ h) ∙ and-false (all_below p n))
       (λ k. ap (λ (a : Bool). a && p n) (all_miss n i k h))
       (eq-or-lt_of_le (le_of_suc-le-suc l))
 
@@ -52,7 +49,7 @@ module _ (p : ℕ → Bool) where
   unfolding all_below
   all_elim zero a k l = absurd (not-suc-le-zero l)
   all_elim (suc n) a k l =
-      let s : (all_below p n ≡ true) × (p n ≡ true) = both_true (all_below p n) (p n) a in
+      let s : (all_below p n ≡ true) × (p n ≡ true) = and_parts (all_below p n) (p n) a in
       ⊎_elim (λ e. ap p e ∙ s.1) (λ h. all_elim n s.0 k h) (eq-or-lt_of_le (le_of_suc-le-suc l))
 
   pub all_intro : (n : ℕ) → ((k : ℕ) → k < n → p k ≡ true) → all_below p n ≡ true
@@ -180,10 +177,7 @@ module _ (p : ℕ → Bool) (n : ℕ) where
 -- ---- tests that hold of all
 
 both_swap : (a b c d : Bool) → (a && b) && (c && d) ≡ (a && c) && (b && d)
-both_swap true true c d = refl
-both_swap true false true d = refl
-both_swap true false false d = refl
-both_swap false b c d = refl
+both_swap a b c d = grind arith
 
 pub all_both : (p q : ℕ → Bool) (n : ℕ) → all_below (λ k. p k && q k) n ≡ all_below p n && all_below q n
 unfolding all_below
@@ -200,7 +194,7 @@ until n p k = leb n k || p k
 
 pub all_until : (n : ℕ) (p : ℕ → Bool) (m : ℕ) → n ≤ m → all_below (until n p) m ≡ all_below p n
 all_until n p m h =
-    test_same (all_below (until n p) m) (all_below p n)
+    both_ways (all_below (until n p) m) (all_below p n)
     (λ e. all_intro p n (λ k l. rw (lt-leb n k l) at (all_elim (until n p) m e k (omega arith))))
     (λ e. all_intro (until n p) m (λ k l. go e k (dec_lt k n)))
   where

@@ -1,11 +1,11 @@
 -- Lists of bytes stay lists of bytes: parts of them, what is joined, written over, or the bytes of a number; and zeros. Rests on Number and Pieces.
 use Rattle.std.specs.Prelude.{◌≡◌, refl, List, [], ◌∷◌, ◌++◌, ℕ, zero, suc, ◌+◌, ◌/◌, ◌≤◌, ◌<◌, length, get_or, take, drop, replicate}
+use Rattle.std.proofs.Common.{arith, length-take, get_or-drop}
 use Rattle.std.proofs.Math.Decide.{dec_lt}
-use Rattle.std.proofs.Common.{arith, length-take}
 use Rattle.std.proofs.Math.ListN.{get_or-eq_default}
+use Rattle.std.specs.List.{concat}
 use Rattle.prelude.specs.Span.{span, splice, get_span}
 use Rattle.prelude.specs.Number.{Bytes, bytes_of}
-use Rattle.prelude.specs.Pieces.{joined}
 
 abbrev pub zeros : ℕ → List ℕ
 zeros n = replicate n 0
@@ -40,9 +40,7 @@ bytes_span s at n h k = go (dec_lt k n)
         rw (get_or-eq_default (take n (drop at s)) 0 m) (omega arith)
 
 pub bytes_drop : (s : List ℕ) (n : ℕ) → Bytes s → Bytes (drop n s)
-bytes_drop s zero h k = h k
-bytes_drop [] (suc n) h k = h k
-bytes_drop (x ∷ s) (suc n) h k = bytes_drop s n (λ i. h (suc i)) k
+bytes_drop s n h k = rw (get_or-drop n s k 0) (h (n + k))
 
 pub bytes_take : (s : List ℕ) (n : ℕ) → Bytes s → Bytes (take n s)
 unfolding span
@@ -65,6 +63,6 @@ abbrev pub AllBytes : List (List ℕ) → Type 0
 AllBytes [] = Unit {0}
 AllBytes (p ∷ ps) = Bytes p × AllBytes ps
 
-pub bytes_joined : (ps : List (List ℕ)) → AllBytes ps → Bytes (joined ps)
+pub bytes_joined : (ps : List (List ℕ)) → AllBytes ps → Bytes (concat ps)
 bytes_joined [] h k = omega arith
-bytes_joined (p ∷ ps) h k = bytes_append p (joined ps) h.0 (bytes_joined ps h.1) k
+bytes_joined (p ∷ ps) h k = bytes_append p (concat ps) h.0 (bytes_joined ps h.1) k

@@ -1,9 +1,11 @@
 -- Tests and cases: the words in which definitions choose, and the laws by which proofs follow them. Rests on the kit's library.
+-- Of `&&`, `||` and `not` the library has the laws (lemmas.Bool, Math.Bool); here are those of our own words, and `clash`, `none_some` and
+-- `same_some`, which take their facts in the form that proofs have.
 -- `if◌then◌otherwise◌` and `maybe` are shut, so that a proof opens one function at a time and finds the test by unification.
-use Rattle.std.specs.Prelude.{ℕ, ◌≡◌, ◌⊎◌, Bool, ◌&&◌, ◌||◌, Option, None, Some}
-use Rattle.std.proofs.Common.{arith, inl, inr}
-use Rattle.std.proofs.Math.Path.{refl}
-use Rattle.std.proofs.Math.Bool.{true, false}
+use Rattle.std.specs.Prelude.{◌≡◌, Bool, Option, None, Some, refl, true, false}
+use Rattle.std.proofs.lemmas.Bool.{both_ways as not_both}
+use Rattle.std.proofs.Common.{sym, ◌∙◌}
+use Rattle.std.proofs.lemmas.Option.{none-some, same_Some}
 
 module _ {A : Type 0} where
   infixr 10 if◌then◌otherwise◌
@@ -18,10 +20,6 @@ module _ {A B : Type 0} where
   maybe b f (Some a) = f a
 
 module _ {A : Type 0} where
-  abbrev pub is_some : Option A → Bool
-  is_some None = false
-  is_some (Some a) = true
-
   -- there is a value, and it passes the test
   abbrev pub some_and : (A → Bool) → Option A → Bool
   some_and p None = false
@@ -60,49 +58,15 @@ module _ {A : Type 0} (P : A → Type 0) where
   split_maybe None h k = h refl
   split_maybe (Some b) h k = k b refl
 
--- ---- tests joined
+-- ---- a test that is both
 
 pub clash : {A : Type 0} (b : Bool) → b ≡ true → b ≡ false → A
-clash b p q = let z : ◌≡◌ {A = ℕ} 0 1 = cc in absurd (omega arith)
-
-pub both_true : (a b : Bool) → a && b ≡ true → (a ≡ true) × (b ≡ true)
-both_true true b e = (refl, e)
-both_true false b e = clash false e refl
-
-pub both_hold : (a b : Bool) → a ≡ true → b ≡ true → a && b ≡ true
-both_hold a b p q = rw (p, q)
-
-pub both_false : (a : Bool) → a && false ≡ false
-both_false true = refl
-both_false false = refl
-
-pub either_false : (a b : Bool) → a || b ≡ false → (a ≡ false) × (b ≡ false)
-either_false true b e = clash true refl e
-either_false false b e = (refl, e)
-
-pub either_true : (a b : Bool) → a || b ≡ true → (a ≡ true) ⊎ (b ≡ true)
-either_true true b e = inl refl
-either_true false b e = inr e
-
-pub or_both : (a b : Bool) → a ≡ false → b ≡ false → a || b ≡ false
-or_both true b p q = p
-or_both false b p q = q
-
-pub true_or_false : (b : Bool) → (b ≡ true) ⊎ (b ≡ false)
-true_or_false true = inl refl
-true_or_false false = inr refl
-
--- two tests that hold together
-pub test_same : (a b : Bool) → (a ≡ true → b ≡ true) → (b ≡ true → a ≡ true) → a ≡ b
-test_same true true f g = refl
-test_same true false f g = clash false (f refl) refl
-test_same false true f g = clash false (g refl) refl
-test_same false false f g = refl
+clash b p q = absurd (not_both b q p)
 
 -- ---- options
 
 pub none_some : {A B : Type 0} {x : Option A} {a : A} → x ≡ None → x ≡ Some a → B
-none_some p q = let z : ◌≡◌ {A = ℕ} 0 1 = cc in absurd (omega arith)
+none_some p q = absurd (none-some _ (sym p ∙ q))
 
 pub same_some : {A : Type 0} {x : Option A} {a b : A} → x ≡ Some a → x ≡ Some b → a ≡ b
-same_some p q = cc
+same_some p q = same_Some _ _ (sym p ∙ q)

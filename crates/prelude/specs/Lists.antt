@@ -1,15 +1,12 @@
 -- The values of a function below n as a list: how a table of records meets a list of them. Rests on Below.
-use Rattle.std.specs.Prelude.{◌≡◌, Bool, set, Option}
-use Rattle.std.proofs.Math.Path.{refl, subst}
-use Rattle.std.proofs.Common.{sym, ap, ◌∙◌, not-suc-le-zero, eq-or-lt_of_le, le_of_suc-le-suc, arith, below_more, length-set, ext_get_or, get_or-set_same, get_or-set_other}
-use Rattle.std.proofs.Math.Logic.{⊎_elim}
-use mathlib.Core.List.{List, [], ◌∷◌, ◌++◌}
-use Prim.Native.Nat.{ℕ, zero, suc, ◌+◌, ◌≤◌, ◌<◌}
+-- std's `map f (range_with_len 0 n)` grows at its front; this list grows at its end, as a loop that counts up does.
+use Rattle.std.specs.Prelude.{◌≡◌, Bool, set, Option, refl, List, [], ◌∷◌, ◌++◌, ℕ, zero, suc, ◌+◌, ◌≤◌, ◌<◌, length, get_or}
+use Rattle.std.proofs.Common.{subst, sym, ap, ◌∙◌, not-suc-le-zero, eq-or-lt_of_le, le_of_suc-le-suc, arith, length-set, ext_get_or, get_or-set_same, get_or-set_other, ⊎_elim, add-one, length-append}
 use Rattle.std.proofs.Math.Decide.{ℕ_discrete, dec_lt}
-use Rattle.std.proofs.Math.Numerals.{add-one}
-use Rattle.std.proofs.Math.ListN.{length, get_or, length-append, get_or-append}
-use Rattle.std.proofs.lemmas.List.{get_or_at}
+use Rattle.std.proofs.Math.ListN.{get_or-append}
 use Rattle.std.proofs.Math.Seq.{set_out}
+use Rattle.std.proofs.lemmas.List.Edits.{fill_by_more}
+use Rattle.std.proofs.lemmas.List.{get_or_at}
 use Rattle.prelude.specs.Below.{all_below, first_below, count_below, all_ext, first_ext, count_ext}
 
 module _ {A : Type 0} where
@@ -98,7 +95,4 @@ module _ {A : Type 0} where
 -- a list that a loop fills by a rule, one store a turn
 pub fill : (f : ℕ → ℕ) (l : List ℕ) (b v : ℕ) → b < length l → v ≡ f b → ((k : ℕ) → k < b → get_or l k 0 ≡ f k)
     → (k : ℕ) → k < b + 1 → get_or (set l b v) k 0 ≡ f k
-fill f l b v h e below =
-    below_more (λ k. get_or (set l b v) k 0 ≡ f k) b
-    (λ k j. get_or-set_other l b k v 0 (λ q. absurd (omega (arith, q))) ∙ below k j)
-    (get_or-set_same l b v 0 h ∙ e)
+fill f l b v h e below = subst (λ (x : ℕ). (k : ℕ) → k < b + 1 → get_or (set l b x) k 0 ≡ f k) (sym e) (fill_by_more f l b 0 h below)

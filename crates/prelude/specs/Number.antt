@@ -1,4 +1,5 @@
--- Little-endian numbers: what bytes stand for, and the bytes of a number. Rests on Span.
+-- Little-endian numbers of any width: what bytes stand for, and the bytes of a number. Rests on Span. std's `from_le_bytes` and `to_le_bytes`
+-- have the widths of its types alone.
 use Rattle.std.specs.Prelude.{◌≡◌, refl, List, [], ◌∷◌, ℕ, zero, suc, ◌+◌, ◌*◌, ◌-◌, ◌/◌, ◌%◌, ◌≤◌, ◌<◌, length, get_or, drop}
 use Rattle.std.proofs.Common.{sym, ap, ◌∙◌, arith, drop-cons}
 use Rattle.std.proofs.Math.Numerals.{towards_suc}
@@ -39,7 +40,7 @@ pub number_bytes : (k n : ℕ) → n < bound k → number (bytes_of k n) ≡ n
 number_bytes zero n h = omega arith
 number_bytes (suc k) n h = let e : number (bytes_of k (n / 256)) ≡ n / 256 = number_bytes k (n / 256) (omega arith) in omega arith
 
--- each element of the list is a byte
+-- each element of the list is a byte, and so is the 0 past its end: std's `All` asks within the list alone
 abbrev pub Bytes : List ℕ → Type 0
 Bytes s = (k : ℕ) → get_or s k 0 < 256
 

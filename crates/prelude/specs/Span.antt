@@ -1,10 +1,12 @@
 -- A span of a buffer, and a splice into it: what records at fixed places and writers are made of. Rests on the kit's lists.
+-- std's words go by two ends (`slice_range`, `between`) or copy a front (`paste`); these go by an index and a length, as a layout does.
 use Rattle.std.specs.Prelude.{◌≡◌, refl, List, [], ◌∷◌, ◌++◌, ℕ, zero, suc, ◌+◌, ◌-◌, ◌≤◌, ◌<◌, length, take, drop, get_or, set, replicate}
 use Rattle.std.proofs.Common.{sym, ap, ◌∙◌, append_assoc, append-nil, add-zero, add-one, arith, length-append, length-take, length-drop, take-append-drop, drop_of_length-le, take_at, drop_at, drop-drop, length-take-le, take_all, drop-cons, get_or-drop, get_or-take, take-suc, take-suc-set, take-take, take-add, ext_get_or, get_or-append-add}
 use Rattle.std.proofs.Math.Decide.{dec_lt}
-use Rattle.std.proofs.lemmas.List.{length-replicate, get_or-replicate, take-append-le, drop-append-le, set_split}
 use Rattle.std.proofs.Math.ListN.{get_or-append}
-use Rattle.std.proofs.Math.Seq.{drop-append-add, paste, paste-suc}
+use Rattle.std.proofs.Math.Seq.{drop-append-add, paste}
+use Rattle.std.proofs.lemmas.List.Edits.{paste_more}
+use Rattle.std.proofs.lemmas.List.{length-replicate, get_or-replicate, take-append-le, drop-append-le, set_split}
 
 -- the n elements of s from index at
 unfoldable pub span : List ℕ → ℕ → ℕ → List ℕ
@@ -184,7 +186,7 @@ set_splice s at x h = set_split s at x h ∙ ap (λ (r : List ℕ). take at s ++
 -- one turn of a loop that copies w into d at index at
 pub copy_more : (d w : List ℕ) (at j : ℕ) → at + j < length d → j < length w
     → set (paste d at w j) (at + j) (get_or w j 0) ≡ paste d at w (j + 1)
-copy_more d w at j hd hs = paste-suc d at w j 0 hd hs ∙ ap (paste d at w) (sym (add-one j))
+copy_more d w at j = paste_more d at w j 0
 
 -- the loop has copied n
 pub copy_take : (d w : List ℕ) (at n : ℕ) → n ≤ length w → paste d at w n ≡ splice d at (take n w)

@@ -1,7 +1,8 @@
 -- A table of records of one size in a buffer: its laws, once for every kind of record. Rests on Span.
-use Rattle.std.specs.Prelude.{◌≡◌, ◌⊎◌, List, ℕ, suc, ◌+◌, ◌*◌, ◌≤◌, ◌<◌, length}
-use Rattle.std.proofs.Common.{ap, ◌∙◌, ⊎_elim, mul-le-mul_right, suc-mul, arith}
+use Rattle.std.specs.Prelude.{◌≡◌, ◌⊎◌, List, ℕ, ◌+◌, ◌*◌, ◌≤◌, ◌<◌, length}
+use Rattle.std.proofs.Common.{ap, ◌∙◌, ⊎_elim, arith, le_refl}
 use Rattle.std.proofs.Math.Decide.{dec_lt}
+use Rattle.std.proofs.lemmas.Nat.{row_fits}
 use Rattle.prelude.specs.Span.{span, splice, length_splice, span_splice_same, span_splice_before, span_splice_after}
 
 -- record i of the table at base, as dec reads it
@@ -14,10 +15,7 @@ put_row base size enc b i a = splice b (base + i * size) (enc a)
 
 -- a record ends where a later one begins, or before
 pub row_below : (i j size : ℕ) → i < j → i * size + size ≤ j * size
-row_below i j size h =
-    let e : suc i * size ≡ i * size + size = suc-mul i size in
-    let m : suc i * size ≤ j * size = mul-le-mul_right size h in
-    omega arith
+row_below i j size h = row_fits i size j size h (le_refl size)
 
 module _ {A : Type 0} (base size count : ℕ) (enc : A → List ℕ) (b : List ℕ) (room : base + count * size ≤ length b)
     (i : ℕ) (inside : i < count) (a : A) (sized : length (enc a) ≡ size) where

@@ -1,16 +1,13 @@
 -- Texts of 32 bytes: in a buffer, as the bytes that they hold, and their equality. Rests on Below and Span.
-use Rattle.std.specs.Prelude.{◌≡◌, refl, Bool, false, ◌&&◌, ◌||◌, List, ◌++◌, eqb, leb, ltb, take}
-use Rattle.std.proofs.Common.{sym, ◌∙◌, eqb-true, eq-eqb, leb-true, le-leb, lt-ltb, le-ltb, length-take, ext_get_or, length-take-le}
-use Rattle.std.proofs.Math.Path.{ap}
-use Rattle.std.proofs.Math.Bool.{true}
-use Prim.Native.Nat.{ℕ, ◌+◌, ◌-◌, ◌≤◌, ◌<◌}
+use Rattle.std.specs.Prelude.{◌≡◌, refl, Bool, false, ◌&&◌, ◌||◌, List, ◌++◌, eqb, leb, ltb, take, true, ℕ, ◌+◌, ◌-◌, ◌≤◌, ◌<◌, length, get_or, replicate}
+use Rattle.std.proofs.Common.{sym, ◌∙◌, eqb-true, eq-eqb, leb-true, le-leb, lt-ltb, le-ltb, length-take, ext_get_or, length-take-le, ap, arith, length-append, get_or-take, get_or-append-add, take_all, take-take}
 use Rattle.std.proofs.Math.Decide.{dec_lt}
-use native.Mathlib.Omega.{arith}
-use Rattle.std.proofs.Math.ListN.{length, get_or, replicate, length-append, get_or-replicate, get_or-append}
+use Rattle.std.proofs.Math.ListN.{get_or-replicate, get_or-append}
+use Rattle.std.proofs.Math.Seq.{take-append-le}
+use Rattle.std.proofs.lemmas.Bool.{and_parts, and_from}
 use Rattle.std.proofs.lemmas.List.{length-replicate}
-use Rattle.std.proofs.Math.Seq.{get_or-take, get_or-append-add, take-append-le, take_all, take-take}
+use Rattle.std.specs.Cmp.{both_ways}
 use Rattle.prelude.specs.Below.{all_below, all_elim, all_intro}
-use Rattle.prelude.specs.Cases.{both_true, both_hold, test_same}
 use Rattle.prelude.specs.Span.{span}
 use Rattle.prelude.specs.declared.Text.{Text}
 
@@ -51,7 +48,7 @@ pub record WholeText (t : Text) : Type 0 where
 pub same_text_lem : (a b : Text) → length a.bytes ≡ 32 → length b.bytes ≡ 32 → same_text a b ≡ true → a ≡ b
 unfolding same_text
 same_text_lem a b la lb e =
-    let s = both_true (eqb a.len b.len) (all_below (agree_at a.bytes b.bytes) 32) e in
+    let s = and_parts (eqb a.len b.len) (all_below (agree_at a.bytes b.bytes) 32) e in
     λ i. record {
       bytes =
           ext_get_or 0 a.bytes b.bytes (la ∙ sym lb)
@@ -74,33 +71,33 @@ agree_trans a b c k e f = eq-eqb (get_or a k 0) (get_or c k 0) (eqb-true (get_or
 pub same_back : (a b : Text) → same_text a b ≡ true → same_text b a ≡ true
 unfolding same_text
 same_back a b e =
-    let s = both_true (eqb a.len b.len) (all_below (agree_at a.bytes b.bytes) 32) e in
-    both_hold _ _ (eq-eqb b.len a.len (sym (eqb-true a.len b.len s.0)))
+    let s = and_parts (eqb a.len b.len) (all_below (agree_at a.bytes b.bytes) 32) e in
+    and_from _ _ (eq-eqb b.len a.len (sym (eqb-true a.len b.len s.0)))
     (all_intro (agree_at b.bytes a.bytes) 32 (λ k h. agree_sym a.bytes b.bytes k (all_elim (agree_at a.bytes b.bytes) 32 s.1 k h)))
 
 pub same_trans : (a b c : Text) → same_text a b ≡ true → same_text b c ≡ true → same_text a c ≡ true
 unfolding same_text
 same_trans a b c e f =
-    let s = both_true (eqb a.len b.len) (all_below (agree_at a.bytes b.bytes) 32) e in
-    let t = both_true (eqb b.len c.len) (all_below (agree_at b.bytes c.bytes) 32) f in
-    both_hold _ _ (eq-eqb a.len c.len (eqb-true a.len b.len s.0 ∙ eqb-true b.len c.len t.0))
+    let s = and_parts (eqb a.len b.len) (all_below (agree_at a.bytes b.bytes) 32) e in
+    let t = and_parts (eqb b.len c.len) (all_below (agree_at b.bytes c.bytes) 32) f in
+    and_from _ _ (eq-eqb a.len c.len (eqb-true a.len b.len s.0 ∙ eqb-true b.len c.len t.0))
     (all_intro (agree_at a.bytes c.bytes) 32
     (λ k h. agree_trans a.bytes b.bytes c.bytes k
     (all_elim (agree_at a.bytes b.bytes) 32 s.1 k h) (all_elim (agree_at b.bytes c.bytes) 32 t.1 k h)))
 
 pub same_sym : (a b : Text) → same_text a b ≡ same_text b a
-same_sym a b = test_same (same_text a b) (same_text b a) (same_back a b) (same_back b a)
+same_sym a b = both_ways (same_text a b) (same_text b a) (same_back a b) (same_back b a)
 
 -- a text may stand for its equal
 pub same_right : (a b c : Text) → same_text b c ≡ true → same_text a b ≡ same_text a c
-same_right a b c e = test_same (same_text a b) (same_text a c) (λ h. same_trans a b c h e) (λ h. same_trans a c b h (same_back b c e))
+same_right a b c e = both_ways (same_text a b) (same_text a c) (λ h. same_trans a b c h e) (λ h. same_trans a c b h (same_back b c e))
 
 pub same_left : (a b c : Text) → same_text a b ≡ true → same_text a c ≡ same_text b c
 same_left a b c e = same_sym a c ∙ same_right c a b e ∙ same_sym c b
 
 pub same_length : (a b : Text) → same_text a b ≡ true → a.len ≡ b.len
 unfolding same_text
-same_length a b e = eqb-true a.len b.len (both_true (eqb a.len b.len) (all_below (agree_at a.bytes b.bytes) 32) e).0
+same_length a b e = eqb-true a.len b.len (and_parts (eqb a.len b.len) (all_below (agree_at a.bytes b.bytes) 32) e).0
 
 -- ---- a text and the bytes that it holds
 
@@ -149,7 +146,7 @@ module _ (l : List ℕ) (short : length l ≤ 32) where
 pub text_contents : (t : Text) → length t.bytes ≡ 32 → is_text t ≡ true → text_of (contents t) ≡ t
 unfolding is_text contents text_of
 text_contents t long e =
-    let s = both_true (leb t.len 32) (all_below (filled_at t) 32) e in
+    let s = and_parts (leb t.len 32) (all_below (filled_at t) 32) e in
     let short : t.len ≤ 32 = leb-true t.len 32 s.0 in
     let n : length (take t.len t.bytes) ≡ t.len = length-take-le t.len t.bytes (omega arith) in
     let c : List ℕ = take t.len t.bytes in

@@ -1,9 +1,7 @@
--- Over the elements of a list: what they come to, and whether some, how many, which, and all of them pass. Rests on Cases.
-use Rattle.std.specs.Prelude.{ℕ, zero, suc, ◌+◌, ◌≤◌, ◌<◌, ◌≡◌, refl, ◌⊎◌, Bool, true, ◌||◌, length, get_or, set}
-use Rattle.std.proofs.Common.{sym, ◌∙◌, inl, inr, zero-add, not-suc-le-zero, le_of_suc-le-suc, arith}
-use Rattle.std.proofs.Math.Path.{ap}
-use Rattle.std.proofs.Math.Bool.{false}
-use mathlib.Core.List.{List, [], ◌∷◌, ◌++◌, append-nil}
+-- Over the elements of a list: what they come to, and how many, which, and whether all of them pass. Rests on Cases.
+-- std's `sum_by` and `count_by` are folds from the left, and its `filter` goes by `cond`; these compute at a list's head, by our `if`.
+use Rattle.std.specs.Prelude.{ℕ, zero, suc, ◌+◌, ◌≤◌, ◌<◌, ◌≡◌, refl, ◌⊎◌, Bool, true, length, get_or, set, false, List, [], ◌∷◌, ◌++◌}
+use Rattle.std.proofs.Common.{sym, ◌∙◌, inl, inr, zero-add, not-suc-le-zero, le_of_suc-le-suc, arith, ap, append-nil}
 use Rattle.prelude.specs.Cases.{if◌then◌otherwise◌, split_if}
 
 module _ {A : Type 0} where
@@ -11,11 +9,6 @@ module _ {A : Type 0} where
   abbrev pub total_of : (A → ℕ) → List A → ℕ
   total_of f [] = 0
   total_of f (x ∷ xs) = f x + total_of f xs
-
-  -- one of them passes the test
-  abbrev pub some_of : (A → Bool) → List A → Bool
-  some_of f [] = false
-  some_of f (x ∷ xs) = f x || some_of f xs
 
   -- how many pass the test, and which
   abbrev pub how_many : (A → Bool) → List A → ℕ
@@ -46,6 +39,10 @@ module _ {A : Type 0} where
   pub every_map : {P Q : A → Type 0} {l : List A} → ((x : A) → P x → Q x) → Every P l → Every Q l
   every_map h every[] = every[]
   every_map h (every∷ p ps) = every∷ (h _ p) (every_map h ps)
+
+  pub every_append : {P : A → Type 0} {s t : List A} → Every P s → Every P t → Every P (s ++ t)
+  every_append every[] q = q
+  every_append (every∷ p ps) q = every∷ p (every_append ps q)
 
   pub those_append : (f : A → Bool) (s t : List A) → those f (s ++ t) ≡ those f s ++ those f t
   those_append f [] t = refl

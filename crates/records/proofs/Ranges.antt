@@ -1,7 +1,6 @@
 -- The first bytes of a list and what is behind them, as ranges of a slice give them. Assumes nothing.
-use Rattle.std.proofs.Common.{◌≡◌, ℕ, ◌≤◌, ◌<◌, ◌+◌, ◌-◌, min, List, length, take, drop, refl, arith, take-take, length-drop, length-take, take_all, drop_of_length-le}
+use Rattle.std.proofs.Common.{◌≡◌, ℕ, ◌≤◌, ◌<◌, ◌+◌, ◌-◌, min, List, length, take, drop, refl, arith, length-drop, take_all, drop_of_length-le, get_or}
 use Rattle.std.proofs.Math.Decide.{dec_le}
-use Rattle.std.proofs.Common.{get_or}
 use Rattle.prelude.specs.Span.{length_span}
 use Rattle.format.specs.Laws.Seen.{Rising, between}
 
@@ -25,15 +24,6 @@ rest_bytes n l = go (dec_le n (length l))
         let e : min (length l) n ≡ length l = omega arith in
         let z : length l - length l ≡ 0 = omega arith in
         rw (e, z, drop_of_length-le l {i = n} (omega arith)) refl
-
-pub cut_bytes : (n k : ℕ) (l : List ℕ) → take (min k n) l ≡ take n (take k l)
-cut_bytes n k l = go (dec_le n k)
-  where
-    go : Dec (n ≤ k) → take (min k n) l ≡ take n (take k l)
-    go (yes h) = let e : min k n ≡ n = omega arith in rw (e, take-take n k l h) refl
-    go (no h) =
-        let e : min k n ≡ k = omega arith in
-        rw (e, take_all n (take k l) (simp length-take (omega arith))) refl
 
 -- what stands between two places is as long as they are apart
 pub long_between : {s at : List ℕ} → Rising s at → (b n : ℕ) → b < 32 → get_or at (b + 1) 0 - get_or at b 0 ≤ n → length (between s at b) ≤ n

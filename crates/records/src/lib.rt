@@ -1,17 +1,15 @@
-// Events and messages: the record, read and written. Rests on format and places; the modules `fields`,
-// `scan`, `take` and `put` do the work, and `parts` gives a message in place.
+// Events and messages: the record, read and written. Rests on format and places; the modules `shape`,
+// `fields`, `scan`, `take` and `put` do the work, and `parts` gives a message in place.
 #![tactic(auto)]
 
 ghost use Rattle.std.specs.Prelude.{◌≡◌, [], true, false, ◌<◌, ◌+◌, ◌≤◌, leb, length, IfOk, IfErr};
 ghost use Rattle.prelude.specs.Span.{splice};
 ghost use Rattle.prelude.specs.Cases.{if◌then◌otherwise◌};
 ghost use Rattle.prelude.specs.Refusal.{number_of};
-ghost use Rattle.prelude.specs.declared.Refusal.TheVariants.{BadRecord, OutOfRange};
-ghost use Rattle.format.specs.Places.{shaped};
-ghost use Rattle.format.specs.Refusal.{name_in, ranged, message_shaped, event_refusal};
-ghost use Rattle.format.specs.Laws.Seen.{Rising, between};
+ghost use Rattle.prelude.specs.declared.Refusal.TheVariants.{OutOfRange};
+ghost use Rattle.format.specs.Refusal.{name_in, ranged, event_refusal};
 ghost use Rattle.records.specs.Record.{record_bytes, record_at, event_in};
-ghost use Rattle.records.specs.Laws.Seen.{Shapes, Numbered, MessagesIn, refusal_from};
+ghost use Rattle.records.specs.Laws.Seen.{Numbered, MessagesIn, refusal_from};
 ghost use Rattle.records.specs.Answer.{head_size, head_bytes, answer_bytes, chosen, count_in, answer_refusal, messages_of, ReadsAnswer};
 
 use format::codes;
@@ -21,7 +19,10 @@ mod fields;
 pub mod parts;
 mod put;
 mod scan;
+mod shape;
 mod take;
+
+use shape::Shape;
 
 // The head of an answer: its length in 2 bytes, how many messages, the alarm, the second alarm.
 pub const HEAD: usize = 5;
@@ -120,72 +121,19 @@ pub struct Answer {
     pub messages: Messages,
 }
 
-// The shape of a record: where it starts, its map, and where its fields start (and at 32 where it ends).
-#[derive(Clone, Copy)]
-struct Shape {
-    start: usize,
-    map: u32,
-    at: [usize; 33],
-}
-
-impl Shape {
-    // The bytes of field b, none where its bit does not stand.
-    fn field<'a>(&self, s: &'a [u8], b: usize) -> &'a [u8]
-        requires { (b < 32) × Rising s.now self.now.at }
-        ensures { result.now ≡ between s.now self.now.at b }
-    {
-        &s[self.at[b]..self.at[b + 1]]
-    }
-}
-
-// The shape of the record that starts at o, if it has one.
-fn shape_at(s: &[u8], o: usize) -> Result<Shape, Refusal>
-    requires { o < 65536 }
-    ensures ok { IfOk result (λ shape. (shape.start ≡ o) × Shapes s.now shape) }
-    ensures err { IfErr result (λ r. (shaped s.now o ≡ false) × (r ≡ BadRecord)) }
-{
-    if places::left_at(s, o) < 5 {
-        return Err(Refusal::BadRecord);
-    }
-    let p = o + 1;
-    let map = words::get32(&s[p..p + 4]);
-    if !format::bits_right(s[o], map) {
-        return Err(Refusal::BadRecord);
-    }
-    let at = places::starts(s, map, o);
-    if s.len() < at[32] {
-        return Err(Refusal::BadRecord);
-    }
-    Ok(Shape { start: o, map, at })
-}
-
-// The same of a message.
-fn message_shape(s: &[u8], o: usize) -> Result<Shape, Refusal>
-    requires { o < 65536 }
-    ensures ok { IfOk result (λ shape. (shape.start ≡ o) × (message_shaped s.now o ≡ true) × Shapes s.now shape) }
-    ensures err { IfErr result (λ r. (message_shaped s.now o ≡ false) × (r ≡ BadRecord)) }
-{
-    let shape = shape_at(s, o)?;
-    if s[o] < codes::REPORT {
-        return Err(Refusal::BadRecord);
-    }
-    Ok(shape)
-}
-
 fn name_in_map(map: u32, name: Text) -> bool
     ensures { result ≡ name_in map name }
 {
     !bits::has(map, 2) || format::name_ok(name)
 }
 
-// The numbers in the fields of a record that has shape, if each field is in its range.
-fn numbers_in(s: &[u8], shape: &Shape) -> Result<[u64; 32], Refusal>
-    requires { Shapes s.now shape.now }
-    ensures ok { IfOk result (Numbered s.now shape.now) }
-    ensures err { IfErr result (λ r. (ranged s.now shape.now.start ≡ false) × (r ≡ OutOfRange)) }
+// The numbers in the fields of a record, if each field is in its range.
+fn numbers_in(shape: &Shape<'_>) -> Result<[u64; 32], Refusal>
+    ensures ok { IfOk result (Numbered shape.now.bytes.now shape.now.start) }
+    ensures err { IfErr result (λ r. (ranged shape.now.bytes.now shape.now.start ≡ false) × (r ≡ OutOfRange)) }
 {
-    let numbers = scan::values(s, shape)?;
-    let name = take::text_in(shape.field(s, 2));
+    let numbers = scan::values(shape)?;
+    let name = take::text_in(shape.field(2));
     if name_in_map(shape.map, name) {
         Ok(numbers)
     } else {
@@ -194,13 +142,12 @@ fn numbers_in(s: &[u8], shape: &Shape) -> Result<[u64; 32], Refusal>
 }
 
 // The record that has this shape, if each of its fields is in its range.
-fn record_in(s: &[u8], shape: &Shape) -> Result<Record, Refusal>
-    requires { Shapes s.now shape.now }
-    ensures ok { IfOk result (λ r. (ranged s.now shape.now.start ≡ true) × (r ≡ record_at s.now shape.now.start)) }
-    ensures err { IfErr result (λ r. (ranged s.now shape.now.start ≡ false) × (r ≡ OutOfRange)) }
+fn record_in(shape: &Shape<'_>) -> Result<Record, Refusal>
+    ensures ok { IfOk result (λ r. (ranged shape.now.bytes.now shape.now.start ≡ true) × (r ≡ record_at shape.now.bytes.now shape.now.start)) }
+    ensures err { IfErr result (λ r. (ranged shape.now.bytes.now shape.now.start ≡ false) × (r ≡ OutOfRange)) }
 {
-    let numbers = numbers_in(s, shape)?;
-    Ok(take::built(s, s[shape.start], shape, &numbers))
+    let numbers = numbers_in(shape)?;
+    Ok(take::built(shape, &numbers))
 }
 
 // An event, from a slice that is one whole record.
@@ -208,11 +155,11 @@ pub fn read_event(s: &[u8]) -> Result<Record, Refusal>
     ensures ok { IfOk result (λ e. (event_refusal s.now ≡ 0) × (e ≡ event_in s.now)) }
     ensures err { IfErr result (λ r. number_of r ≡ event_refusal s.now) }
 {
-    let shape = shape_at(s, 0)?;
-    if codes::EVENT_GATEWAY_CANCEL < s[0] || shape.at[32] != s.len() {
+    let shape = Shape::new(s, 0)?;
+    if codes::EVENT_GATEWAY_CANCEL < shape.kind() || shape.end() != s.len() {
         return Err(Refusal::BadRecord);
     }
-    record_in(s, &shape)
+    record_in(&shape)
 }
 
 // Writes a record at o, and returns the position after it.
@@ -239,6 +186,7 @@ fn write_none(answer: &mut [u8], alarm: u8, alarm2: u8) -> u32
     ensures { (result ≡ length (answer_bytes alarm alarm2 [])) × (answer.new ≡ splice answer.old 0 (answer_bytes alarm alarm2 [])) }
 {
     put_head(answer, HEAD, 0, alarm, alarm2);
+    // 5, by `as` like the lengths below.
     HEAD as u32
 }
 
@@ -290,11 +238,11 @@ fn read_one(a: &[u8]) -> Result<Messages, Refusal>
     ensures ok { IfOk result (MessagesIn a.now 1) }
     ensures err { IfErr result (λ r. number_of r ≡ refusal_from a.now 1) }
 {
-    let first = message_shape(a, HEAD)?;
-    if first.at[32] != a.len() {
+    let first = Shape::of_message(a, HEAD)?;
+    if first.end() != a.len() {
         return Err(Refusal::BadRecord);
     }
-    Ok(Messages::One(record_in(a, &first)?))
+    Ok(Messages::One(record_in(&first)?))
 }
 
 // The two messages behind the head of an answer. The shapes of both come before a range of one.
@@ -303,12 +251,12 @@ fn read_two(a: &[u8]) -> Result<Messages, Refusal>
     ensures ok { IfOk result (MessagesIn a.now 2) }
     ensures err { IfErr result (λ r. number_of r ≡ refusal_from a.now 2) }
 {
-    let first = message_shape(a, HEAD)?;
-    let second = message_shape(a, first.at[32])?;
-    if second.at[32] != a.len() {
+    let first = Shape::of_message(a, HEAD)?;
+    let second = Shape::of_message(a, first.end())?;
+    if second.end() != a.len() {
         return Err(Refusal::BadRecord);
     }
-    Ok(Messages::Two(record_in(a, &first)?, record_in(a, &second)?))
+    Ok(Messages::Two(record_in(&first)?, record_in(&second)?))
 }
 
 // The messages behind the head of an answer that says how many they are.

@@ -4,12 +4,14 @@ ghost use Rattle.records.specs.Parts.{PartsOf, parts_refusal};
 ghost use Rattle.prelude.specs.Refusal.{number_of};
 ghost use Rattle.std.specs.Prelude.{◌≡◌, IfOk, IfErr};
 
+use crate::shape::Shape;
 use crate::take;
 use prelude::Refusal;
 
 // A message's map, where its fields start (and at 32 where it ends), the number of each field (of a
 // text its length), and the upper word of the fill price. Two arrays by field, not one of structs: `at`
-// has one entry more, and is the record's shape as it was found.
+// has one entry more, and is the record's shape as it was found. And no methods by field: fix's contracts
+// speak of the arrays, and a method would say of the same index what the array says.
 #[derive(Clone, Copy)]
 pub struct Parts {
     pub map: u32,
@@ -23,12 +25,12 @@ pub fn message_parts(s: &[u8]) -> Result<Parts, Refusal>
     ensures ok { IfOk result (PartsOf s.now) }
     ensures err { IfErr result (λ r. number_of r ≡ parts_refusal s.now) }
 {
-    let shape = crate::message_shape(s, 0)?;
-    if shape.at[32] != s.len() {
+    let shape = Shape::of_message(s, 0)?;
+    if shape.end() != s.len() {
         return Err(Refusal::BadRecord);
     }
-    let numbers = crate::numbers_in(s, &shape)?;
-    let high = take::high_in(shape.field(s, 26));
+    let numbers = crate::numbers_in(&shape)?;
+    let high = take::high_in(shape.field(26));
     Ok(Parts {
         map: shape.map,
         at: shape.at,

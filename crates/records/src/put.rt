@@ -1,11 +1,11 @@
 // The fields of a record, written one behind the other. Rests on fields and format.
-ghost use Rattle.std.specs.Prelude.{◌≡◌, ◌∷◌, ◌<◌, ◌+◌, ◌≤◌, length};
+ghost use Rattle.std.specs.Prelude.{◌≡◌, ◌∷◌, ◌<◌, ◌+◌, ◌≤◌, length, take};
 ghost use Rattle.prelude.specs.Span.{splice};
 ghost use Rattle.format.specs.Wire.{field_bytes, body};
-ghost use Rattle.records.specs.Fields.{numbers_of, text_by, short_bytes, long_bytes, held};
+ghost use Rattle.records.specs.Fields.{numbers_of, text_by, held};
 
 use crate::fields::{put_number, put_text};
-use crate::{Ids, LongText, Record};
+use crate::{Ids, Record};
 use prelude::Text;
 
 // The number of each bit.
@@ -63,21 +63,13 @@ fn text_of(ids: &Ids, b: usize) -> &Text
     }
 }
 
-// For `Text`, and below for `LongText`: the definitions have both types, and theorems stand on them.
-fn put_short(dst: &mut [u8], at: usize, t: &Text) -> usize
-    requires { at + 1 + length (short_bytes t.now) ≤ length dst.old }
-    ensures { (result ≡ at + 1 + length (short_bytes t.now)) × (dst.new ≡ splice dst.old at (length (short_bytes t.now) ∷ short_bytes t.now)) }
+// Writes the text that stands at the front of these bytes, at most as many as they are.
+fn put_front(dst: &mut [u8], at: usize, bytes: &[u8], len: u8) -> usize
+    requires { at + 1 + length (take len bytes.now) ≤ length dst.old }
+    ensures { (result ≡ at + 1 + length (take len bytes.now)) × (dst.new ≡ splice dst.old at (length (take len bytes.now) ∷ take len bytes.now)) }
 {
-    let n = usize::from(t.len).min(32);
-    put_text(dst, at, &t.bytes[..n])
-}
-
-fn put_long(dst: &mut [u8], at: usize, t: &LongText) -> usize
-    requires { at + 1 + length (long_bytes t.now) ≤ length dst.old }
-    ensures { (result ≡ at + 1 + length (long_bytes t.now)) × (dst.new ≡ splice dst.old at (length (long_bytes t.now) ∷ long_bytes t.now)) }
-{
-    let n = usize::from(t.len).min(64);
-    put_text(dst, at, &t.bytes[..n])
+    let n = usize::from(len).min(bytes.len());
+    put_text(dst, at, &bytes[..n])
 }
 
 // Writes field b, if its bit stands, and returns the position after it. The bit is below 32: `try_from`
@@ -92,9 +84,10 @@ fn put_field(dst: &mut [u8], at: usize, r: &Record, numbers: &[u64; 32], b: usiz
     let n = places::size_of(b);
     if n == 255 {
         if b == 20 {
-            return put_long(dst, at, &r.text);
+            return put_front(dst, at, &r.text.bytes, r.text.len);
         }
-        return put_short(dst, at, text_of(&r.ids, b));
+        let text = text_of(&r.ids, b);
+        return put_front(dst, at, &text.bytes, text.len);
     }
     let v = numbers[b];
     if n <= 8 {

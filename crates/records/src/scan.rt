@@ -1,13 +1,13 @@
 // The numbers in a record's fields, and whether they are in range. Rests on places and fields.
-ghost use Rattle.std.specs.Prelude.{◌≡◌, true, false, ℕ, ◌<◌, length, get_or, Ok, Err, IfOk, IfErr};
+ghost use Rattle.std.specs.Prelude.{◌≡◌, true, false, ◌<◌, IfOk, IfErr};
 ghost use Rattle.prelude.specs.Below.{all_below};
 ghost use Rattle.prelude.specs.declared.Refusal.TheVariants.{OutOfRange};
 ghost use Rattle.format.specs.Places.{strip, value};
-ghost use Rattle.format.specs.Laws.Seen.{Rising, held_at, right_in};
+ghost use Rattle.format.specs.Laws.Seen.{right_in};
 ghost use Rattle.records.specs.Laws.Seen.{Scanned, held_field, right_field};
 
-use crate::Shape;
 use crate::fields::number_in;
+use crate::shape::Shape;
 use places::{may_hold, size_of};
 use prelude::Refusal;
 
@@ -42,14 +42,13 @@ fn checked(map: u32, b: usize, field: &[u8]) -> Result<u64, Refusal>
 }
 
 // The numbers of all fields, of a text its length, if all are in range.
-pub(crate) fn values(s: &[u8], shape: &Shape) -> Result<[u64; 32], Refusal>
-    requires { Rising s.now shape.now.at }
-    ensures ok { IfOk result (Scanned s.now shape.now) }
-    ensures err { IfErr result (λ r. (all_below (right_in s.now shape.now.map shape.now.at) 32 ≡ false) × (r ≡ OutOfRange)) }
+pub(crate) fn values(shape: &Shape<'_>) -> Result<[u64; 32], Refusal>
+    ensures ok { IfOk result (Scanned shape.now.bytes.now shape.now.map shape.now.at) }
+    ensures err { IfErr result (λ r. (all_below (right_in shape.now.bytes.now shape.now.map shape.now.at) 32 ≡ false) × (r ≡ OutOfRange)) }
 {
     let mut numbers = [0u64; 32];
     for b in 0..32 {
-        numbers[b] = checked(shape.map, b, shape.field(s, b))?;
+        numbers[b] = checked(shape.map, b, shape.field(b))?;
     }
     Ok(numbers)
 }

@@ -1,41 +1,43 @@
 // The parts of a record, taken from the bytes of its fields. Their numbers fit (`Narrow`), and so do the
 // lengths of texts: by `as`, since `try_from` would have branches that nothing takes. Rests on fields.
-ghost use Rattle.std.specs.Prelude.{◌≡◌, ◌≤◌, length, drop};
+ghost use Rattle.std.specs.Prelude.{◌≡◌, ◌+◌, ◌<◌, ◌≤◌, ◌++◌, length, take, drop, replicate};
 ghost use Rattle.prelude.specs.Number.{number};
 ghost use Rattle.prelude.specs.Texts.{text_of};
-ghost use Rattle.format.specs.Laws.Seen.{Rising};
+ghost use Rattle.format.specs.Places.{kind_at};
 ghost use Rattle.records.specs.Fields.{long_of, ids_of, record_from};
 ghost use Rattle.records.specs.Laws.Seen.{Short, Narrow, tail_at, built_from};
 
-use crate::{Exec, Ids, LongText, Record, Shape, Told};
+use crate::shape::Shape;
+use crate::{Exec, Ids, LongText, Record, Told};
 use prelude::{Terms, Text};
 
-// The text behind a field's length byte; an absent field holds none.
+// The bytes behind a field's length byte, with zeros behind them, and how many they are; an absent field
+// holds none.
+fn filled<const N: usize>(field: &[u8]) -> ([u8; N], u8)
+    requires { (length field.now ≤ N + 1) × (N < 256) }
+    ensures { (result.0 ≡ take N (drop 1 field.now ++ replicate N 0)) × (result.1 ≡ length (drop 1 field.now)) }
+{
+    let text = &field[field.len().min(1)..];
+    let mut bytes = [0u8; N];
+    bytes[..text.len()].copy_from_slice(text);
+    (bytes, text.len() as u8)
+}
+
+// The text in a field.
 pub(crate) fn text_in(field: &[u8]) -> Text
     requires { length field.now ≤ 33 }
     ensures { result ≡ text_of (drop 1 field.now) }
 {
-    let text = &field[field.len().min(1)..];
-    let mut bytes = [0u8; 32];
-    bytes[..text.len()].copy_from_slice(text);
-    Text {
-        bytes,
-        len: text.len() as u8,
-    }
+    let (bytes, len) = filled(field);
+    Text { bytes, len }
 }
 
-// The same as a `LongText`: the definitions have both types, and theorems stand on them.
 fn long_in(field: &[u8]) -> LongText
     requires { length field.now ≤ 65 }
     ensures { result ≡ long_of (drop 1 field.now) }
 {
-    let text = &field[field.len().min(1)..];
-    let mut bytes = [0u8; 64];
-    bytes[..text.len()].copy_from_slice(text);
-    LongText {
-        bytes,
-        len: text.len() as u8,
-    }
+    let (bytes, len) = filled(field);
+    LongText { bytes, len }
 }
 
 // The second word of a number.
@@ -46,18 +48,18 @@ pub(crate) fn high_in(field: &[u8]) -> u64
     crate::fields::number_in(&field[field.len().min(8)..])
 }
 
-fn ids_in(s: &[u8], shape: &Shape) -> Ids
-    requires { Rising s.now shape.now.at × Short shape.now.at }
-    ensures { result ≡ ids_of (tail_at s.now shape.now.at) }
+fn ids_in(shape: &Shape<'_>) -> Ids
+    requires { Short shape.now.at }
+    ensures { result ≡ ids_of (tail_at shape.now.bytes.now shape.now.at) }
 {
     Ids {
-        name: text_in(shape.field(s, 2)),
-        clordid: text_in(shape.field(s, 3)),
-        origclordid: text_in(shape.field(s, 4)),
-        downstream: text_in(shape.field(s, 5)),
-        symbol: text_in(shape.field(s, 6)),
-        venueorderid: text_in(shape.field(s, 18)),
-        origdownstream: text_in(shape.field(s, 30)),
+        name: text_in(shape.field(2)),
+        clordid: text_in(shape.field(3)),
+        origclordid: text_in(shape.field(4)),
+        downstream: text_in(shape.field(5)),
+        symbol: text_in(shape.field(6)),
+        venueorderid: text_in(shape.field(18)),
+        origdownstream: text_in(shape.field(30)),
     }
 }
 
@@ -101,13 +103,13 @@ fn record_from(kind: u8, map: u32, n: &[u64; 32], high: u64, ids: Ids, text: Lon
     }
 }
 
-// The record of a kind whose fields stand in s, and whose numbers are these.
-pub(crate) fn built(s: &[u8], kind: u8, shape: &Shape, n: &[u64; 32]) -> Record
-    requires { Rising s.now shape.now.at × Short shape.now.at × Narrow n.now }
-    ensures { result ≡ built_from s.now kind shape.now.map shape.now.at n.now }
+// The record that has this shape and these numbers.
+pub(crate) fn built(shape: &Shape<'_>, n: &[u64; 32]) -> Record
+    requires { Short shape.now.at × Narrow n.now }
+    ensures { result ≡ built_from shape.now.bytes.now (kind_at shape.now.bytes.now shape.now.start) shape.now.map shape.now.at n.now }
 {
-    let ids = ids_in(s, shape);
-    let text = long_in(shape.field(s, 20));
-    let high = high_in(shape.field(s, 26));
-    record_from(kind, shape.map, n, high, ids, text)
+    let ids = ids_in(shape);
+    let text = long_in(shape.field(20));
+    let high = high_in(shape.field(26));
+    record_from(shape.kind(), shape.map, n, high, ids, text)
 }

@@ -69,7 +69,7 @@ fn read_sized<R: Read>(input: &mut R, space: &mut [u8; 65536]) -> io::Result<usi
 fn event<R: Read>(input: &mut R, tally: &mut Tally, book: &mut [u8]) -> io::Result<()> {
     let mut record = [0u8; 65536];
     let size = read_sized(input, &mut record)?;
-    // By `as`: std has no `From<u32>` for usize.
+    // By `as`: std has no `From<u32>` for usize, and `try_from` would have a branch that nothing takes.
     let room = u32::from_le_bytes(input::read_padded(input)?).min(65536) as usize;
     let mut space = [FILL; 65536];
     let answer = &mut space[..room];

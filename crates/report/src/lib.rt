@@ -47,7 +47,7 @@ pub fn unknown_at_venue(known: &Known, e: Record) -> Change
     if o.venue != e.venue || order::is_done(o.state.status) || o.links.current != known.link {
         return change::unchanged(place, o);
     }
-    change::raising(Alarm::UnknownAtVenue, place, o)
+    change::raising(Alarm::UnknownAtVenue.number(), place, o)
 }
 
 // The status is Rejected, or the ExecType is, with some status.
@@ -132,7 +132,7 @@ fn dropped_stale(known: &Known, e: Record) -> Change
     let o = known.order;
     let place = known.findings.place;
     if order::is_done(o.state.status) && o.state.cumqty < e.exec.cumqty {
-        return change::raising(Alarm::FillOnDoneOrder, place, o);
+        return change::raising(Alarm::FillOnDoneOrder.number(), place, o);
     }
     change::unchanged(place, o)
 }
@@ -366,7 +366,7 @@ fn venue_report(known: &Known, e: Record) -> Change
     }
     let most = ordered_qty(accepts(known, e), o);
     if most < e.exec.cumqty.max(o.state.cumqty) {
-        return change::raising(Alarm::Overfill, place, o);
+        return change::raising(Alarm::Overfill.number(), place, o);
     }
     apply_report(most, known, e)
 }

@@ -1,6 +1,6 @@
 // What stands beside one request, in place: its outcome beside its mark, and its OrigClOrdID
 // with the link beside it. A struct of request and order would be made and taken apart again for each
-// request, as in `numbers`. Rests on words, outcomes and cells.
+// request, as in `numbers`. Rests on outcomes and cells.
 ghost use Rattle.std.specs.Prelude.{◌≡◌, ℕ, ◌<◌, true, ◌&&◌};
 ghost use Rattle.prelude.specs.Texts.{is_text};
 ghost use Rattle.store.specs.Layout.{most_requests};
@@ -10,11 +10,11 @@ ghost use Rattle.rules.specs.Laws.Beside.{link_at};
 ghost use Rattle.rules.specs.Laws.Origin.{origin_here};
 
 use crate::book::Bytes;
-use crate::cells::{filled, same_at};
+use crate::cells::{filled, same_at, u16_at};
 use store::{kinds, layout};
-use words::u16_at;
 
 // Outcome 0 exactly where request k is unanswered, and at most 3.
+#[tactic(auto, using(crate::proofs::Fields::request_fields, crate::specs::Laws::Beside::outcome_mark), unfolding(machine::specs::Changes::is_answered, outcomes::specs::Outcomes::outcome_rule))]
 fn outcome_ok(book: &Bytes, k: usize) -> bool
     requires { k < most_requests }
     ensures { result ≡ outcome_rule (request_at book.now k) (outcome_at book.now k) }
@@ -26,6 +26,7 @@ fn outcome_ok(book: &Bytes, k: usize) -> bool
 }
 
 // The link of request k of order o, which has an OrigClOrdID.
+#[tactic(auto, using(crate::proofs::Fields::request_fields), unfolding(crate::specs::Laws::Beside::link_at))]
 fn link_ok(book: &Bytes, k: usize, o: usize, link: u16) -> bool
     requires { (k < most_requests) × ((request_at book.now k).order ≡ o) }
     ensures { result ≡ link_at book.now k link }
@@ -47,6 +48,7 @@ fn link_ok(book: &Bytes, k: usize, o: usize, link: u16) -> bool
 
 // The OrigClOrdID of request k of order o. One that is there is the same as a ClOrdID before it, which is
 // in range, and so needs no look at its own zeros.
+#[tactic(auto, using(crate::proofs::Fields::request_fields, crate::specs::Laws::Origin::origin_empty, crate::specs::Laws::Origin::origin_absent, crate::specs::Laws::Origin::origin_linked, crate::specs::Laws::Origin::linked_text), unfolding(machine::specs::Changes::is_first, machine::specs::Changes::is_gateway, crate::specs::Laws::Origin::origin_here))]
 fn origin_ok(book: &Bytes, k: usize, o: usize) -> bool
     requires { (k < most_requests) × ((request_at book.now k).order ≡ o) × ((i : ℕ) → i < k → is_text (request_at book.now i).clordid ≡ true) }
     ensures { result ≡ origin_here book.now k }

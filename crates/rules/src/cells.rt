@@ -1,15 +1,41 @@
 // Words and texts at an index of a book, by words and parts: two texts compared, the zeros behind
 // one, and its cell. A type for an index with 33 bytes behind it would have to be made at each call, and
 // taken apart for each byte: the fact stands in the contracts. Rests on words and text.
-ghost use Rattle.std.specs.Prelude.{◌≡◌, ◌+◌, ◌<◌, ◌≤◌, ◌==◌};
+ghost use Rattle.std.specs.Prelude.{◌≡◌, ◌+◌, ◌<◌, ◌≤◌, ◌==◌, length};
 ghost use Rattle.prelude.specs.Below.{all_below};
-ghost use Rattle.prelude.specs.Number.{word64};
+ghost use Rattle.prelude.specs.Number.{word16, word32, word64};
 ghost use Rattle.prelude.specs.Texts.{text_at, same_text, is_text};
 ghost use Rattle.store.specs.Layout.{book_size};
 ghost use Rattle.rules.specs.Laws.Places.{pair_agrees, cell, zero_at};
 
 use crate::book::Bytes;
-use words::u64_at;
+
+// The numbers of 2, 4 and 8 bytes at an index, each through a window of its own bytes. Here, and not words',
+// since a public function asks nothing of its callers, and a total one cost 16 % of an event
+// (docs/SPEED.md, step 4).
+#[tactic(auto, using(words::specs::Laws::Windows::window_16))]
+pub(crate) fn u16_at(s: &[u8], at: usize) -> u16
+    requires { at + 2 ≤ length s.now }
+    ensures { result ≡ word16 s.now at }
+{
+    words::get16(&s[at..at + 2])
+}
+
+#[tactic(auto, using(words::specs::Laws::Windows::window_32))]
+pub(crate) fn u32_at(s: &[u8], at: usize) -> u32
+    requires { at + 4 ≤ length s.now }
+    ensures { result ≡ word32 s.now at }
+{
+    words::get32(&s[at..at + 4])
+}
+
+#[tactic(auto, using(words::specs::Laws::Windows::window_64))]
+pub(crate) fn u64_at(s: &[u8], at: usize) -> u64
+    requires { at + 8 ≤ length s.now }
+    ensures { result ≡ word64 s.now at }
+{
+    words::get64(&s[at..at + 8])
+}
 
 // Whether a word stands at x and at y.
 pub(crate) fn same_word(book: &Bytes, x: usize, y: usize) -> bool
@@ -28,6 +54,7 @@ fn same_words(book: &Bytes, x: usize, y: usize) -> bool
 }
 
 // Whether the texts at x and y are the same: the first word that differs ends it.
+#[tactic(auto, using(crate::specs::Laws::Places::words_pairs, crate::specs::Laws::Places::other_word, crate::specs::Laws::Places::all_words))]
 pub(crate) fn same_at(book: &Bytes, x: usize, y: usize) -> bool
     requires { (x + 33 ≤ book_size) × (y + 33 ≤ book_size) }
     ensures { result ≡ same_text (text_at book.now x) (text_at book.now y) }
@@ -36,6 +63,7 @@ pub(crate) fn same_at(book: &Bytes, x: usize, y: usize) -> bool
 }
 
 // Whether the 16 bytes from an index are zeros.
+#[tactic(auto, using(crate::specs::Laws::Places::zero_words))]
 fn zeros(book: &Bytes, at: usize) -> bool
     requires { at + 16 ≤ book_size }
     ensures { result ≡ all_below (zero_at book.now at) 16 }
@@ -45,6 +73,7 @@ fn zeros(book: &Bytes, at: usize) -> bool
 
 // Whether a text as it is stored stands at an index: zeros after it, up to 16 bytes by two parts
 // that overlap.
+#[tactic(auto, using(text::specs::Laws::InPlace::text_fine_here, crate::specs::Laws::Places::filled_parts))]
 pub(crate) fn filled(book: &Bytes, at: usize) -> bool
     requires { at + 33 ≤ book_size }
     ensures { result ≡ is_text (text_at book.now at) }
@@ -57,6 +86,7 @@ pub(crate) fn filled(book: &Bytes, at: usize) -> bool
 }
 
 // The cell of the text at an index and a client.
+#[tactic(auto, using(crate::specs::Laws::Places::cell_here))]
 pub(crate) fn cell_at(book: &Bytes, at: usize, client: u16) -> u16
     requires { at + 33 ≤ book_size }
     ensures { (result ≡ cell client (text_at book.now at)) × (result < 4021) }

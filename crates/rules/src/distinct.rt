@@ -1,6 +1,6 @@
 // Names are distinct, and ClOrdIDs within a client, in one pass with local marks, a bit for a cell:
 // a thing in an unmarked cell is new, and another is compared with the earlier things of its cell
-// alone. Rests on words, cells and bits.
+// alone. Rests on cells and bits.
 ghost use Rattle.std.specs.Prelude.{◌≡◌, ℕ, ◌+◌, ◌<◌, ◌≤◌, Bool, true, false, slice_index};
 ghost use Rattle.prelude.specs.Below.{all_below};
 ghost use Rattle.prelude.specs.Texts.{text_at};
@@ -8,9 +8,8 @@ ghost use Rattle.store.specs.Layout.{book_size, most_requests};
 ghost use Rattle.rules.specs.Laws.Things.{placed, place_of, client_in, lone_at, cell_of, same_with, clear_at};
 
 use crate::book::Bytes;
-use crate::cells::{cell_at, same_at, same_word};
+use crate::cells::{cell_at, same_at, same_word, u16_at};
 use store::layout;
-use words::u16_at;
 
 // The things that are to be distinct: each has a text and a client, and may be lone, the same as no other.
 pub(crate) trait Things {
@@ -37,14 +36,17 @@ pub(crate) struct Names;
 impl Things for Names {
     ghost keyed = { false };
 
+    #[tactic(auto, using(prelude::specs::Cases::if_true, prelude::specs::Cases::if_false), unfolding(crate::specs::Laws::Things::place_of))]
     fn place(i: usize) -> usize {
         layout::ORDERS + i * layout::ORDER + layout::NAME
     }
 
+    #[tactic(auto, using(prelude::specs::Cases::if_true, prelude::specs::Cases::if_false), unfolding(crate::specs::Laws::Things::client_in))]
     fn client(_book: &Bytes, _i: usize) -> u16 {
         0
     }
 
+    #[tactic(auto, unfolding(crate::specs::Laws::Things::lone_at))]
     fn is_lone(_book: &Bytes, _i: usize) -> bool {
         false
     }
@@ -56,6 +58,7 @@ pub(crate) struct Keys;
 impl Things for Keys {
     ghost keyed = { true };
 
+    #[tactic(auto, using(prelude::specs::Cases::if_true, prelude::specs::Cases::if_false), unfolding(crate::specs::Laws::Things::place_of))]
     fn place(i: usize) -> usize {
         layout::REQUESTS + i * layout::REQUEST + layout::REQUEST_CLORDID
     }
@@ -66,12 +69,14 @@ impl Things for Keys {
         u16_at(book, layout::ORDERS + o * layout::ORDER + layout::CLIENT)
     }
 
+    #[tactic(auto, using(store::specs::Laws::Fields::request_clordid_len), unfolding(crate::specs::Laws::Things::lone_at))]
     fn is_lone(book: &Bytes, i: usize) -> bool {
         book[layout::REQUESTS + i * layout::REQUEST + layout::REQUEST_CLORDID_LEN] == 0
     }
 }
 
 // The cell of a thing.
+#[tactic(auto, using(crate::specs::Laws::Things::placed_most, crate::specs::Laws::Things::place_fits, crate::specs::Laws::Things::text_in_lem), unfolding(crate::specs::Laws::Things::cell_of))]
 fn cell_of<T: Things>(book: &Bytes, i: usize) -> u16
     requires { placed book.now T.keyed i ≡ true }
     ensures { (result ≡ cell_of book.now T.keyed i) × (result < 4021) }
@@ -80,6 +85,7 @@ fn cell_of<T: Things>(book: &Bytes, i: usize) -> u16
 }
 
 // Whether thing j has this client, and the text at x; most differ in the first word.
+#[tactic(auto, using(crate::specs::Laws::Places::other_word, crate::specs::Laws::Things::placed_most, crate::specs::Laws::Things::place_fits, crate::specs::Laws::Things::text_in_lem), unfolding(crate::specs::Laws::Things::same_with))]
 fn same<T: Things>(book: &Bytes, client: u16, x: usize, j: usize) -> bool
     requires { (x + 33 ≤ book_size) × (placed book.now T.keyed j ≡ true) }
     ensures { result ≡ same_with book.now T.keyed client (text_at book.now x) j }
@@ -104,6 +110,7 @@ fn clear_in<T: Things>(book: &Bytes, cells: &[u16; layout::MOST_REQUESTS], i: us
 }
 
 // Whether thing i differs from each before it; with an unmarked cell it does.
+#[tactic(auto, using(prelude::specs::Cases::clash, crate::specs::Laws::Things::clear_fresh, crate::specs::Laws::Things::clear_lone))]
 fn clear_of<T: Things>(
     book: &Bytes,
     cells: &[u16; layout::MOST_REQUESTS],

@@ -13,9 +13,9 @@ ghost use Rattle.rules.specs.Ruled.{ruled_of};
 ghost use Rattle.rules.specs.Laws.Ruled.{decided};
 
 use book::Book;
+use cells::u16_at;
 use distinct::{Keys, Names};
 use store::layout;
-use words::u16_at;
 
 mod beside; // what stands beside a request
 mod book; // the bytes, and the counts of what is in use
@@ -28,6 +28,7 @@ mod ranges; // fields in their ranges
 mod status; // a done status
 
 // The rules of the orders and requests in use, one after the other.
+#[tactic(auto, using(crate::specs::Laws::Things::names_placed, crate::specs::Laws::Things::keys_placed), unfolding(crate::specs::Laws::Ruled::decided))]
 fn decide(book: &Book<'_>) -> bool
     ensures { result ≡ decided book.now.bytes.now book.now.orders book.now.requests }
 {

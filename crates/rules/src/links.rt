@@ -1,5 +1,5 @@
-// One order: the requests that its links name, its counts and its status. Rests on words, store's marks,
-// status and cells.
+// One order: the requests that its links name, its counts and its status. Rests on store's marks, status
+// and cells.
 ghost use Rattle.std.specs.Prelude.{◌≡◌, ℕ, ◌+◌, ◌-◌, ◌<◌, true, false, ◌==◌, nat_le, slice_index, MatchOption};
 ghost use Rattle.prelude.specs.Below.{all_below, count_below};
 ghost use Rattle.prelude.specs.Cases.{if◌then◌otherwise◌};
@@ -11,11 +11,10 @@ ghost use Rattle.store.specs.Layout.{most_orders, most_requests};
 ghost use Rattle.rules.specs.Laws.Here.{of_order_at, linked_at, optional_at, counts_at, links_at, links_of, own_at};
 
 use crate::book::{Book, Bytes};
-use crate::cells::same_at;
+use crate::cells::{same_at, u16_at, u64_at};
 use crate::status::is_done;
 use format::codes;
 use store::{kinds, layout, unsent_of};
-use words::{u16_at, u64_at};
 
 // The most tries of a gateway cancel, and of one that is unsent: counts.
 const MOST_TRIES: u8 = 3;
@@ -23,6 +22,7 @@ const MOST_TRIES: u8 = 3;
 const MOST_UNSENT: u8 = MOST_TRIES - 1;
 
 // The request of a link, if it is there and is order i's.
+#[tactic(auto, using(crate::proofs::Fields::request_fields), unfolding(crate::specs::Laws::Here::own_at))]
 fn own(book: &Book<'_>, i: usize, link: u16) -> Option<usize>
     ensures { MatchOption result (own_at book.now.bytes.now book.now.requests i link ≡ false) (λ j. (own_at book.now.bytes.now book.now.requests i link ≡ true) × (j ≡ link - 1) × (j < most_requests)) }
 {
@@ -40,6 +40,7 @@ fn own(book: &Book<'_>, i: usize, link: u16) -> Option<usize>
 }
 
 // The current downstream is the first request's or a replace's.
+#[tactic(auto, using(crate::proofs::Fields::order_fields, crate::proofs::Fields::request_fields), unfolding(machine::specs::Changes::is_first, machine::specs::Changes::is_replace, machine::specs::Changes::is_cancel, crate::specs::Laws::Here::linked_at))]
 fn current_ok(book: &Book<'_>, i: usize, link: u16) -> bool
     requires { i < book.now.orders }
     ensures { result ≡ linked_at book.now.bytes.now book.now.requests (current_test (order_at book.now.bytes.now i).names.downstream) i link }
@@ -58,6 +59,7 @@ fn current_ok(book: &Book<'_>, i: usize, link: u16) -> bool
 }
 
 // The latest cancel, if any, is a cancel.
+#[tactic(auto, using(crate::proofs::Fields::request_fields), unfolding(machine::specs::Changes::is_first, machine::specs::Changes::is_replace, machine::specs::Changes::is_cancel, crate::specs::Laws::Here::linked_at, crate::specs::Laws::Here::optional_at))]
 fn cancel_ok(book: &Book<'_>, i: usize, link: u16) -> bool
     requires { i < book.now.orders }
     ensures { result ≡ optional_at book.now.bytes.now book.now.requests is_cancel i link }
@@ -73,6 +75,7 @@ fn cancel_ok(book: &Book<'_>, i: usize, link: u16) -> bool
 }
 
 // Pending terms name an unanswered client replace.
+#[tactic(auto, using(crate::proofs::Fields::request_fields), unfolding(machine::specs::Changes::is_replace, machine::specs::Changes::is_answered, crate::specs::Laws::Here::linked_at, crate::specs::Laws::Here::optional_at))]
 fn pending_ok(book: &Book<'_>, i: usize, link: u16) -> bool
     requires { i < book.now.orders }
     ensures { result ≡ optional_at book.now.bytes.now book.now.requests pending_test i link }
@@ -96,6 +99,7 @@ fn count_ok(amendments: u16, count: u16) -> bool
 }
 
 // Above a cumulative of 0 the status is not pending new or new.
+#[tactic(auto, unfolding(machine::specs::Rules::status_rule))]
 fn status_ok(cumqty: u64, status: u8) -> bool
     ensures { result ≡ status_rule cumqty status }
 {
@@ -133,6 +137,7 @@ fn counts_ok(book: &Bytes, count: u16, i: usize) -> bool
 }
 
 // Order i, which has count requests.
+#[tactic(auto, using(crate::proofs::Fields::order_fields), unfolding(crate::specs::Laws::Here::links_at))]
 fn links_at(book: &Book<'_>, count: u16, i: usize) -> bool
     requires { i < book.now.orders }
     ensures { result ≡ links_at book.now.bytes.now book.now.requests count i }

@@ -1,5 +1,5 @@
 // Whether a text is a name with a number, in place: the name by words that overlap, the dash and the
-// digits as one word, and zeros after them. Rests on words and cells.
+// digits as one word, and zeros after them. Rests on cells.
 ghost use Rattle.std.specs.Prelude.{◌≡◌, ◌+◌, ◌<◌, ◌≤◌, true};
 ghost use Rattle.prelude.specs.Below.{all_below};
 ghost use Rattle.prelude.specs.Texts.{text_at, same_text};
@@ -9,8 +9,7 @@ ghost use Rattle.machine.specs.Ranges.{name_range};
 ghost use Rattle.rules.specs.Laws.Suffix.{IsSuffix, alike_at};
 
 use crate::book::Bytes;
-use crate::cells::{filled, same_word};
-use words::u64_at;
+use crate::cells::{filled, same_word, u64_at};
 
 // By `as`, since `From` is no constant function.
 const DASH: u64 = b'-' as u64;
@@ -25,6 +24,7 @@ struct Suffix {
 }
 
 // The dash and the digits of a number below 1,000, as a word.
+#[tactic(auto, using(crate::specs::Laws::Suffix::suffix_1, crate::specs::Laws::Suffix::suffix_2, crate::specs::Laws::Suffix::suffix_3))]
 fn suffix_of(k: u16) -> Suffix
     requires { k < 1000 }
     ensures { IsSuffix k result.word result.len }
@@ -57,6 +57,7 @@ fn same_few(book: &Bytes, x: usize, y: usize, n: usize) -> bool
 }
 
 // The same, from 8 bytes on by three places that overlap.
+#[tactic(auto, using(crate::specs::Laws::Suffix::start_words))]
 fn same_start(book: &Bytes, x: usize, y: usize, n: usize) -> bool
     requires { (x + 33 ≤ book_size) × (y + 33 ≤ book_size) × (n ≤ 20) }
     ensures { result ≡ all_below (alike_at book.now x y) n }

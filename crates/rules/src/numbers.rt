@@ -1,5 +1,5 @@
 // One request: its fields' ranges, its order, its number among its order's, a gateway cancel in
-// flight, and what stands beside it. Rests on words, store's marks, beside, numbered, status and cells.
+// flight, and what stands beside it. Rests on store's marks, beside, numbered, status and cells.
 // A struct of book, request, order and number would be made and taken apart again for each request.
 ghost use Rattle.std.specs.Prelude.{◌≡◌, ℕ, ◌+◌, ◌<◌, ◌≤◌, true, false, ◌&&◌, MatchOption};
 ghost use Rattle.prelude.specs.Below.{all_below};
@@ -15,11 +15,10 @@ ghost use Rattle.rules.specs.Laws.Origin.{fields_range};
 
 use crate::beside::beside_ok;
 use crate::book::{Book, Bytes};
-use crate::cells::{filled, same_at};
+use crate::cells::{filled, same_at, u16_at};
 use crate::numbered::numbered;
 use crate::status::is_done;
 use store::{kinds, layout, stuck_of, unsent_of};
-use words::u16_at;
 
 // A text that is there exactly where it is not absent, zeros after it.
 fn optional(book: &Bytes, at: usize, absent: bool) -> bool
@@ -30,6 +29,7 @@ fn optional(book: &Bytes, at: usize, absent: bool) -> bool
 }
 
 // Every field but the OrigClOrdID, which goes with its link, is in its range.
+#[tactic(auto, using(crate::proofs::Fields::request_fields), unfolding(machine::specs::Changes::is_gateway, crate::specs::Laws::Origin::fields_range))]
 fn fields_ok(book: &Bytes, j: usize) -> bool
     requires { j < most_requests }
     ensures { result ≡ fields_range (request_at book.now j) }
@@ -56,6 +56,7 @@ fn named(book: &Bytes, j: usize, o: usize, k: u16) -> bool
 }
 
 // Just number 0 is a first request.
+#[tactic(auto, using(std::proofs::lemmas::Bool::and_right, crate::proofs::Fields::request_fields, crate::specs::Laws::Here::number_kind), unfolding(machine::specs::Changes::is_first, machine::specs::Rules::number_rule))]
 fn number_ok(book: &Bytes, j: usize, o: usize, k: u16) -> bool
     requires { (j < most_requests) × (o < most_orders) × (k < 1000) × (name_range (order_at book.now o).names.name ≡ true) }
     ensures { result ≡ number_rule (order_at book.now o).names.name k (request_at book.now j) }
@@ -65,6 +66,7 @@ fn number_ok(book: &Bytes, j: usize, o: usize, k: u16) -> bool
 }
 
 // Whether order o is done, or request j is its latest cancel, with tries, sent and not stuck.
+#[tactic(auto, using(crate::proofs::Fields::order_fields), unfolding(crate::specs::Laws::Here::sent_rule))]
 fn sent_ok(book: &Bytes, j: usize, o: usize) -> bool
     requires { (j < most_requests) × (o < most_orders) }
     ensures { result ≡ sent_rule (j + 1) (order_at book.now o) }
@@ -81,6 +83,7 @@ fn sent_ok(book: &Bytes, j: usize, o: usize) -> bool
 }
 
 // An unanswered gateway cancel of a live order is its latest cancel.
+#[tactic(auto, using(crate::proofs::Fields::request_fields), unfolding(machine::specs::Changes::is_gateway, machine::specs::Changes::is_answered, machine::specs::Rules::in_flight_rule, crate::specs::Laws::Here::sent_rule))]
 fn flight_ok(book: &Bytes, j: usize, o: usize) -> bool
     requires { (j < most_requests) × (o < most_orders) }
     ensures { result ≡ in_flight_rule (j + 1) (request_at book.now j) (order_at book.now o) }
@@ -92,6 +95,7 @@ fn flight_ok(book: &Bytes, j: usize, o: usize) -> bool
 }
 
 // Request j, the k-th of order o, and what stands beside it. The ClOrdIDs before it are in range.
+#[tactic(auto, using(crate::specs::Laws::Origin::request_parts))]
 fn request_ok(book: &Bytes, j: usize, o: usize, k: u16) -> bool
     requires { (j < most_requests) × (o < most_orders) × (k < 1000) × (name_range (order_at book.now o).names.name ≡ true) × ((request_at book.now j).order ≡ o) × ((i : ℕ) → i < j → is_text (request_at book.now i).clordid ≡ true) }
     ensures { result ≡ request_here book.now j o k && beside_at book.now j }

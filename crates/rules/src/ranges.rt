@@ -1,4 +1,4 @@
-// Every field of an order is in its range. Rests on words, format, store's marks and cells.
+// Every field of an order is in its range. Rests on format, store's marks and cells.
 ghost use Rattle.std.specs.Prelude.{◌≡◌, ◌+◌, ◌<◌, ◌≤◌};
 ghost use Rattle.prelude.specs.Below.{all_below};
 ghost use Rattle.prelude.specs.Texts.{text_at};
@@ -10,12 +10,12 @@ ghost use Rattle.machine.specs.Rules.{names_range, force_range, priced_range, te
 ghost use Rattle.rules.specs.Laws.Here.{range_at};
 
 use crate::book::{Book, Bytes};
-use crate::cells::filled;
+use crate::cells::{filled, u16_at, u32_at, u64_at};
 use format::codes;
 use store::{layout, stuck_of, unsent_of};
-use words::{u16_at, u32_at, u64_at};
 
 // A text of low to high bytes, zeros after it.
+#[tactic(auto, unfolding(machine::specs::Ranges::text_within))]
 fn within(book: &Bytes, at: usize, low: u8, high: u8) -> bool
     requires { at + 33 ≤ book_size }
     ensures { result ≡ text_within low high (text_at book.now at) }
@@ -25,6 +25,7 @@ fn within(book: &Bytes, at: usize, low: u8, high: u8) -> bool
 }
 
 // format's, by `&` and `|` alone, so that `letters` is taken 16 at a time.
+#[tactic(auto, unfolding(format::specs::Codes::is_alnum))]
 fn is_alnum(c: u8) -> bool
     ensures { result ≡ is_alnum c }
 {
@@ -43,6 +44,7 @@ fn letters(book: &Bytes, at: usize, len: u8) -> bool
     ok
 }
 
+#[tactic(auto, using(prelude::specs::Span::get_span), unfolding(format::specs::Codes::is_none))]
 fn is_none(book: &Bytes, at: usize) -> bool
     requires { at + 33 ≤ book_size }
     ensures { result ≡ is_none (text_at book.now at) }
@@ -53,6 +55,7 @@ fn is_none(book: &Bytes, at: usize) -> bool
 }
 
 // 1 to 20 letters and digits, not NONE.
+#[tactic(auto, unfolding(format::specs::Codes::is_name))]
 fn is_name(book: &Bytes, at: usize) -> bool
     requires { at + 33 ≤ book_size }
     ensures { result ≡ is_name (text_at book.now at) }
@@ -63,6 +66,7 @@ fn is_name(book: &Bytes, at: usize) -> bool
     }
 }
 
+#[tactic(auto, using(crate::proofs::Fields::order_fields), unfolding(machine::specs::Ranges::name_range, machine::specs::Rules::names_range))]
 fn names_ok(book: &Bytes, i: usize) -> bool
     requires { i < most_orders }
     ensures { result ≡ names_range (order_at book.now i).names }
@@ -77,6 +81,7 @@ fn names_ok(book: &Bytes, i: usize) -> bool
 }
 
 // A time in force that is not given is 0.
+#[tactic(auto, unfolding(machine::specs::Rules::force_range))]
 fn force_ok(code: u8) -> bool
     ensures { result ≡ force_range code }
 {
@@ -84,6 +89,7 @@ fn force_ok(code: u8) -> bool
 }
 
 // A market order's price is 0.
+#[tactic(auto, unfolding(machine::specs::Rules::priced_range))]
 fn priced_ok(ordtype: u8, price: u64) -> bool
     ensures { result ≡ priced_range ordtype price }
 {
@@ -92,6 +98,7 @@ fn priced_ok(ordtype: u8, price: u64) -> bool
         & ((ordtype == codes::LIMIT) | (price == 0))
 }
 
+#[tactic(auto, using(crate::proofs::Fields::order_fields), unfolding(machine::specs::Rules::terms_range))]
 fn terms_ok(book: &Bytes, i: usize) -> bool
     requires { i < most_orders }
     ensures { result ≡ terms_range (order_at book.now i).terms }
@@ -104,6 +111,7 @@ fn terms_ok(book: &Bytes, i: usize) -> bool
 }
 
 // No pending terms are all zero.
+#[tactic(auto, using(crate::proofs::Fields::order_fields, prelude::specs::Cases::if_true, prelude::specs::Cases::if_false), unfolding(machine::specs::Rules::pending_range))]
 fn pending_ok(book: &Bytes, i: usize) -> bool
     requires { i < most_orders }
     ensures { result ≡ pending_range (order_at book.now i).pending }
@@ -121,6 +129,7 @@ fn pending_ok(book: &Bytes, i: usize) -> bool
 }
 
 // Not both marks; no gateway cancel is all zero.
+#[tactic(auto, using(crate::proofs::Fields::order_fields), unfolding(machine::specs::Rules::gateway_range))]
 fn gateway_ok(book: &Book<'_>, i: usize) -> bool
     requires { i < book.now.orders }
     ensures { result ≡ gateway_range book.now.requests (order_at book.now.bytes.now i).gateway }
@@ -138,6 +147,7 @@ fn gateway_ok(book: &Book<'_>, i: usize) -> bool
 }
 
 // Order i.
+#[tactic(auto, using(crate::proofs::Fields::order_fields), unfolding(machine::specs::Rules::order_range, crate::specs::Laws::Here::range_at))]
 fn range_ok(book: &Book<'_>, i: usize) -> bool
     requires { i < book.now.orders }
     ensures { result ≡ range_at book.now.bytes.now book.now.requests i }

@@ -5,6 +5,7 @@ ghost use Rattle.machine.specs.Orders.{is_done};
 
 use format::codes;
 
+#[tactic(auto, unfolding(machine::specs::Orders::is_done))]
 pub(crate) fn is_done(status: u8) -> bool
     ensures { result ≡ is_done status }
 {

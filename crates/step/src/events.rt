@@ -1,17 +1,16 @@
 // An event's whole effect, by value, on a book that keeps its rules: what the event finds in the book, the
-// handling of its kind, and question 7. Writes nothing. Links are at most 257, and so made by `as`:
-// `try_from` would have branches that nothing takes. Rests on report and loads.
-ghost use Rattle.std.specs.Prelude.{◌≡◌, true, IfOk};
+// handling of its kind, and question 7. Writes nothing. Rests on opens, report and loads.
+ghost use Rattle.std.specs.Prelude.{◌≡◌, IfOk};
 ghost use Rattle.store.specs.Book.{book_of};
 ghost use Rattle.machine.specs.Taken.{change_in};
 ghost use Rattle.machine.specs.Machine.{unused, book_order, nothing, unknown_report, text_note, on_request, on_name, change_of, step_of};
-ghost use Rattle.opens.specs.Keeps.{keeps_of};
 ghost use Rattle.step.specs.Steps.{amended, handled, unknown_of, has_room_for};
 
 use crate::loads;
 use amend::{Target, booking, rejects};
 use format::codes;
 use machine::{Change, Note};
+use opens::Kept;
 use orders::alarm::Alarm;
 use orders::{Known, change, message};
 use prelude::Refusal;
@@ -19,40 +18,39 @@ use records::Record;
 use store::layout;
 
 // Whether a booking's name and ClOrdID are both unused.
-fn is_unused(book: &[u8], e: Record) -> bool
-    requires { keeps_of book.now ≡ true }
-    ensures { result ≡ unused (book_of book.now) e }
+#[tactic(auto, using(crate::specs::Laws::Found::name_used, crate::specs::Laws::Found::name_unused))]
+fn is_unused(book: &Kept<'_>, e: Record) -> bool
+    ensures { result ≡ unused (book_of book.now.bytes.now) e }
 {
-    match store::find_name(book, e.ids.name) {
+    match store::find_name(book.bytes, e.ids.name) {
         Some(_) => false,
         None => loads::order_of(book, e.client, e.ids.clordid) == 0,
     }
 }
 
 // Event 1.
-fn book_order(book: &[u8], e: Record) -> Result<Change, Refusal>
-    requires { keeps_of book.now ≡ true }
-    ensures is { change_in result ≡ book_order (book_of book.now) e }
+#[tactic(auto, using(store::specs::Laws::Stored::count_most, store::specs::Laws::Stored::length_orders, store::specs::Laws::Stored::length_requests))]
+fn book_order(book: &Kept<'_>, e: Record) -> Result<Change, Refusal>
+    ensures is { change_in result ≡ book_order (book_of book.now.bytes.now) e }
     ensures taken { IfOk result (λ c. c.refusal ≡ 0) }
 {
-    let place = (store::order_count(book) + 1) as u16;
-    let link = (store::request_count(book) + 1) as u16;
+    let place = loads::link_of(store::order_count(book.bytes));
+    let link = loads::link_of(store::request_count(book.bytes));
     let fresh = is_unused(book, e);
     booking::book_order(place, link, fresh, e)
 }
 
 // Events 2 and 3.
-#[tactic(auto, unfolding(crate::specs::Steps::amended), using(orders::specs::Laws::Choices::choices))]
-fn amend(book: &[u8], e: Record) -> Result<Change, Refusal>
-    requires { keeps_of book.now ≡ true }
-    ensures is { change_in result ≡ amended (book_of book.now) e }
+#[tactic(auto, unfolding(crate::specs::Steps::amended), using(orders::specs::Laws::Choices::choices, crate::specs::Laws::Steps::amends, crate::specs::Laws::Taken::cancel_taken))]
+fn amend(book: &Kept<'_>, e: Record) -> Result<Change, Refusal>
+    ensures is { change_in result ≡ amended (book_of book.now.bytes.now) e }
     ensures taken { IfOk result (λ c. c.refusal ≡ 0) }
 {
     let place = loads::order_of(book, e.client, e.ids.origclordid);
-    let order = loads::order_at_link(book, place);
-    let findings = loads::findings_at(book, place, order);
+    let order = loads::order_at_link(book.bytes, place);
+    let findings = loads::findings_at(book.bytes, place, order);
     let used = loads::order_of(book, e.client, e.ids.clordid);
-    let full = loads::is_full(book, e.client);
+    let full = loads::is_full(book.bytes, e.client);
     let target = Target {
         findings,
         order,
@@ -78,7 +76,7 @@ fn unknown(e: Record) -> Change
     ensures { result ≡ unknown_of e }
 {
     if e.kind <= codes::EVENT_CANCEL_REJECT {
-        change::alarming(Alarm::UnknownOrder, nothing())
+        change::alarming(Alarm::UnknownOrder.number(), nothing())
     } else {
         nothing()
     }
@@ -108,17 +106,16 @@ fn handle(known: &Known, e: Record) -> Change
 }
 
 // Events 4 to 8.
-#[tactic(auto, unfolding(machine::specs::Machine::on_request))]
-fn on_request(book: &[u8], e: Record) -> Change
-    requires { keeps_of book.now ≡ true }
-    ensures { result ≡ on_request (unknown_of e) (handled e) (book_of book.now) e }
+#[tactic(auto, unfolding(machine::specs::Machine::on_request), using(crate::specs::Laws::Found::order_few, prelude::specs::Cases::maybe_some, prelude::specs::Cases::maybe_none))]
+fn on_request(book: &Kept<'_>, e: Record) -> Change
+    ensures { result ≡ on_request (unknown_of e) (handled e) (book_of book.now.bytes.now) e }
 {
-    match store::find_downstream(book, e.ids.downstream) {
+    match store::find_downstream(book.bytes, e.ids.downstream) {
         Some(k) => {
-            let request = loads::request_in(book, k);
-            let order = loads::order_in(book, request.order as usize);
-            let findings = loads::findings_at(book, request.order + 1, order);
-            let link = (k + 1) as u16;
+            let request = loads::request_in(book.bytes, k);
+            let order = loads::order_in(book.bytes, usize::from(request.order));
+            let findings = loads::findings_at(book.bytes, request.order + 1, order);
+            let link = loads::link_of(k);
             let known = Known {
                 findings,
                 link,
@@ -132,24 +129,23 @@ fn on_request(book: &[u8], e: Record) -> Change
 }
 
 // Event 9.
-#[tactic(auto, unfolding(machine::specs::Machine::on_name))]
-fn on_name(book: &[u8], e: Record) -> Change
-    requires { keeps_of book.now ≡ true }
-    ensures { result ≡ on_name (book_of book.now) e }
+#[tactic(auto, unfolding(machine::specs::Machine::on_name), using(crate::specs::Laws::Found::name_few, prelude::specs::Cases::maybe_some, prelude::specs::Cases::maybe_none))]
+fn on_name(book: &Kept<'_>, e: Record) -> Change
+    ensures { result ≡ on_name (book_of book.now.bytes.now) e }
 {
-    match store::find_name(book, e.ids.name) {
+    match store::find_name(book.bytes, e.ids.name) {
         Some(i) => {
-            let o = loads::order_in(book, i);
-            let f = loads::findings_at(book, (i + 1) as u16, o);
+            let o = loads::order_in(book.bytes, i);
+            let f = loads::findings_at(book.bytes, loads::link_of(i), o);
             gateway_cancel::cancel_order(f, o)
         }
         None => nothing(),
     }
 }
 
-fn change_of(book: &[u8], e: Record) -> Result<Change, Refusal>
-    requires { keeps_of book.now ≡ true }
-    ensures is { change_in result ≡ change_of (book_of book.now) e }
+#[tactic(auto, using(crate::specs::Laws::Steps::kinds, crate::specs::Laws::Taken::request_taken, crate::specs::Laws::Taken::name_taken))]
+fn change_of(book: &Kept<'_>, e: Record) -> Result<Change, Refusal>
+    ensures is { change_in result ≡ change_of (book_of book.now.bytes.now) e }
     ensures taken { IfOk result (λ c. c.refusal ≡ 0) }
 {
     match e.kind {
@@ -161,25 +157,24 @@ fn change_of(book: &[u8], e: Record) -> Result<Change, Refusal>
 }
 
 // Question 7: whether the order of link `place` and an added request have records.
+#[tactic(auto, unfolding(crate::specs::Steps::has_room_for), using(orders::specs::Laws::Choices::choices, store::specs::Laws::Stored::length_orders, store::specs::Laws::Stored::length_requests))]
 fn has_room(book: &[u8], place: u16, added: u8) -> bool
     ensures { result ≡ has_room_for (book_of book.now) place added }
 {
     let n = store::order_count(book);
     let m = store::request_count(book);
-    // no branches: with `||` and `&&` the proof did not close
-    ((place as usize <= n) | (n < layout::MOST_ORDERS))
-        & ((added == 0) | (m < layout::MOST_REQUESTS))
+    (usize::from(place) <= n || n < layout::MOST_ORDERS)
+        && (added == 0 || m < layout::MOST_REQUESTS)
 }
 
 // The event's change, or why it is refused.
-#[tactic(auto, using(crate::specs::Laws::Steps::step_err, crate::specs::Laws::Steps::step_taken, crate::specs::Laws::Steps::step_full))]
-pub(crate) fn step_of(book: &[u8], e: Record) -> Result<Change, Refusal>
-    requires { keeps_of book.now ≡ true }
-    ensures is { change_in result ≡ step_of (book_of book.now) e }
+#[tactic(auto, using(crate::specs::Laws::Steps::stepped))]
+pub(crate) fn step_of(book: &Kept<'_>, e: Record) -> Result<Change, Refusal>
+    ensures is { change_in result ≡ step_of (book_of book.now.bytes.now) e }
     ensures taken { IfOk result (λ c. c.refusal ≡ 0) }
 {
     let c = change_of(book, e)?;
-    if !has_room(book, c.place, c.requests.added) {
+    if !has_room(book.bytes, c.place, c.requests.added) {
         return Err(Refusal::FullBook);
     }
     Ok(c)

@@ -7,6 +7,7 @@ ghost use Rattle.machine.specs.Taken.{change_in};
 ghost use Rattle.step.specs.Entries.{call_of};
 
 use machine::Change;
+use opens::Kept;
 use prelude::Refusal;
 
 mod events; // an event's whole effect, on a book that keeps its rules
@@ -17,16 +18,15 @@ pub const SHORTEST_ANSWER: usize = 1024;
 
 // The change that the event in `record` makes of the book, or the first question that is answered
 // with no; `room` is the length of the answer buffer.
+#[tactic(auto, using(crate::specs::Laws::Asked::questions))]
 pub fn call_of(book: &[u8], record: &[u8], room: usize) -> Result<Change, Refusal>
     ensures is { change_in result ≡ call_of book.now «record».now room }
     ensures taken { IfOk result (λ c. c.refusal ≡ 0) }
 {
-    if !opens::keeps(book) {
-        return Err(Refusal::BadBook);
-    }
+    let book = Kept::new(book)?;
     if room < SHORTEST_ANSWER {
         return Err(Refusal::ShortAnswer);
     }
     let event = records::read_event(record)?;
-    events::step_of(book, event)
+    events::step_of(&book, event)
 }

@@ -1,15 +1,26 @@
-// Records in use, by index or link, and what an event's handling needs of the book. Rests on store.
-ghost use Rattle.std.specs.Prelude.{◌≡◌, true};
+// Records in use, by index or link, and what an event's handling needs of the book. Rests on store and opens.
+ghost use Rattle.std.specs.Prelude.{◌≡◌, ◌+◌, ◌≤◌};
+ghost use Rattle.store.specs.Layout.{most_requests};
 ghost use Rattle.store.specs.Book.{book_of, order_in, request_in};
 ghost use Rattle.machine.specs.Machine.{order_link, order_of, order_at_link};
-ghost use Rattle.opens.specs.Keeps.{keeps_of};
 ghost use Rattle.step.specs.Steps.{request_at_link, findings_at, is_full};
 
 use machine::Findings;
+use opens::Kept;
 use prelude::Text;
 use store::{Order, Request};
 
+// The link of index i: one more, since 0 is none. By `as`: at most 257, and `try_from` would have a
+// branch that nothing takes.
+pub(crate) fn link_of(i: usize) -> u16
+    requires { i ≤ most_requests }
+    ensures { result ≡ i + 1 }
+{
+    (i + 1) as u16
+}
+
 // Order i, or the order of zeros where it is not in use.
+#[tactic(auto, using(crate::specs::Laws::Found::order_past, store::specs::Laws::Stored::load_order_in))]
 pub(crate) fn order_in(book: &[u8], i: usize) -> Order
     ensures { result ≡ order_in (book_of book.now) i }
 {
@@ -20,8 +31,10 @@ pub(crate) fn order_in(book: &[u8], i: usize) -> Order
     }
 }
 
-// Request k, or the request of zeros where it is not in use. As for orders: a trait of the two tables, with
-// count, record and zeros of each, would be longer than what it joins, here and for links.
+// Request k, or the request of zeros where it is not in use. As for orders: one function for both tables,
+// here and for links, would take the count, the zeros and the reading of each, by a trait or as closures,
+// under longer contracts, and its body would be this `if`.
+#[tactic(auto, using(crate::specs::Laws::Found::request_past, store::specs::Laws::Stored::load_request_in))]
 pub(crate) fn request_in(book: &[u8], k: usize) -> Request
     ensures { result ≡ request_in (book_of book.now) k }
 {
@@ -39,7 +52,7 @@ pub(crate) fn order_at_link(book: &[u8], place: u16) -> Order
 {
     match place {
         0 => store::no_order(),
-        _ => order_in(book, (place - 1) as usize),
+        _ => order_in(book, usize::from(place - 1)),
     }
 }
 
@@ -50,12 +63,12 @@ fn request_at_link(book: &[u8], link: u16) -> Request
 {
     match link {
         0 => store::no_request(),
-        _ => request_in(book, (link - 1) as usize),
+        _ => request_in(book, usize::from(link - 1)),
     }
 }
 
 // What the handling of an event needs beside the order o of link `place`.
-#[tactic(auto, unfolding(crate::specs::Steps::findings_at))]
+#[tactic(auto, unfolding(crate::specs::Steps::findings_at), using(store::specs::Laws::Stored::count_most, store::specs::Laws::Stored::length_requests))]
 pub(crate) fn findings_at(book: &[u8], place: u16, o: Order) -> Findings
     ensures { result ≡ findings_at (book_of book.now) place o }
 {
@@ -67,27 +80,27 @@ pub(crate) fn findings_at(book: &[u8], place: u16, o: Order) -> Findings
     }
 }
 
-fn order_link(book: &[u8], k: usize) -> u16
-    requires { keeps_of book.now ≡ true }
-    ensures { result ≡ order_link (book_of book.now) k }
+// The link of the order of request k, or 1 where there is no request k.
+#[tactic(auto, using(crate::specs::Laws::Found::order_few))]
+fn order_link(book: &Kept<'_>, k: usize) -> u16
+    ensures { result ≡ order_link (book_of book.now.bytes.now) k }
 {
-    request_in(book, k).order + 1
+    request_in(book.bytes, k).order + 1
 }
 
 // The link of the order in which the client used the ClOrdID, or 0.
-#[tactic(auto, unfolding(machine::specs::Machine::order_of))]
-pub(crate) fn order_of(book: &[u8], client: u16, t: Text) -> u16
-    requires { keeps_of book.now ≡ true }
-    ensures { result ≡ order_of (book_of book.now) client t }
+#[tactic(auto, unfolding(machine::specs::Machine::order_of), using(prelude::specs::Cases::maybe_some, prelude::specs::Cases::maybe_none))]
+pub(crate) fn order_of(book: &Kept<'_>, client: u16, t: Text) -> u16
+    ensures { result ≡ order_of (book_of book.now.bytes.now) client t }
 {
-    match store::find_clordid(book, client, t) {
+    match store::find_clordid(book.bytes, client, t) {
         Some(k) => order_link(book, k),
         None => 0,
     }
 }
 
 // Whether the client has used as many ClOrdIDs as it may.
-#[tactic(auto, unfolding(crate::specs::Steps::is_full))]
+#[tactic(auto, unfolding(crate::specs::Steps::is_full), using(crate::specs::Laws::Found::setting_read))]
 pub(crate) fn is_full(book: &[u8], client: u16) -> bool
     ensures { result ≡ is_full (book_of book.now) client }
 {

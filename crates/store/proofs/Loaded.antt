@@ -1,6 +1,5 @@
 -- What a read of a record that may be missing gives, as the definitions say it. Assumes nothing.
-use Rattle.std.specs.Prelude.{◌≡◌, ◌≢◌, ℕ, eqb, Bool, true, false, Option, None, Some, MatchOption}
-use borrow.Author.Tests.{eq-eqb, ne_eqb}
+use Rattle.std.proofs.Common.{◌≡◌, ◌≢◌, ℕ, eqb, Bool, true, false, Option, None, Some, MatchOption, eq-eqb, ne_eqb}
 use Rattle.prelude.specs.Cases.{if◌then◌otherwise◌}
 
 -- the value that is made of the record where there is one, else the one that stands for none

@@ -1,9 +1,9 @@
 -- An order's record: what its bytes say, and the bytes that say it, group by group. Rests on Layout and Cells.
 -- The two marks of the gateway cancel are one byte, its stage: 0 none, 1 unsent, 2 sent, 3 stuck.
 use Rattle.std.specs.Prelude.{◌≡◌, Bool, false, not, ◌&&◌, ◌||◌, List, [], ◌∷◌, ◌++◌, ℕ, ◌<◌, eqb, ltb, get_or, replicate}
+use Rattle.std.specs.List.{concat}
 use Rattle.prelude.specs.Cases.{if◌then◌otherwise◌}
 use Rattle.prelude.specs.Number.{word16, word32, word64, bytes_of, bound}
-use Rattle.prelude.specs.Pieces.{joined}
 use Rattle.prelude.specs.Texts.{text_at, WholeText}
 use Rattle.prelude.specs.declared.Terms.{Terms}
 use Rattle.text.specs.Words.{no_text}
@@ -252,7 +252,7 @@ pieces_order o =
     ∷ []
 
 unfoldable pub encode_order : Order → List ℕ
-encode_order o = joined (pieces_order o)
+encode_order o = concat (pieces_order o)
 
 -- no replace waits, and no gateway cancel stands
 abbrev pub no_pending : Pending

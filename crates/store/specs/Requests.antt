@@ -1,7 +1,7 @@
 -- A request's record: what its bytes say, and the bytes that say it. Rests on Layout and Cells.
 use Rattle.std.specs.Prelude.{◌≡◌, List, [], ◌∷◌, ◌++◌, ℕ, ◌<◌, get_or, replicate}
+use Rattle.std.specs.List.{concat}
 use Rattle.prelude.specs.Number.{word16, bytes_of}
-use Rattle.prelude.specs.Pieces.{joined}
 use Rattle.prelude.specs.Texts.{text_at, WholeText}
 use Rattle.text.specs.Words.{no_text}
 use Rattle.store.specs.declared.Request.{Request}
@@ -47,7 +47,7 @@ pieces_request origin r =
     ∷ []
 
 unfoldable pub encode_request : (origin : ℕ) → Request → List ℕ
-encode_request origin r = joined (pieces_request origin r)
+encode_request origin r = concat (pieces_request origin r)
 
 -- the record of zeros
 abbrev pub no_request : Request

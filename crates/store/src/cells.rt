@@ -1,13 +1,40 @@
-// Texts at an index of a slice, read and written, and numbers written: `words` reads those. Rests on
-// prelude's spans.
+// Texts and numbers at an index of a slice, read and written. Rests on prelude's spans and words.
 ghost use Rattle.std.specs.Prelude.{◌≡◌, ◌≢◌, ◌+◌, ◌≤◌, ◌<◌, length, MatchOption};
 ghost use Rattle.prelude.specs.Span.{span, splice};
-ghost use Rattle.prelude.specs.Number.{bytes_of};
+ghost use Rattle.prelude.specs.Number.{bytes_of, word16, word32, word64};
 ghost use Rattle.prelude.specs.Texts.{text_at, WholeText};
 ghost use Rattle.store.specs.Cells.{text_bytes};
 
 use prelude::Text;
 
+// The numbers of 2, 4 and 8 bytes at an index, each through a window of its own bytes. Here, and not words',
+// since a public function asks nothing of its callers, and a total one cost 16 % of an event
+// (docs/SPEED.md, step 4).
+#[tactic(auto, using(words::specs::Laws::Windows::window_16))]
+pub(crate) fn u16_at(s: &[u8], at: usize) -> u16
+    requires { at + 2 ≤ length s.now }
+    ensures { result ≡ word16 s.now at }
+{
+    words::get16(&s[at..at + 2])
+}
+
+#[tactic(auto, using(words::specs::Laws::Windows::window_32))]
+pub(crate) fn u32_at(s: &[u8], at: usize) -> u32
+    requires { at + 4 ≤ length s.now }
+    ensures { result ≡ word32 s.now at }
+{
+    words::get32(&s[at..at + 4])
+}
+
+#[tactic(auto, using(words::specs::Laws::Windows::window_64))]
+pub(crate) fn u64_at(s: &[u8], at: usize) -> u64
+    requires { at + 8 ≤ length s.now }
+    ensures { result ≡ word64 s.now at }
+{
+    words::get64(&s[at..at + 8])
+}
+
+#[tactic(auto, using(prelude::specs::Span::part_span))]
 pub(crate) fn get_text(s: &[u8], at: usize) -> Text
     requires { at + 33 ≤ length s.now }
     ensures { result ≡ text_at s.now at }
@@ -21,6 +48,7 @@ pub(crate) fn get_text(s: &[u8], at: usize) -> Text
 }
 
 // Writes w into s from index at.
+#[tactic(auto, using(prelude::specs::Span::part_splice))]
 pub(crate) fn put(s: &mut [u8], at: usize, w: &[u8])
     requires { at + length w.now ≤ length s.old }
     ensures { s.new ≡ splice s.old at w.now }
@@ -28,7 +56,8 @@ pub(crate) fn put(s: &mut [u8], at: usize, w: &[u8])
     s[at..at + w.len()].copy_from_slice(w);
 }
 
-// A number written at an index, one line for each width: std has no trait for `to_le_bytes`.
+// A number written at an index, a line for each width: std has no trait for `to_le_bytes`, and num_traits'
+// gives the bytes by a ghost function that each field's proof would have to turn into `bytes_of`.
 pub(crate) fn put16(s: &mut [u8], at: usize, v: u16)
     requires { at + 2 ≤ length s.old }
     ensures { s.new ≡ splice s.old at (bytes_of 2 v) }
@@ -60,6 +89,7 @@ pub(crate) fn put_text(s: &mut [u8], at: usize, t: Text)
 }
 
 // The N bytes of s from index at as an array, where s has as many.
+#[tactic(auto, unfolding(prelude::specs::Span::span))]
 pub(crate) fn part<const N: usize>(s: &[u8], at: usize) -> Option<&[u8; N]>
     requires { at ≤ length s.now }
     ensures { MatchOption result (length s.now < at + N) (λ bytes. bytes.now ≡ span s.now at N) }

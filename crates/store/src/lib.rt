@@ -10,8 +10,8 @@ ghost use Rattle.store.specs.Orders.{no_gateway, no_pending, no_order};
 ghost use Rattle.store.specs.Requests.{no_request};
 ghost use Rattle.store.specs.Book.{is_book, put_order, count_at, order_count, request_count, setting_of, load_order, store_order, add_order, load_request, add_request, mark_answered, load_outcome, load_origin, load_open, store_open, clear_book};
 
+use cells::{u16_at, u32_at};
 use prelude::{Terms, Text};
-use words::{u16_at, u32_at};
 
 mod cells; // texts and numbers at an index
 mod finds; // lookups
@@ -190,6 +190,7 @@ pub fn no_request() -> Request
 }
 
 // The book, where the buffer has its length.
+#[tactic(auto, using(crate::proofs::Loaded::sized))]
 fn whole(buffer: &[u8]) -> Option<&[u8; layout::BOOK]>
     ensures { MatchOption result (is_book buffer.now ≡ false) (λ book. (is_book buffer.now ≡ true) × (book.now ≡ buffer.now)) }
 {
@@ -249,6 +250,7 @@ pub fn setting(book: &[u8]) -> u32
 }
 
 // Writes record i of the orders.
+#[tactic(auto, unfolding(crate::specs::Book::put_order))]
 fn write_order(book: &mut [u8], i: usize, o: Order)
     requires { (length book.old ≡ book_size) × (i < most_orders) }
     ensures { book.new ≡ put_order book.old i o }

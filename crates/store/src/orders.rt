@@ -1,15 +1,14 @@
 // An order's record: 256 bytes, of which 247 are used; a pair of functions for each group of fields
-// (no methods, since Terms is prelude's). Rests on words and cells.
+// (no methods, since Terms is prelude's). Rests on cells.
 ghost use Rattle.std.specs.Prelude.{◌≡◌, [], ◌∷◌, ◌++◌, replicate};
 ghost use Rattle.store.specs.Layout.{names·name, terms·side, state·status, links·amendments, pending·request, gateway·stage};
 ghost use Rattle.prelude.specs.Pieces.{writes};
 ghost use Rattle.store.specs.Orders.{malformed, unsent_of, stuck_of, stage_of, IsNames, FitsNames, widths_names, pieces_names, IsTerms, FitsTerms, widths_terms, pieces_terms, IsState, FitsState, widths_state, pieces_state, IsLinks, FitsLinks, widths_links, pieces_links, IsPending, FitsPending, widths_pending, pieces_pending, IsGateway, FitsGateway, widths_gateway, pieces_gateway, decode_order, FitsOrder, encode_order};
 
-use crate::cells::{get_text, put, put_text, put16, put32, put64};
+use crate::cells::{get_text, put, put_text, put16, put32, put64, u16_at, u32_at, u64_at};
 use crate::layout::{self, ORDER};
 use crate::{GatewayCancel, Links, Names, Order, Pending, State};
 use prelude::Terms;
-use words::{u16_at, u32_at, u64_at};
 
 // The stages of a gateway cancel; 0 where there is none. Any byte may stand there: numbers, no enum.
 const UNSENT: u8 = 1;
@@ -30,6 +29,7 @@ fn malformed_pair(stage: u8, link: u16) -> bool
 }
 
 // Whether a stage and its link show a cancel that is not sent. A malformed pair shows both marks.
+#[tactic(auto, unfolding(crate::specs::Orders::unsent_of))]
 pub fn unsent_of(stage: u8, link: u16) -> bool
     ensures { result ≡ unsent_of stage link }
 {
@@ -37,6 +37,7 @@ pub fn unsent_of(stage: u8, link: u16) -> bool
 }
 
 // Whether they show a stuck one.
+#[tactic(auto, unfolding(crate::specs::Orders::stuck_of))]
 pub fn stuck_of(stage: u8, link: u16) -> bool
     ensures { result ≡ stuck_of stage link }
 {
@@ -203,6 +204,7 @@ pub(crate) fn decode(s: &[u8; ORDER]) -> Order
 }
 
 // The bytes of an order's record. Numbers fit their widths, and texts have 32 bytes.
+#[tactic(auto, using(crate::specs::Laws::Orders::write_order))]
 pub(crate) fn encode(o: Order) -> [u8; ORDER]
     ensures { (result ≡ encode_order o) × FitsOrder o }
 {

@@ -1,14 +1,12 @@
-// A request's record: 128 bytes, of which 103 are its fields and 3 stand beside them. Rests on words
-// and cells.
+// A request's record: 128 bytes, of which 103 are its fields and 3 stand beside them. Rests on cells.
 ghost use Rattle.std.specs.Prelude.{◌≡◌, eqb, get_or};
 ghost use Rattle.prelude.specs.Cases.{if◌then◌otherwise◌};
 ghost use Rattle.store.specs.Layout.{request·answered, request·outcome};
 ghost use Rattle.store.specs.Requests.{WholeRequest, beside_bytes, decode_request, encode_request};
 
 use crate::Request;
-use crate::cells::{get_text, put, put_text, put16};
+use crate::cells::{get_text, put, put_text, put16, u16_at};
 use crate::layout::{self, REQUEST};
-use words::u16_at;
 
 // The request in a record's bytes.
 pub(crate) fn decode(s: &[u8; REQUEST]) -> Request
@@ -25,6 +23,7 @@ pub(crate) fn decode(s: &[u8; REQUEST]) -> Request
 }
 
 // The bytes behind the fields.
+#[tactic(auto, unfolding(prelude::specs::Span::splice))]
 fn beside(origin: u16) -> [u8; 25]
     ensures { result ≡ beside_bytes origin }
 {
@@ -35,6 +34,7 @@ fn beside(origin: u16) -> [u8; 25]
 
 // The bytes of a request's record: nothing has come of it, and this is its origin. Numbers fit their
 // widths, and texts have 32 bytes.
+#[tactic(auto, using(crate::specs::Laws::Requests::write_request))]
 pub(crate) fn encode(origin: u16, r: Request) -> [u8; REQUEST]
     ensures { (result ≡ encode_request origin r) × WholeRequest r }
 {

@@ -35,43 +35,38 @@ fn mark_requests(book: &mut [u8]) {
     }
 }
 
-// What was right or found: chains of a line each. A function over them would take count and test, and be
-// no shorter.
+// How many of the indices below `most` pass a test.
+fn count<F: Fn(u16) -> bool>(most: u16, passes: F) -> usize
+    requires { F.IsAlwaysCallable passes }
+{
+    (0..most).filter(|i| passes(*i)).count()
+}
+
+// What was loaded right: a call of `count` for each table, whose loads and samples are of its own type.
 fn orders_right(book: &[u8], turn: u16) -> usize {
-    (0..ORDERS)
-        .filter(|i| store::load_order(book, usize::from(*i)) == order(*i, turn))
-        .count()
+    count(ORDERS, |i| {
+        store::load_order(book, usize::from(i)) == order(i, turn)
+    })
 }
 
 fn requests_right(book: &[u8], answered: u8) -> usize {
-    (0..REQUESTS)
-        .filter(|j| store::load_request(book, usize::from(*j)) == request(*j, answered))
-        .count()
+    count(REQUESTS, |j| {
+        store::load_request(book, usize::from(j)) == request(j, answered)
+    })
 }
 
-fn names_found(book: &[u8]) -> usize {
-    (0..ORDERS)
-        .filter(|i| store::find_name(book, name(*i)) == Some(usize::from(*i)))
-        .count()
-}
-
-fn downstreams_found(book: &[u8]) -> usize {
-    (0..REQUESTS)
-        .filter(|j| store::find_downstream(book, downstream(*j)) == Some(usize::from(*j)))
-        .count()
-}
-
-fn clordids_found(book: &[u8]) -> usize {
-    (0..REQUESTS)
-        .filter(|j| store::find_clordid(book, client(*j / 4), clordid(*j)) == Some(usize::from(*j)))
-        .count()
+// Of each record's text, whether a lookup gives its index.
+fn found<F: Fn(u16) -> Option<usize>>(most: u16, find: F) -> usize
+    requires { F.IsAlwaysCallable find }
+{
+    count(most, |i| find(i) == Some(usize::from(i)))
 }
 
 // Another client's, and the empty one of a gateway cancel.
 fn clordids_missed(book: &[u8]) -> usize {
-    (0..REQUESTS)
-        .filter(|j| store::find_clordid(book, client(*j / 4) + 8, clordid(*j)).is_none())
-        .count()
+    count(REQUESTS, |j| {
+        store::find_clordid(book, client(j / 4) + 8, clordid(j)).is_none()
+    })
 }
 
 fn stored(rt: &impl Print, book: &mut [u8]) -> io::Result<()> {
@@ -103,9 +98,14 @@ fn full(rt: &impl Print, book: &mut [u8]) -> io::Result<()> {
 fn looked_up(rt: &impl Print, book: &[u8]) -> io::Result<()> {
     let unknown_name = store::find_name(book, name(ORDERS)).is_none();
     let unknown_downstream = store::find_downstream(book, downstream(REQUESTS)).is_none();
-    println!(rt; "names {}", names_found(book))?;
-    println!(rt; "downstreams {}", downstreams_found(book))?;
-    println!(rt; "ClOrdIDs {}", clordids_found(book))?;
+    let names = found(ORDERS, |i| store::find_name(book, name(i)));
+    let downstreams = found(REQUESTS, |j| store::find_downstream(book, downstream(j)));
+    let clordids = found(REQUESTS, |j| {
+        store::find_clordid(book, client(j / 4), clordid(j))
+    });
+    println!(rt; "names {names}")?;
+    println!(rt; "downstreams {downstreams}")?;
+    println!(rt; "ClOrdIDs {clordids}")?;
     println!(rt; "ClOrdIDs missed {}", clordids_missed(book))?;
     println!(rt; "unknown name {}", u8::from(unknown_name))?;
     println!(rt; "unknown downstream {}", u8::from(unknown_downstream))?;

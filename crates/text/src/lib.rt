@@ -3,6 +3,7 @@
 #![tactic(auto)]
 
 ghost use Rattle.std.specs.Prelude.{◌≡◌, ◌+◌, ◌≤◌, length};
+ghost use Rattle.prelude.specs.Number.{word64};
 ghost use Rattle.prelude.specs.Texts.{text_at, same_text, is_text, contents, text_of};
 ghost use Rattle.text.specs.Words.{no_text, holds, text_is, text_fine, push_text, push_all};
 ghost use Rattle.text.specs.Numbered.{decimal, numbered_text};
@@ -34,6 +35,16 @@ fn holds(s: &[u8], at: usize) -> bool
     s.len() >= 33 && at <= s.len() - 33
 }
 
+// The number of 8 bytes at an index, through a window of its own bytes. Here, and not words', since a public
+// function asks nothing of its callers, and a total one cost 16 % of an event (docs/SPEED.md, step 4).
+#[tactic(auto, using(words::specs::Laws::Windows::window_64))]
+fn u64_at(s: &[u8], at: usize) -> u64
+    requires { at + 8 ≤ length s.now }
+    ensures { result ≡ word64 s.now at }
+{
+    words::get64(&s[at..at + 8])
+}
+
 // Its length and its four words, by `&` so that there is no branch: short enough to be compiled into the
 // loop of a lookup. `==` of slices was tried: texts that begin alike take three times as long.
 fn same_here(s: &[u8], at: usize, t: Text) -> bool
@@ -41,10 +52,10 @@ fn same_here(s: &[u8], at: usize, t: Text) -> bool
     ensures { result ≡ same_text (text_at s.now at) t }
 {
     let b = t.bytes;
-    let w0 = words::u64_at(s, at) == words::u64_at(&b, 0);
-    let w1 = words::u64_at(s, at + 8) == words::u64_at(&b, 8);
-    let w2 = words::u64_at(s, at + 16) == words::u64_at(&b, 16);
-    let w3 = words::u64_at(s, at + 24) == words::u64_at(&b, 24);
+    let w0 = u64_at(s, at) == u64_at(&b, 0);
+    let w1 = u64_at(s, at + 8) == u64_at(&b, 8);
+    let w2 = u64_at(s, at + 16) == u64_at(&b, 16);
+    let w3 = u64_at(s, at + 24) == u64_at(&b, 24);
     (s[at + 32] == t.len) & (w0 & w1 & w2 & w3)
 }
 

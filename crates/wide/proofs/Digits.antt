@@ -1,8 +1,5 @@
 -- One digit of a long division to the base 2 ^ 32, guessed from the divisor's upper half. Assumes nothing.
-use Prim.Native.Nat.{ℕ, ◌+◌, ◌-◌, ◌*◌, ◌/◌, ◌%◌, ◌^◌, ◌≤◌, ◌<◌}
-use mathlib.Core.Path.{◌≡◌, sym, ap, ◌∙◌}
-use native.Mathlib.Nat.{add-mul, mul_assoc, mul_comm, mul-add, mul-le-mul, mod-lt, div-add-mod', div-lt_iff_lt-mul, lt_of_mul-lt-mul_right}
-use native.Mathlib.Omega.{arith}
+use Rattle.std.proofs.Common.{ℕ, ◌+◌, ◌-◌, ◌*◌, ◌/◌, ◌%◌, ◌^◌, ◌≤◌, ◌<◌, ◌≡◌, sym, ap, ◌∙◌, add-mul, mul_assoc, mul_comm, mul-add, mul-le-mul, mod-lt, div-add-mod', div-lt_iff_lt-mul, lt_of_mul-lt-mul_right, arith}
 use Rattle.wide.specs.Division.{Divides}
 
 -- what is left of `n` and one digit more, and what the guess takes of it for the divisor's lower half

@@ -1,11 +1,6 @@
 -- A division whose two sides are shifted until the divisor's highest bit is set. Assumes nothing.
-use Prim.Native.Nat.{ℕ, suc, ◌+◌, ◌-◌, ◌*◌, ◌/◌, ◌%◌, ◌^◌, ◌≤◌, ◌<◌}
-use mathlib.Core.Path.{◌≡◌, sym, ap, ◌∙◌}
-use native.Mathlib.Nat.{add_comm, add-mul, mul_assoc, mul_comm, suc-mul, mul-le-mul_right, mul-lt-mul_of_pos_right}
-use native.Mathlib.Nat.{add-mul-div_right, mul-div_cancel, mul-div-mul_right, div-div-eq-div-mul, div-lt_iff_lt-mul, mod-eq_of_lt}
-use native.Mathlib.Nat.{le_trans, le_of_eq, lt_of_lt_of_le}
-use native.Mathlib.Omega.{arith}
-use lib.Pow.{pow_pos, pow-add}
+use Rattle.std.proofs.Common.{ℕ, suc, ◌+◌, ◌-◌, ◌*◌, ◌/◌, ◌%◌, ◌^◌, ◌≤◌, ◌<◌, ◌≡◌, sym, ap, ◌∙◌, add_comm, add-mul, mul_assoc, mul_comm, suc-mul, mul-le-mul_right, mul-lt-mul_of_pos_right, mul-div_cancel, div-lt_iff_lt-mul, mod-eq_of_lt, le_trans, le_of_eq, lt_of_lt_of_le, arith, pow_pos, pow-add}
+use Rattle.std.proofs.Math.Nat.{add-mul-div_right, mul-div-mul_right, div-div-eq-div-mul}
 use lib.Count.{count_leading_zeros, leading_top}
 use Rattle.wide.specs.Division.{Divides, Scales}
 

@@ -1,8 +1,9 @@
 -- Laws of the price of a fill: which of the three it is, when it is 0, and how large it gets. Rests on Wide and Rounding.
 use Rattle.std.specs.Prelude.{ℕ, ◌-◌, ◌*◌, ◌^◌, ◌≤◌, ◌<◌, ◌≡◌, refl, Bool, true, false, ◌&&◌, eqb, ltb, List}
-use Rattle.std.proofs.Common.{◌∙◌, le_trans, lt_of_le_of_lt, sub-le, mul-le-mul, arith, lit≤, lit<}
-use borrow.Author.Tests.{lt-ltb, le-ltb, ne_eqb, ltb-true, ltb-false}
-use Rattle.prelude.specs.Cases.{if◌then◌otherwise◌, split_if, if_true, if_false, both_true}
+use Rattle.std.proofs.Common.{◌∙◌, le_trans, lt_of_le_of_lt, sub-le, mul-le-mul, arith, lit≤, lit<, lt-ltb, le-ltb, ne_eqb, ltb-true, ltb-false}
+use Rattle.std.proofs.lemmas.Bool.{and_parts}
+use Rattle.std.proofs.Math.Bool.{and-true}
+use Rattle.prelude.specs.Cases.{if◌then◌otherwise◌, split_if, if_true, if_false}
 use Rattle.wide.specs.Wide.{by_last_px, implied, fill_price, words, from_last_px, from_quotient, from_average, priced}
 use Rattle.wide.specs.Rounding.{nearest_none, nearest_le}
 use Rattle.wide.specs.declared.Priced.{Priced}
@@ -39,7 +40,7 @@ module _ (lastqty lastpx cumqty avgpx oldcum oldavg rise : ℕ) where
 
   last_px_above : last_px ≡ true → 0 < lastpx
   unfolding by_last_px
-  last_px_above e = ltb-true 0 lastpx (both_true (ltb 0 lastpx) _ e).0
+  last_px_above e = ltb-true 0 lastpx (and_parts (ltb 0 lastpx) _ e).0
 
   -- what holds of each of the three holds of the price
   by_source : (P : Priced → Type 0) → (last_px ≡ true → P (priced lastpx from_last_px)) → (last_px ≡ false → 0 < quotient → P (priced quotient from_quotient))
@@ -94,13 +95,9 @@ module _ (lastqty lastpx cumqty avgpx oldcum oldavg rise : ℕ) where
 
 -- ---- when LastPx tells it
 
-with_true : (a : Bool) → a && true ≡ a
-with_true true = refl
-with_true false = refl
-
 pub last_px_no_rise : (lastqty lastpx : ℕ) → by_last_px lastqty lastpx 0 ≡ ltb 0 lastpx
 unfolding by_last_px
-last_px_no_rise lastqty lastpx = with_true (ltb 0 lastpx)
+last_px_no_rise lastqty lastpx = and-true (ltb 0 lastpx)
 
 pub last_px_rise : (lastqty lastpx rise : ℕ) → 0 < rise → by_last_px lastqty lastpx rise ≡ ltb 0 lastpx && eqb rise lastqty
 unfolding by_last_px

@@ -1,10 +1,9 @@
 -- Laws of division rounded to the nearest: how each quotient rounds, what holds whatever the rule for a half is, and that the two divisions agree. The first
 -- two and `half_up` open that rule, the rest cite them. Rests on Wide, Words and prelude's Cases.
 use Rattle.std.specs.Prelude.{ℕ, ◌+◌, ◌*◌, ◌/◌, ◌%◌, ◌^◌, ◌≤◌, ◌<◌, ◌≡◌, refl, ◌⊎◌, ltb, eqb, List, [], ◌∷◌, get_or}
-use Rattle.std.proofs.Common.{sym, ap, ◌∙◌, inl, inr, ⊎_elim, lt_of_le_of_lt, add-mul, zero-mul, one-mul, mod-lt, div-add-mod', le-mul_of_pos_right, lt_of_mul-lt-mul_right, arith}
-use Rattle.std.proofs.Math.Decide.{dec_lt}
+use Rattle.std.proofs.Common.{sym, ap, ◌∙◌, inl, inr, ⊎_elim, lt_of_le_of_lt, add-mul, zero-mul, one-mul, mod-lt, div-add-mod', le-mul_of_pos_right, lt_of_mul-lt-mul_right, arith, ltb-true, ltb-false, eqb-true, ne_eqb, eq-eqb, le-ltb, lt-ltb}
 use Rattle.std.proofs.Math.Arith.{digits_div, digits_mod}
-use borrow.Author.Tests.{ltb-true, ltb-false, eqb-true, ne_eqb, eq-eqb, le-ltb, lt-ltb}
+use Rattle.std.proofs.Math.Decide.{dec_lt}
 use Rattle.prelude.specs.Cases.{if◌then◌otherwise◌, split_if, if_false}
 use Rattle.wide.specs.Wide.{value, words, at_half, up, nearest}
 use Rattle.wide.specs.Words.{one_word}

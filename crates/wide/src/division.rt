@@ -43,6 +43,7 @@ fn digit(n: u64, next: u64, d: u64) -> Divided
 }
 
 // The shift that brings the highest bit of `d` to the top.
+#[tactic(auto, using(crate::proofs::Shifts::scales))]
 fn scale(d: u64) -> u32
     requires { 0 < d }
     ensures { Scales d result }
@@ -52,6 +53,7 @@ fn scale(d: u64) -> u32
 
 // `hi * 2^64 + lo` divided by `d`: both are shifted until the highest bit of `d` is set, which
 // leaves the quotient and shifts the rest.
+#[tactic(auto, using(crate::proofs::Digits::digit_small, crate::proofs::Digits::two_digits, crate::proofs::Shifts::shifted, crate::proofs::Shifts::unscaled))]
 pub(crate) fn divide(hi: u64, lo: u64, d: u64) -> Divided
     requires { hi < d }
     ensures { Divides (hi * 2 ^ 64 + lo) d result.quotient result.rest }

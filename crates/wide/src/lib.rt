@@ -1,6 +1,6 @@
-// Two-word numbers, `[u64; 2]` by value with the low word first, and the price of a fill. Each
-// function is total and equals a definition of specs/Wide.antt. Rests on the module `division` and
-// on prelude's words.
+// Two-word numbers, `[u64; 2]` by value with the low word first, as prices stand in records and in
+// the book, and the price of a fill. Each function is total and equals a definition of
+// specs/Wide.antt. Rests on the module `division` and on prelude's words.
 #![tactic(auto)]
 
 ghost use Rattle.std.specs.Prelude.{◌≡◌, ◌-◌, ◌*◌, ◌/◌, ◌%◌, ◌<◌, ltb};
@@ -67,6 +67,7 @@ pub fn minus(a: [u64; 2], b: [u64; 2]) -> [u64; 2]
 
 // What rounding adds to a quotient, 0 or 1, where `rest` is left of the division by `d`: the rest is
 // compared with what lacks to `d`, as its double may pass a word.
+#[tactic(auto, using(std::proofs::lemmas::Bool::Decides::nat_tests, prelude::specs::Cases::if_true, prelude::specs::Cases::if_false), unfolding(crate::specs::Wide::up, crate::specs::Wide::at_half))]
 fn round(quotient: u64, rest: u64, d: u64) -> u64
     requires { rest < d }
     ensures { result ≡ up quotient rest d }
@@ -79,6 +80,7 @@ fn round(quotient: u64, rest: u64, d: u64) -> u64
 }
 
 // `n / d` rounded to the nearest, and 0 where `d` is 0: long division, a word at a time.
+#[tactic(auto, using(crate::proofs::Carried::by_words, crate::specs::Rounding::nearest_none, crate::specs::Rounding::nearest_le, crate::specs::Words::value_fits))]
 pub fn long(n: [u64; 2], d: u64) -> [u64; 2]
     ensures { result ≡ words (nearest (value n) d) }
 {
@@ -91,6 +93,7 @@ pub fn long(n: [u64; 2], d: u64) -> [u64; 2]
 }
 
 // The same of a single word, by the machine's own division.
+#[tactic(auto, using(crate::specs::Rounding::nearest_none, crate::specs::Rounding::nearest_by, crate::specs::Rounding::nearest_le))]
 pub fn plain(n: u64, d: u64) -> u64
     ensures { result ≡ nearest n d }
 {
@@ -121,6 +124,7 @@ pub struct Tenth {
 }
 
 // `n / 10` and `n % 10`: the digits of two words, the lowest first.
+#[tactic(auto, using(crate::proofs::Carried::carried, crate::specs::Words::two_words))]
 pub fn by_ten(n: [u64; 2]) -> Tenth
     ensures { (result.quotient ≡ words (value n / 10)) × (result.digit ≡ value n % 10) }
 {
@@ -133,6 +137,7 @@ pub fn by_ten(n: [u64; 2]) -> Tenth
 }
 
 // Does the report's LastPx tell the price? It is above 0, and there is no rise or it is LastQty.
+#[tactic(auto, unfolding(crate::specs::Wide::by_last_px))]
 pub fn by_last_px(lastqty: u64, lastpx: u64, rise: u64) -> bool
     ensures { result ≡ by_last_px lastqty lastpx rise }
 {
@@ -140,6 +145,7 @@ pub fn by_last_px(lastqty: u64, lastpx: u64, rise: u64) -> bool
 }
 
 // The price that the change of the average implies for the rise; 0 where it is not positive.
+#[tactic(auto, using(crate::specs::Words::value_of), unfolding(crate::specs::Wide::implied))]
 pub fn implied(cumqty: u64, avgpx: u64, oldcum: u64, oldavg: u64, rise: u64) -> [u64; 2]
     ensures { result ≡ words (implied cumqty avgpx oldcum oldavg rise) }
 {
@@ -151,6 +157,7 @@ pub fn implied(cumqty: u64, avgpx: u64, oldcum: u64, oldavg: u64, rise: u64) -> 
 // The price of a fill and where it came from: the report's LastQty, LastPx, CumQty and AvgPx, the
 // order's cumulative quantity and average, and the rise. Quantities are counts of 1/10,000, prices
 // of 10^-8.
+#[tactic(auto, using(crate::specs::Words::value_of, crate::specs::Words::one_word, std::proofs::lemmas::Bool::Decides::nat_tests, prelude::specs::Cases::if_true, prelude::specs::Cases::if_false), unfolding(crate::specs::Wide::fill_price))]
 pub fn fill_price(
     lastqty: u64,
     lastpx: u64,

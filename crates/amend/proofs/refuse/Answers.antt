@@ -1,6 +1,6 @@
 -- `amend::refuse` is `refuse`. Assumes nothing.
 use Rattle.prelude.specs.Cases.{if◌then◌otherwise◌}
-use borrow.Author.Tests.{eq-eqb, ne_eqb}
+use Rattle.std.proofs.Common.{eq-eqb, ne_eqb}
 use Rattle.machine.specs.Amend.{refuse}
 use Rattle.amend.proofs.refuse.Goals.{then-place-eq0, else-place-eq0}
 use Rattle.amend.proofs.refuse.Goals as goal

@@ -1,9 +1,8 @@
 -- What is told of a cause has a text. Rests on Why.
 use Rattle.std.specs.Prelude.{ℕ, ◌≡◌, ◌+◌, min, refl, false, eqb}
-use Rattle.std.proofs.Common.{arith}
+use Rattle.std.proofs.Common.{arith, ne_eqb}
 use Rattle.std.proofs.lemmas.Grind.{common_steps}
 use Rattle.prelude.specs.Cases.{if◌then◌otherwise◌, split_if}
-use borrow.Author.Tests.{ne_eqb}
 use Rattle.machine.specs.Amend.{verdict_text}
 use Rattle.amend.specs.declared.why.Why.{Why}
 use Rattle.amend.specs.declared.why.Why.TheVariants.{Cancelling, ReplacePending, BelowFilled, Blocked, Duplicate, UnknownOrder, Done, TooMany, SideOrSymbol, Verdict}

@@ -1,10 +1,7 @@
 -- `bits::with_bit`: a mask of one bit sets that bit. Rests on Laws.Map.
-use Rattle.std.specs.Prelude.{◌≡◌, ℕ, ◌*◌, ◌%◌, ◌^◌}
+use Rattle.std.proofs.Common.{◌≡◌, ℕ, ◌*◌, ◌%◌, ◌^◌, rules, ap, ◌∙◌, arith, one-mul, shl_exact, lit<}
 use Rattle.std.specs.Int.Bits.{bit_or}
-use Rattle.std.proofs.Common.{rules, ap, ◌∙◌, arith, one-mul}
 use Rattle.bits.specs.Laws.Map.{or_one}
-use lib.Pow.{shl_exact}
-use lib.Dec.{lit<}
 use Rattle.bits.proofs.with_bit.Goals as goal
 
 pub returns : goal.returns

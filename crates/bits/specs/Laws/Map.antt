@@ -2,10 +2,10 @@
 use Rattle.std.specs.Prelude.{ℕ, zero, suc, ◌+◌, ◌-◌, ◌*◌, ◌/◌, ◌%◌, ◌^◌, ◌≤◌, ◌<◌, min, ◌≡◌, refl, ◌⊎◌, true}
 use Rattle.std.proofs.Common.{sym, ap, ◌∙◌, inl, inr, mod-lt, zero-lt-suc, arith, pow-add, eqb-true, eq-eqb, lt-ltb}
 use Rattle.std.proofs.Math.Nat.{div-eq_of_lt}
+use Rattle.std.proofs.Math.Pow.{pow-lt}
 use Rattle.std.specs.Int.Bits.{bit_and, bit_or, or_add_and, and_step}
 use Rattle.std.proofs.lemmas.Nat.Bits.{and_high}
 use Rattle.std.proofs.lemmas.Nat.{and_shr}
-use Rattle.std.proofs.Math.Pow.{pow-lt}
 use Rattle.prelude.specs.Cases.{if◌then◌otherwise◌}
 use Rattle.bits.specs.Map.{digit, bit, with_bit, contains}
 

@@ -1,8 +1,6 @@
 -- The bits of a map that stand are the ones of its number: what `u32::count_ones` gives is their count. Rests on Map.
 use Rattle.std.specs.Prelude.{ℕ, zero, suc, ◌+◌, ◌*◌, ◌%◌, ◌^◌, ◌<◌, ◌≡◌, refl, ◌⊎◌, eqb}
-use Rattle.std.proofs.Common.{sym, ◌∙◌, inl, inr, mod-lt, mod-eq_of_lt, zero-lt-suc, pow-suc, mul_comm, add_comm, pow_pos}
-use Rattle.std.proofs.Math.Path.{ap}
-use native.Mathlib.Omega.{arith}
+use Rattle.std.proofs.Common.{sym, ◌∙◌, inl, inr, mod-lt, mod-eq_of_lt, zero-lt-suc, pow-suc, mul_comm, add_comm, pow_pos, ap, arith}
 use Rattle.std.proofs.Math.Arith.{mod-mul}
 use Rattle.std.specs.Int.Count.{ones, ones_in}
 use Rattle.std.proofs.lemmas.Nat.{ones_cat}

@@ -1,6 +1,6 @@
 -- A law of tests by computing it for each of their combinations: a map's bits behind tests are then numbers. Rests on prelude.
 use Rattle.std.specs.Prelude.{ℕ, zero, suc, ◌≡◌, Bool, true, false, ◌&&◌}
-use Rattle.prelude.specs.Cases.{both_true}
+use Rattle.std.proofs.lemmas.Bool.{and_parts}
 
 -- a test of n tests
 abbrev pub Tests : ℕ → Type 0
@@ -18,5 +18,5 @@ Each (suc n) p = (t : Bool) → Each n (p t)
 pub each : (n : ℕ) (p : Tests n) → passes n p ≡ true → Each n p
 each zero p e = e
 each (suc n) p e =
-    let (x, y) = both_true (passes n (p true)) (passes n (p false)) e in
+    let (x, y) = and_parts (passes n (p true)) (passes n (p false)) e in
     elim [ true ↦ each n (p true) x | false ↦ each n (p false) y ]

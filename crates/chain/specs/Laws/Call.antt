@@ -8,7 +8,7 @@ use Rattle.store.specs.Book.{book_of}
 use Rattle.opens.specs.Keeps.{keeps_of}
 use Rattle.chain.specs.Chain.{called_by, chain_of, entry_size, entries_of, chained, chain_call}
 use Rattle.chain.specs.Laws.Walk.{walk, chain_walk, chain_empty}
-use Rattle.chain.specs.Laws.Sound.{call_short, call_written}
+use Rattle.chain.specs.Laws.Sound.{call_bad, call_short, call_written}
 
 module _ (b : List ℕ) (client : ℕ) (name list : List ℕ) (keeps : keeps_of b ≡ true) where
   abbrev ks : List ℕ
@@ -40,3 +40,6 @@ module _ (b : List ℕ) (client : ℕ) (name list : List ℕ) (keeps : keeps_of 
     where
       blank : splice list 0 (entries_of b []) ≡ list
       blank = unfold entries_of in splice_nil list 0
+
+-- for the tactic of the call
+pub ruleset calls = (call_bad, as_short, as_written, as_none)

@@ -1,14 +1,11 @@
 -- Entries: 34 bytes each, a stored ClOrdID being its length and its 32 bytes; written one behind the other. Rests on Chain.
-use Rattle.std.specs.Prelude.{ℕ, suc, ◌+◌, ◌*◌, ◌≤◌, ◌<◌, ◌≡◌, Bool, ◌&&◌, length, get_or, None, Some}
-use Rattle.std.proofs.Common.{arith, ◌∙◌, length-take}
-use Rattle.std.proofs.Math.Path.{refl, sym, ap, ap₂}
-use Rattle.std.proofs.Math.Bool.{true}
-use mathlib.Core.List.{List, [], ◌∷◌, map, append-nil}
-use Rattle.std.proofs.Math.Dec.{leb}
-use Rattle.std.proofs.Math.ListN.{length-append}
+use Rattle.std.specs.Prelude.{ℕ, suc, ◌+◌, ◌*◌, ◌≤◌, ◌<◌, ◌≡◌, Bool, ◌&&◌, length, get_or, None, Some, refl, true, List, [], ◌∷◌, map, leb}
+use Rattle.std.proofs.Common.{arith, ◌∙◌, length-take, sym, ap, ap₂, append-nil, length-append}
+use Rattle.std.proofs.lemmas.Bool.{and_parts}
 use Rattle.std.proofs.lemmas.List.{length-replicate}
-use Rattle.prelude.specs.Cases.{if◌then◌otherwise◌, split_if, both_true}
-use Rattle.prelude.specs.Pieces.{joined, Sized, length_joined, writes_joined}
+use Rattle.std.specs.List.{concat}
+use Rattle.prelude.specs.Cases.{if◌then◌otherwise◌, split_if}
+use Rattle.prelude.specs.Pieces.{Sized, length_joined, writes_joined}
 use Rattle.prelude.specs.Span.{span, splice, length_span, length_splice, splice_append}
 use Rattle.prelude.specs.Texts.{text_at, contents, text_of, is_text, text_contents}
 use Rattle.prelude.specs.declared.Text.{Text}
@@ -39,7 +36,7 @@ module _ (b : List ℕ) where
   pub length_entries : (ks : List ℕ) → length (entries_of b ks) ≡ entry_size * length ks
   unfolding entries_of
   length_entries [] = refl
-  length_entries (k ∷ ks) = length-append (entry_of b k) (joined (map (entry_of b) ks)) ∙ omega (arith, length_entry k, length_entries ks)
+  length_entries (k ∷ ks) = length-append (entry_of b k) (concat (map (entry_of b) ks)) ∙ omega (arith, length_entry k, length_entries ks)
 
   -- one, and one before others
   pub entries_one : (k : ℕ) → entries_of b (k ∷ []) ≡ entry_of b k
@@ -50,8 +47,8 @@ module _ (b : List ℕ) where
       → splice (splice s at (entry_of b k)) (at + entry_size) (entries_of b ks) ≡ splice s at (entries_of b (k ∷ ks))
   unfolding entries_of
   entries_more s at k ks h =
-      ap (λ (n : ℕ). splice (splice s at (entry_of b k)) (at + n) (joined (map (entry_of b) ks))) (sym (length_entry k))
-      ∙ splice_append s at (entry_of b k) (joined (map (entry_of b) ks)) (omega (arith, length_entry k))
+      ap (λ (n : ℕ). splice (splice s at (entry_of b k)) (at + n) (concat (map (entry_of b) ks))) (sym (length_entry k))
+      ∙ splice_append s at (entry_of b k) (concat (map (entry_of b) ks)) (omega (arith, length_entry k))
 
 -- ---- an entry as it is stored: the length, the 32 bytes of the ClOrdID, and the outcome
 
@@ -59,7 +56,7 @@ abbrev stored : List ℕ → ℕ → List (List ℕ)
 stored b k = (get_or b (request_base k + request·clordidLen) 0 ∷ []) ∷ span b (request_base k + request·clordid) 32 ∷ (outcome_at b k ∷ []) ∷ []
 
 unfoldable pub stored_entry : List ℕ → ℕ → List ℕ
-stored_entry b k = joined (stored b k)
+stored_entry b k = concat (stored b k)
 
 -- its three parts written
 pub entry_written : (b : List ℕ) (k : ℕ) (s : List ℕ) (at : ℕ) → length b ≡ book_size → k < most_requests → at + entry_size ≤ length s
@@ -90,7 +87,7 @@ module _ (b : List ℕ) (keeps : keeps_of b ≡ true) (k : ℕ) (h : k < request
       (range_kept _ ((book_kept (book_of b) (keeps_held b keeps).rules).request k (omega (arith, length_requests b))).range).clordid
     where
       fine : (lo hi : ℕ) → text_within lo hi name ≡ true → is_text name ≡ true
-      fine lo hi e = (both_true (is_text name) _ (both_true (is_text name && leb lo name.len) (leb name.len hi) e).0).0
+      fine lo hi e = (and_parts (is_text name) _ (and_parts (is_text name && leb lo name.len) (leb name.len hi) e).0).0
 
       go : (t : Bool) → (if t then text_within 0 0 name otherwise text_within 1 32 name) ≡ true → is_text name ≡ true
       go t = split_if (λ (v : Bool). v ≡ true → is_text name ≡ true) t (λ e. fine 0 0) (λ e. fine 1 32)
@@ -103,8 +100,8 @@ module _ (b : List ℕ) (keeps : keeps_of b ≡ true) (k : ℕ) (h : k < request
   unfolding stored_entry entry_of text_of
   entry_stored =
       sym
-      (ap (λ (t : Text). joined ((t.len ∷ []) ∷ t.bytes ∷ (outcome_at b k ∷ []) ∷ [])) name_whole
-      ∙ ap₂ (λ (n : ℕ) (l : List ℕ). joined ((n ∷ []) ∷ l ∷ (outcome_at b k ∷ []) ∷ [])) len_at (ap (λ (t : Text). t.bytes) name_at))
+      (ap (λ (t : Text). concat ((t.len ∷ []) ∷ t.bytes ∷ (outcome_at b k ∷ []) ∷ [])) name_whole
+      ∙ ap₂ (λ (n : ℕ) (l : List ℕ). concat ((n ∷ []) ∷ l ∷ (outcome_at b k ∷ []) ∷ [])) len_at (ap (λ (t : Text). t.bytes) name_at))
 
 -- ---- the entries of a walk: written as far as its first, then the rest behind it
 
@@ -134,3 +131,6 @@ module _ (b : List ℕ) (keeps : keeps_of b ≡ true) (k : ℕ) (h : k < request
           ∙ ap (λ (l : List ℕ). splice l (at + entry_size) (entries_of b (walk b j))) written
           ∙ entries_more b s at k (walk b j) first_room
           ∙ ap (λ (ks : List ℕ). splice s at (entries_of b ks)) (sym (walk_more b keeps k h j e))
+
+-- for the tactic of the function that writes them
+pub ruleset put = (first_room, rest_room, put_end, put_more)

@@ -1,12 +1,10 @@
 -- Names found: a ClOrdID of a client names one request, and an empty one none. Rests on store's Finds and machine's rules.
-use Rattle.std.specs.Prelude.{ℕ, ◌<◌, ◌≡◌, refl, Bool, eqb, ltb, length, Option, None, Some}
+use Rattle.std.specs.Prelude.{ℕ, ◌<◌, ◌≡◌, refl, Bool, eqb, ltb, length, Option, None, Some, true}
+use Rattle.std.proofs.Common.{arith, ap, ◌∙◌, sym, eqb-true, eq-eqb, ltb-true, lt-ltb}
 use Rattle.std.proofs.Math.Decide.{dec_lt}
-use Rattle.std.proofs.Common.{arith, ap, ◌∙◌}
-use Rattle.std.proofs.Math.Path.{sym}
-use Rattle.std.proofs.Math.Bool.{true}
-use borrow.Author.Tests.{eqb-true, eq-eqb, ltb-true, lt-ltb}
+use Rattle.std.proofs.lemmas.Bool.{and_parts}
 use Rattle.prelude.specs.Below.{First, first_some, first_elim}
-use Rattle.prelude.specs.Cases.{clash, both_true}
+use Rattle.prelude.specs.Cases.{clash}
 use Rattle.prelude.specs.Texts.{same_text, same_back, same_trans}
 use Rattle.prelude.specs.declared.Text.{Text}
 use Rattle.store.specs.Book.{Book, request_in}
@@ -31,9 +29,9 @@ module _ (x : Book) (client : ℕ) (t : Text) where
   bears_parts : (k : ℕ) → k < length x.requests → bears k ≡ true → Bears x client t k
   unfolding of_client
   bears_parts k h e =
-      let p = both_true (has_clordid (request_in x k)) _ e in
-      let q = both_true (same_text (request_in x k).clordid t) _ p.1 in
-      let r = both_true (ltb (request_in x k).order (length x.orders)) (eqb (client_of x k) client) q.1 in
+      let p = and_parts (has_clordid (request_in x k)) _ e in
+      let q = and_parts (same_text (request_in x k).clordid t) _ p.1 in
+      let r = and_parts (ltb (request_in x k).order (length x.orders)) (eqb (client_of x k) client) q.1 in
       record { used = h; named = p.0; same = q.0; booked = ltb-true _ _ r.0; whose = eqb-true _ _ r.1 }
 
   bears_whole : (k : ℕ) → Bears x client t k → bears k ≡ true

@@ -1,19 +1,14 @@
 -- The promises of the chain and of the call. Rests on Walk and Entries.
-use Prim.Native.Nat.{ℕ, zero, suc, ◌+◌, ◌-◌, ◌*◌, ◌≤◌, ◌<◌}
-use Rattle.std.proofs.Common.{not-suc-le-zero, add-zero, zero-add, sym, ap, ◌∙◌, length-append, length-take, take_at, get_or-take, get_or-append-add}
+use Rattle.std.specs.Prelude.{ℕ, zero, suc, ◌+◌, ◌-◌, ◌*◌, ◌≤◌, ◌<◌, ◌≡◌, ◌&&◌, ◌||◌, eqb, leb, get_or, take, drop, replicate, Option, None, Some, refl, Bool, true, false, not, List, [], ◌∷◌, ◌++◌, map, length}
+use Rattle.std.proofs.Common.{not-suc-le-zero, add-zero, zero-add, sym, ap, ◌∙◌, length-append, length-take, take_at, get_or-take, get_or-append-add, arith, subst, eqb-true, eq-eqb, ne_eqb, leb-true, le-leb, lt-ltb, le-ltb}
 use Rattle.std.proofs.Math.Decide.{dec_le, dec_lt}
-use native.Mathlib.Omega.{arith}
-use Rattle.std.specs.Prelude.{◌≡◌, ◌&&◌, ◌||◌, eqb, leb, get_or, take, drop, replicate, Option, None, Some}
-use Rattle.std.proofs.Math.Path.{refl, subst}
-use Rattle.std.proofs.Math.Bool.{Bool, true, false, not}
-use mathlib.Core.List.{List, [], ◌∷◌, ◌++◌, map}
-use Rattle.std.proofs.Math.ListN.{length, get_or-append, get_or-eq_default}
-use Rattle.std.proofs.lemmas.List.{length-replicate, get_or-replicate}
+use Rattle.std.proofs.Math.ListN.{get_or-append, get_or-eq_default}
 use Rattle.std.proofs.Math.Seq.{drop-append-add, get_or-append_seam}
-use borrow.Author.Tests.{eqb-true, eqb-false, eq-eqb, ne_eqb, leb-true, le-leb, lt-ltb, le-ltb}
+use Rattle.std.proofs.lemmas.Bool.{eqb-false, and_parts, and_from, or_from, not-true}
+use Rattle.std.proofs.lemmas.List.{length-replicate, get_or-replicate}
+use Rattle.std.specs.List.{concat}
 use Rattle.prelude.specs.Below.{count_below, count_hit}
-use Rattle.prelude.specs.Cases.{if◌then◌otherwise◌, maybe, clash, both_true, both_hold, if_true, if_false, maybe_none, maybe_some, none_some, or_both}
-use Rattle.prelude.specs.Pieces.{joined}
+use Rattle.prelude.specs.Cases.{if◌then◌otherwise◌, maybe, clash, if_true, if_false, maybe_none, maybe_some, none_some}
 use Rattle.prelude.specs.Span.{span, splice, length_span, length_splice, span_splice_same, span_splice_after, span_span, get_span}
 use Rattle.prelude.specs.Texts.{contents, text_of, same_text, is_text, same_text_lem, same_self, long_text, contents_text}
 use Rattle.prelude.specs.declared.Text.{Text}
@@ -54,10 +49,6 @@ stepped_more : (x : Book) (k : ℕ) (ks : List ℕ) → (0 < length ks → IsSte
 stepped_more x k ks s r zero h = s (omega arith)
 stepped_more x k ks s r (suc i) h = r i (omega arith)
 
-untrue : (t : Bool) → not t ≡ true → t ≡ false
-untrue true z = clash false z refl
-untrue false z = refl
-
 -- one that passes counts for those behind it
 count_rises : (p : ℕ → Bool) (n m : ℕ) → n ≤ m → count_below p n ≤ count_below p m
 unfolding count_below
@@ -79,15 +70,15 @@ contents_fit t l = simp length-take (omega arith)
 contents_some : (t : Text) → length t.bytes ≡ 32 → not (eqb t.len 0) ≡ true → 0 < length (contents t)
 unfolding contents
 contents_some t l e =
-    let n : t.len ≡ 0 → ⊥ = eqb-false _ _ (untrue (eqb t.len 0) e) in
+    let n : t.len ≡ 0 → ⊥ = eqb-false _ _ (not-true (eqb t.len 0) e) in
     simp length-take (omega arith)
 
 -- a text of so many bytes
 within : (t : Text) (low high : ℕ) → text_within low high t ≡ true → (low ≤ t.len) × (t.len ≤ high)
 unfolding text_within
 within t low high w =
-    let p = both_true (is_text t && leb low t.len) (leb t.len high) w in
-    (leb-true _ _ (both_true (is_text t) (leb low t.len) p.0).1, leb-true _ _ p.1)
+    let p = and_parts (is_text t && leb low t.len) (leb t.len high) w in
+    (leb-true _ _ (and_parts (is_text t) (leb low t.len) p.0).1, leb-true _ _ p.1)
 
 -- a request in range with a ClOrdID and no OrigClOrdID is a first one
 first_request : (q : Request) → RangeKept q → has_clordid q ≡ true → is_empty q.origclordid ≡ true → is_first q ≡ true
@@ -97,10 +88,10 @@ first_request q r c e = go (is_first q) (is_gateway q) refl refl
     go true g s t = s
     go false true s t =
         let z : q.clordid.len ≤ 0 = (within q.clordid 0 0 (sym (if_true (is_gateway q) _ _ t) ∙ r.clordid)).1 in
-        let n : q.clordid.len ≡ 0 → ⊥ = eqb-false _ _ (untrue (eqb q.clordid.len 0) c) in
+        let n : q.clordid.len ≡ 0 → ⊥ = eqb-false _ _ (not-true (eqb q.clordid.len 0) c) in
         absurd (omega arith)
     go false false s t =
-        let z : 1 ≤ q.origclordid.len = (within q.origclordid 1 32 (sym (if_false (is_first q || is_gateway q) _ _ (or_both _ _ s t)) ∙ r.origclordid)).0 in
+        let z : 1 ≤ q.origclordid.len = (within q.origclordid 1 32 (sym (if_false (is_first q || is_gateway q) _ _ (or_from _ _ s t)) ∙ r.origclordid)).0 in
         let n : q.origclordid.len ≡ 0 = eqb-true _ _ e in
         absurd (omega arith)
 
@@ -237,7 +228,7 @@ module _ (b : List ℕ) (keeps : keeps_of b ≡ true) where
   called_at : (client : ℕ) (name : List ℕ) (k : ℕ) → 0 < length name → Uses x client name k → called_by x client name ≡ Some k
   unfolding called_by
   called_at client name k l u =
-      if_true _ _ _ (both_hold _ _ (le-leb 1 (length name) (omega arith)) (le-leb (length name) 32 (short_name client name k u)))
+      if_true _ _ _ (and_from _ _ (le-leb 1 (length name) (omega arith)) (le-leb (length name) 32 (short_name client name k u)))
       ∙ bears_found x client (text_of name) good k (uses_bears client name k l u)
 
   called_uses : (client : ℕ) (name : List ℕ) (k : ℕ) → called_by x client name ≡ Some k → Uses x client name k
@@ -328,11 +319,11 @@ sound_chain b keeps = record {
 entry_at : (b ks : List ℕ) (i : ℕ) → i < length ks → span (entries_of b ks) (entry_size * i) entry_size ≡ entry_of b (get_or ks i 0)
 unfolding entries_of span
 entry_at b [] i h = absurd (omega arith)
-entry_at b (k ∷ ks) zero h = take_at (entry_of b k) (joined (map (entry_of b) ks)) entry_size (length_entry b k)
+entry_at b (k ∷ ks) zero h = take_at (entry_of b k) (concat (map (entry_of b) ks)) entry_size (length_entry b k)
 entry_at b (k ∷ ks) (suc i) h =
     let e : entry_size * suc i ≡ length (entry_of b k) + entry_size * i = omega (arith, length_entry b k) in
-    ap (λ (n : ℕ). take entry_size (drop n (entry_of b k ++ joined (map (entry_of b) ks)))) e
-    ∙ ap (take entry_size) (drop-append-add (entry_of b k) (joined (map (entry_of b) ks)) (entry_size * i))
+    ap (λ (n : ℕ). take entry_size (drop n (entry_of b k ++ concat (map (entry_of b) ks)))) e
+    ∙ ap (take entry_size) (drop-append-add (entry_of b k) (concat (map (entry_of b) ks)) (entry_size * i))
     ∙ entry_at b ks i (omega arith)
 
 -- byte by byte

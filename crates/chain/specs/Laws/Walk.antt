@@ -1,22 +1,15 @@
 -- The chain by links: the request of a link is the one that the OrigClOrdID names, so that a walk by links is the chain, and each step goes to a request
 -- numbered lower. Rests on Named and outcomes' rule.
-use Prim.Native.Nat.{ℕ, zero, suc, ◌+◌, ◌-◌, ◌≤◌, ◌<◌}
-use Rattle.std.proofs.Common.{not-suc-le-zero, ◌∙◌}
-use native.Mathlib.Omega.{arith}
-use Rattle.std.proofs.Math.Path.{◌≡◌, refl, sym, ap, subst}
-use Rattle.std.specs.Prelude.{Bool, ◌&&◌, get_or, Option, None, Some}
-use Rattle.std.proofs.Math.Bool.{true, false, not}
-use mathlib.Core.List.{List, [], ◌∷◌}
-use Rattle.std.proofs.Math.Dec.{eqb, leb, ltb}
-use Rattle.std.proofs.Math.ListN.{length}
-use borrow.Author.Tests.{eqb-true, ltb-true, leb-true, eq-eqb, ne_eqb}
+use Rattle.std.specs.Prelude.{ℕ, zero, suc, ◌+◌, ◌-◌, ◌≤◌, ◌<◌, ◌≡◌, refl, Bool, ◌&&◌, get_or, Option, None, Some, true, false, not, List, [], ◌∷◌, eqb, leb, ltb, length}
+use Rattle.std.proofs.Common.{not-suc-le-zero, ◌∙◌, arith, sym, ap, subst, eqb-true, ltb-true, leb-true, eq-eqb, ne_eqb, le-leb}
+use Rattle.std.proofs.lemmas.Bool.{lt-leb, eqb-false, and_parts}
 use Rattle.prelude.specs.Below.{all_elim}
-use Rattle.prelude.specs.Cases.{if◌then◌otherwise◌, maybe, both_true, if_true, if_false, split_if, split_maybe, maybe_none, maybe_some, none_some}
+use Rattle.prelude.specs.Cases.{if◌then◌otherwise◌, maybe, if_true, if_false, split_if, split_maybe, maybe_none, maybe_some, none_some}
 use Rattle.prelude.specs.Texts.{text_of, same_text, same_length}
 use Rattle.store.specs.declared.Request.{Request}
 use Rattle.store.specs.Book.{Book, book_of, order_in, request_in, request_count, origin_at}
 use Rattle.store.specs.Finds.{has_clordid, find_clordid}
-use Rattle.store.specs.Layout.{request_base, request·origclordid}
+use Rattle.store.specs.Layout.{book_size, request_base, request·origclordid}
 use Rattle.store.specs.Laws.Fields.{request_origclordid}
 use Rattle.store.specs.Laws.Stored.{length_requests, request_in_lem}
 use Rattle.machine.specs.Orders.{is_empty}
@@ -52,6 +45,9 @@ module _ (b : List ℕ) (keeps : keeps_of b ≡ true) where
   abbrev x : Book
   x = book_of b
 
+  pub kept_long : length b ≡ book_size
+  kept_long = (keeps_held b keeps).long
+
   good : BookKept x
   good = book_kept x (keeps_held b keeps).rules
 
@@ -60,16 +56,16 @@ module _ (b : List ℕ) (keeps : keeps_of b ≡ true) where
   unfolding beside_right origin_rule outcomes_right
   link_rule k h e =
       let beside : beside_right b k ≡ true = all_elim (beside_right b) (request_count b) (keeps_outcomes b keeps) k h in
-      let rule : origin_rule x.requests k (origin_at b k) ≡ true = (both_true (outcome_rule (request_in x k) _) (origin_rule x.requests k (origin_at b k)) beside).1 in
+      let rule : origin_rule x.requests k (origin_at b k) ≡ true = (and_parts (outcome_rule (request_in x k) _) (origin_rule x.requests k (origin_at b k)) beside).1 in
       go (origin_at b k) (rw e at rule)
     where
       go : (link : ℕ)
           → ltb 0 link && leb link k && eqb (request_in x (link - 1)).order (request_in x k).order && same_text (request_in x (link - 1)).clordid (request_in x k).origclordid ≡ true
           → (0 < link) × Step x k (link - 1)
       go link r =
-          let p = both_true (ltb 0 link && leb link k && eqb (request_in x (link - 1)).order (request_in x k).order) (same_text (request_in x (link - 1)).clordid (request_in x k).origclordid) r in
-          let q = both_true (ltb 0 link && leb link k) (eqb (request_in x (link - 1)).order (request_in x k).order) p.0 in
-          let s = both_true (ltb 0 link) (leb link k) q.0 in (
+          let p = and_parts (ltb 0 link && leb link k && eqb (request_in x (link - 1)).order (request_in x k).order) (same_text (request_in x (link - 1)).clordid (request_in x k).origclordid) r in
+          let q = and_parts (ltb 0 link && leb link k) (eqb (request_in x (link - 1)).order (request_in x k).order) p.0 in
+          let s = and_parts (ltb 0 link) (leb link k) q.0 in (
             ltb-true 0 link s.0,
             record {
               lower = omega (arith, ltb-true 0 link s.0, leb-true link k s.1);
@@ -193,7 +189,7 @@ module _ (b : List ℕ) (keeps : keeps_of b ≡ true) where
   unfolding called_by
   called_found client name k =
       split_if (λ (v : Option ℕ). v ≡ Some k → (length name ≤ 32) × (find_clordid x client (text_of name) ≡ Some k)) (leb 1 (length name) && leb (length name) 32)
-      (λ t z. (leb-true _ _ (both_true (leb 1 (length name)) (leb (length name) 32) t).1, z)) (λ t z. none_some refl z)
+      (λ t z. (leb-true _ _ (and_parts (leb 1 (length name)) (leb (length name) 32) t).1, z)) (λ t z. none_some refl z)
 
   -- THE CHAIN is the walk from the request that is called
   pub chain_walk : (client : ℕ) (name : List ℕ) (k : ℕ) → called_by x client name ≡ Some k → (k < request_count b) × (chain_of x client name ≡ walk b k)
@@ -206,3 +202,11 @@ module _ (b : List ℕ) (keeps : keeps_of b ≡ true) where
   pub chain_empty : (client : ℕ) (name : List ℕ) → called_by x client name ≡ None → chain_of x client name ≡ []
   unfolding chain_of
   chain_empty client name e = ap (chain_from x client (length x.requests)) e ∙ chain_none client (length x.requests)
+
+-- ---- for the tactics of functions: the link as it is read, and a step of the walk
+pub ruleset linked = (kept_long, earlier_none, earlier_some, link_above)
+
+pub ruleset walked = (step_back, walk_end, walk_more, walk_most)
+
+-- and a name's length
+pub ruleset named = (if_true, if_false, eqb-true, eqb-false, le-leb, lt-leb)

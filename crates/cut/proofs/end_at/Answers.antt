@@ -1,8 +1,5 @@
 -- `cut::end_at`: the place behind the last field, by the map that stands there. Assumes nothing.
-use borrow.Author.Tests.{lt-ltb}
-use mathlib.Core.Path.{◌≡◌, ap, ◌∙◌}
-use Prim.Native.Nat.{ℕ, ◌+◌}
-use lib.Dec.{ltb, lit≤}
+use Rattle.std.proofs.Common.{lt-ltb, ◌≡◌, ap, ◌∙◌, ℕ, ◌+◌, ltb, lit≤}
 use Rattle.prelude.specs.Cases.{if_true}
 use Rattle.words.specs.Laws.Windows.{window_32}
 use Rattle.places.specs.Starts.{start_from}

@@ -19,9 +19,6 @@ ends : (c : After-end_at-first) → c.end_at-first.result ≡ end_of (answer_in 
 unfolding span
 ends c = let n = said (goal.at.After-end_at-first c).After-from-long in rw n at c.end_at-first.ensures
 
-pub slice_bounds-get16-end : goal.slice_bounds-get16-end
-slice_bounds-get16-end c = simp length-take (omega (arith, (taken c.args.answer.now c.requires.0).head))
-
 pub slice_bounds-a-end : goal.slice_bounds-a-end
 slice_bounds-a-end c =
     simp length-take (omega (arith, said (goal.at.slice_bounds-a-end c).After-from-long, (taken c.args.answer.now c.requires.0).fits))

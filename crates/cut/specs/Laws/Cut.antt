@@ -1,12 +1,8 @@
 -- What is cut out of an answer at the place of message n is the writing of message n, and a record by itself. Rests on Place and records' laws.
-use Prim.Native.Nat.{ℕ, zero, suc, ◌+◌, ◌-◌, ◌≤◌, ◌<◌}
-use Rattle.std.specs.Prelude.{◌≡◌, Bool, true, false, ◌&&◌, eqb, leb, ltb, length}
-use Rattle.std.proofs.Math.Path.{refl, sym, ap}
-use Rattle.std.proofs.Common.{subst, ◌∙◌, arith}
-use mathlib.Core.List.{List, [], ◌++◌, append-nil}
-use borrow.Author.Tests.{leb-true, eq-eqb, ne_eqb, lt-ltb, le-ltb}
-use Rattle.std.proofs.Math.ListN.{get_or}
-use Rattle.prelude.specs.Cases.{if◌then◌otherwise◌, if_true, if_false, both_true}
+use Rattle.std.specs.Prelude.{ℕ, zero, suc, ◌+◌, ◌-◌, ◌≤◌, ◌<◌, ◌≡◌, Bool, true, false, ◌&&◌, eqb, leb, ltb, length, refl, List, [], ◌++◌, get_or}
+use Rattle.std.proofs.Common.{sym, ap, subst, ◌∙◌, arith, append-nil, leb-true, eq-eqb, ne_eqb, lt-ltb, le-ltb}
+use Rattle.std.proofs.lemmas.Bool.{and_parts}
+use Rattle.prelude.specs.Cases.{if◌then◌otherwise◌, if_true, if_false}
 use Rattle.prelude.specs.Span.{span, splice, length_span, span_span}
 use Rattle.prelude.specs.Number.{Bytes}
 use Rattle.prelude.specs.Bytes.{bytes_span}
@@ -36,14 +32,14 @@ module _ (s : List ℕ) where
   pub shaped_at : (n c o : ℕ) → n < c → shaped_from s o c ≡ true → message_shaped s (start_from s o n) ≡ true
   unfolding start_from shaped_from
   shaped_at n zero o h e = absurd (omega arith)
-  shaped_at zero (suc c) o h e = (both_true (message_shaped s o) _ e).0
-  shaped_at (suc n) (suc c) o h e = shaped_at n c (end_of s o) (omega arith) (both_true (message_shaped s o) _ e).1
+  shaped_at zero (suc c) o h e = (and_parts (message_shaped s o) _ e).0
+  shaped_at (suc n) (suc c) o h e = shaped_at n c (end_of s o) (omega arith) (and_parts (message_shaped s o) _ e).1
 
   ranged_at : (n c o : ℕ) → n < c → ranged_from s o c ≡ true → ranged s (start_from s o n) ≡ true
   unfolding start_from ranged_from
   ranged_at n zero o h e = absurd (omega arith)
-  ranged_at zero (suc c) o h e = (both_true (ranged s o) _ e).0
-  ranged_at (suc n) (suc c) o h e = ranged_at n c (end_of s o) (omega arith) (both_true (ranged s o) _ e).1
+  ranged_at zero (suc c) o h e = (and_parts (ranged s o) _ e).0
+  ranged_at (suc n) (suc c) o h e = ranged_at n c (end_of s o) (omega arith) (and_parts (ranged s o) _ e).1
 
   message_from : (n c o : ℕ) → n < c → get_or (messages_from s o c) n blank ≡ record_at s (start_from s o n)
   unfolding start_from messages_from
@@ -77,10 +73,10 @@ module _ (s : List ℕ) (ok : answer_refusal s ≡ 0) where
   unfolding answer_refusal head_right
   taken =
       let p = refusal_0 (head_right s && shaped_from (answer_in s) head_size (count_in s)) (ranged_from (answer_in s) head_size (count_in s)) ok in
-      let q = both_true (head_right s) (shaped_from (answer_in s) head_size (count_in s)) p.0 in
-      let a = both_true (leb head_size (length s)) _ q.0 in
-      let b = both_true (leb head_size (length_in s)) _ a.1 in
-      let c = both_true (leb (length_in s) (length s)) (leb (count_in s) 2) b.1 in
+      let q = and_parts (head_right s) (shaped_from (answer_in s) head_size (count_in s)) p.0 in
+      let a = and_parts (leb head_size (length s)) _ q.0 in
+      let b = and_parts (leb head_size (length_in s)) _ a.1 in
+      let c = and_parts (leb (length_in s) (length s)) (leb (count_in s) 2) b.1 in
       record {
         head = leb-true _ _ a.0;
         long = leb-true _ _ b.0;
@@ -120,7 +116,7 @@ module _ (s : List ℕ) (ok : answer_refusal s ≡ 0) (n : ℕ) (h : n < count_i
 
   pub inside : end_of (answer_in s) from ≤ length_in s
   unfolding message_shaped end_of
-  inside = omega (arith, (whole_of (answer_in s) from (both_true (shaped (answer_in s) from) _ shape).0).inside, length_in_lem s ok)
+  inside = omega (arith, (whole_of (answer_in s) from (and_parts (shaped (answer_in s) from) _ shape).0).inside, length_in_lem s ok)
 
   pub place : place_of s n ≡ stands from (end_of (answer_in s) from)
   unfolding place_of
@@ -156,7 +152,7 @@ pub record CutOut (s : List ℕ) (n : ℕ) : Type 0 where
 module _ (m : Record) (ok : is_message m ≡ true) where
   rightly : Right m
   unfolding is_message
-  rightly = right m (both_true (is_record m) (leb 16 m.kind) ok).0
+  rightly = right m (and_parts (is_record m) (leb 16 m.kind) ok).0
 
   alone : (P : List ℕ → Type 0) → P (record_bytes m ++ []) → P (record_bytes m)
   alone P p = subst P (append-nil (record_bytes m)) p

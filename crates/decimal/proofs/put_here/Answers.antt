@@ -1,6 +1,5 @@
 -- `decimal::put_here` meets its contract: the whole part, a point, and the low digits. Assumes nothing.
-use Rattle.std.proofs.Common.{◌≡◌, List, ℕ, ◌+◌, ◌≤◌, ◌<◌, length, sym, ap, ◌∙◌, arith}
-use Rattle.std.proofs.Math.ListN.{set, length-set}
+use Rattle.std.proofs.Common.{◌≡◌, List, ℕ, ◌+◌, ◌≤◌, ◌<◌, length, sym, ap, ◌∙◌, arith, set, length-set}
 use Rattle.prelude.specs.Span.{splice}
 use Rattle.decimal.specs.Decimal.{digits, low_digits, down}
 use Rattle.decimal.specs.Laws.Width.{low_all, decimal_long, decimal_put, decimal_zero, decimal_whole}

@@ -1,11 +1,12 @@
 -- What is written in decimal is read as the count. Rests on Decimal.
 use Rattle.std.specs.Prelude.{ℕ, zero, suc, ◌+◌, ◌-◌, ◌*◌, ◌/◌, ◌%◌, ◌≤◌, ◌≡◌, refl, List, [], ◌∷◌, ◌++◌, true, leb, ltb, length, replicate}
 use Rattle.std.proofs.Common.{ap, ◌∙◌, arith, ltb-true, ltb-false, le-leb}
-use Rattle.prelude.specs.Cases.{if◌then◌otherwise◌, split_if, if_true, if_false, both_hold}
+use Rattle.std.proofs.lemmas.Bool.{and_from}
+use Rattle.prelude.specs.Cases.{if◌then◌otherwise◌, split_if, if_true, if_false}
 use Rattle.decimal.specs.Decimal.{blank, point, lowest, digits_by, digits, low_digits, down, decimal, right, is_digit, read_from, number_in}
 
 pub digit_is : (n : ℕ) → is_digit (lowest n) ≡ true
-digit_is n = both_hold (leb 48 (lowest n)) (leb (lowest n) 57) (le-leb 48 (lowest n) (omega arith)) (le-leb (lowest n) 57 (omega arith))
+digit_is n = and_from (leb 48 (lowest n)) (leb (lowest n) 57) (le-leb 48 (lowest n) (omega arith)) (le-leb (lowest n) 57 (omega arith))
 
 pub read_append : (a : ℕ) (s t : List ℕ) → read_from a (s ++ t) ≡ read_from (read_from a s) t
 read_append a [] t = refl

@@ -1,19 +1,29 @@
 -- Decimals in columns: how wide, how code writes them, that they are digits, blanks and one point, where they stand, and that
 -- a number is written one way. Rests on Back and Width.
-use Prim.Native.Nat.{ℕ, zero, suc, ◌+◌, ◌-◌, ◌*◌, ◌/◌, ◌≤◌, ◌<◌}
-use Rattle.std.specs.Prelude.{◌≡◌, refl, List, [], ◌∷◌, ◌++◌, true, leb, ltb, length, replicate, drop, get_or}
+use Rattle.std.specs.Prelude.{ℕ, zero, suc, ◌+◌, ◌-◌, ◌*◌, ◌/◌, ◌≤◌, ◌<◌, ◌≡◌, refl, List, [], ◌∷◌, ◌++◌, true, leb, ltb, length, replicate, drop, get_or, set}
 use Rattle.std.proofs.Common.{sym, ap, ◌∙◌, append_assoc, arith, leb-true, le-leb, length-append, get_or-append-add}
-use Rattle.std.proofs.lemmas.Bool.{lt-leb}
-use Rattle.std.proofs.lemmas.List.{get_or-replicate, length-replicate}
 use Rattle.std.proofs.Math.ListN.{get_or-append}
-use Rattle.prelude.specs.Cases.{if◌then◌otherwise◌, split_if, if_true, if_false, both_true}
-use Rattle.prelude.specs.Span.{splice, splice_append}
+use Rattle.std.proofs.lemmas.Bool.{lt-leb, and_parts}
+use Rattle.std.proofs.lemmas.List.{get_or-replicate, length-replicate, replicate-append-replicate}
+use Rattle.prelude.specs.Cases.{if◌then◌otherwise◌, split_if, if_true, if_false}
+use Rattle.prelude.specs.Span.{splice, length_splice, splice_append, set_splice}
 use Rattle.decimal.specs.Decimal.{blank, point, lowest, digits_by, digits, low_digits, down, decimal, right, is_digit, read_from, number_in, written}
 use Rattle.decimal.specs.Laws.Back.{digit_is}
 
 pub length_right : (columns : ℕ) (s : List ℕ) → length s ≤ columns → length (right columns s) ≡ columns
 unfolding right
 length_right columns s h = simp (length-append, length-replicate) (omega arith)
+
+-- one blank more behind the others
+pub blank_more : (s : List ℕ) (at i : ℕ) → at + suc i ≤ length s
+    → set (splice s at (replicate i blank)) (at + i) blank ≡ splice s at (replicate (i + 1) blank)
+blank_more s at i h =
+    let l : length (replicate i blank) ≡ i = length-replicate i blank in
+    let k : length (splice s at (replicate i blank)) ≡ length s = length_splice s at (replicate i blank) (omega arith) in
+    set_splice (splice s at (replicate i blank)) (at + i) blank (omega arith)
+    ∙ ap (λ (n : ℕ). splice (splice s at (replicate i blank)) (at + n) (blank ∷ [])) (sym l)
+    ∙ splice_append s at (replicate i blank) (blank ∷ []) (omega arith)
+    ∙ ap (splice s at) (replicate-append-replicate i 1 blank)
 
 pub right_long : (columns : ℕ) (s : List ℕ) → length (right columns s) ≡ (columns - length s) + length s
 unfolding right
@@ -140,8 +150,8 @@ same_digits (x ∷ s) (y ∷ t) a c l f g e =
     let r = same_digits s t (if is_digit x then a * 10 + (x - 48) otherwise a) (if is_digit y then c * 10 + (y - 48) otherwise c) (omega arith)
     (λ k h. f (suc k) (omega arith)) (λ k h. g (suc k) (omega arith)) e in
     let n : a * 10 + (x - 48) ≡ c * 10 + (y - 48) = sym (if_true (is_digit x) (a * 10 + (x - 48)) a p) ∙ r.0 ∙ if_true (is_digit y) (c * 10 + (y - 48)) c q in
-    let (x1, x2) = both_true (leb 48 x) (leb x 57) p in
-    let (y1, y2) = both_true (leb 48 y) (leb y 57) q in
+    let (x1, x2) = and_parts (leb 48 x) (leb x 57) p in
+    let (y1, y2) = and_parts (leb 48 y) (leb y 57) q in
     let z : x ≡ y = omega (arith, leb-true 48 x x1, leb-true x 57 x2, leb-true 48 y y1, leb-true y 57 y2) in
     let b : a ≡ c = omega (arith, leb-true 48 x x1, leb-true x 57 x2, leb-true 48 y y1, leb-true y 57 y2) in
     (b, λ i. z i ∷ r.1 i)

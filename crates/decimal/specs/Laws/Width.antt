@@ -98,6 +98,11 @@ pub width_some : (n : ℕ) → 1 ≤ length (digits n)
 unfolding digits
 width_some n = (width_by n n (omega arith)).0
 
+-- from 10 on, no more digits than the number
+pub width_least : (n : ℕ) → 10 ≤ n → length (digits n) ≤ n
+unfolding digits
+width_least n h = let i : length (digits (n / 10)) ≤ suc (n / 10) = (width_by (n / 10) (n / 10) (omega arith)).1 in omega (arith, width_more n h)
+
 -- 10 ^ k
 abbrev pub tens : ℕ → ℕ
 tens zero = 1

@@ -1,6 +1,6 @@
 -- What the writer's functions promise each other: a value planned before it is written, its length, and the room that is left.
 -- No promise to others rests on this. Rests on Values and Record.
-use Rattle.std.specs.Prelude.{ℕ, ◌+◌, ◌-◌, ◌*◌, ◌^◌, ◌≤◌, ◌<◌, ◌≡◌, List, [], ◌∷◌, ◌++◌, Bool, true, false, not, eqb, leb, length, get_or, drop, Option, None, Some}
+use Rattle.std.specs.Prelude.{ℕ, ◌+◌, ◌-◌, ◌*◌, ◌^◌, ◌≤◌, ◌<◌, ◌≡◌, List, [], ◌∷◌, ◌++◌, Bool, true, not, eqb, leb, length, get_or, drop, Option, None, Some}
 use Rattle.prelude.specs.Cases.{if◌then◌otherwise◌}
 use Rattle.prelude.specs.Below.{all_below}
 use Rattle.prelude.specs.Number.{number}
@@ -20,7 +20,7 @@ use Rattle.fix_words.specs.Values.{rows, type_of}
 use Rattle.fix_words.specs.Message.{version, is_text, inner}
 use Rattle.fix_words.specs.Record.{Session, writing_of, write_refusal}
 use Rattle.fix.specs.declared.value.Value.{Value}
-use Rattle.fix.specs.declared.value.Value.TheVariants.{Nothing, Bytes, Number, Words, Exec}
+use Rattle.fix.specs.declared.value.Value.TheVariants.{Bytes, Number, Words, Exec}
 use Rattle.fix.specs.declared.write.Plan.{Plan}
 
 -- ---- a record's parts, as records gives them
@@ -44,79 +44,72 @@ by_form to n high b (Decimals places) = Number n (if eqb b 26 then high otherwis
 unfoldable pub plain_plan : (to n high b : ℕ) → Value
 plain_plan to n high b = by_form to n high b (form_of b)
 
-unfoldable pub fixed_plan : (m n : ℕ) → Value
-fixed_plan m n = if bit m 27 then Words n otherwise Nothing
+unfoldable pub fixed_plan : (m n : ℕ) → Option Value
+fixed_plan m n = if bit m 27 then Some (Words n) otherwise None
 
 -- the ExecID
-unfoldable pub exec_plan : (m : ℕ) (at ns : List ℕ) → Value
-exec_plan m at ns = if bit m 25 then Exec (get_or at 3 0 - get_or ns 2 0) (get_or ns 2 0) (get_or ns 25 0) otherwise Nothing
+unfoldable pub exec_plan : (m : ℕ) (at ns : List ℕ) → Option Value
+exec_plan m at ns = if bit m 25 then Some (Exec (get_or at 3 0 - get_or ns 2 0) (get_or ns 2 0) (get_or ns 25 0)) otherwise None
 
 -- what stands in a reject for a bit that does not
-unfoldable pub instead_plan : (k m n b : ℕ) → Value
+unfoldable pub instead_plan : (k m n b : ℕ) → Option Value
 instead_plan k m n b =
-    if not (eqb k 17) then Nothing otherwise
-    if eqb b 2 then Words none_number otherwise
+    if not (eqb k 17) then None otherwise
+    if eqb b 2 then Some (Words none_number) otherwise
     if eqb b 20 then fixed_plan m n otherwise
-    Nothing
+    None
 
-unfoldable pub planned : (k m : ℕ) (at ns : List ℕ) (high b : ℕ) → Value
+unfoldable pub planned : (k m : ℕ) (at ns : List ℕ) (high b : ℕ) → Option Value
 planned k m at ns high b =
     if eqb b 25 then exec_plan m at ns otherwise
     if eqb b 27 then fixed_plan m (get_or ns 27 0) otherwise
-    if bit m b then plain_plan (get_or at (b + 1) 0) (get_or ns b 0) high b otherwise
+    if bit m b then Some (plain_plan (get_or at (b + 1) 0) (get_or ns b 0) high b) otherwise
     instead_plan k m (get_or ns 27 0) b
 
 -- ---- what a planned value is, and how long
 
 unfoldable pub said_by : List ℕ → Value → List ℕ
-said_by s Nothing = []
 said_by s (Bytes f n) = span s f n
 said_by s (Number l h p) = decimal p (l + 2 ^ 64 * h)
 said_by s (Words n) = get_or spoken n []
 said_by s (Exec f n l) = span s f n ++ (46 ∷ digits l)
 
-abbrev pub stands : Value → Bool
-stands Nothing = false
-stands (Bytes f n) = true
-stands (Number l h p) = true
-stands (Words n) = true
-stands (Exec f n l) = true
-
-unfoldable pub shown : List ℕ → Value → Option (List ℕ)
-shown s v = if stands v then Some (said_by s v) otherwise None
+unfoldable pub shown : List ℕ → Option Value → Option (List ℕ)
+shown s None = None
+shown s (Some v) = Some (said_by s v)
 
 unfoldable pub long_of : Value → ℕ
-long_of Nothing = 0
 long_of (Bytes f n) = n
 long_of (Number l h p) = length (decimal p (l + 2 ^ 64 * h))
 long_of (Words n) = length (get_or spoken n [])
 long_of (Exec f n l) = n + (1 + length (digits l))
 
 -- a field: the tag, =, the value, SOH
-unfoldable pub field_long : ℕ → Value → ℕ
-field_long tag v = if stands v then length (decimal 0 tag) + (1 + (long_of v + 1)) otherwise 0
+unfoldable pub field_long : ℕ → Option Value → ℕ
+field_long tag None = 0
+field_long tag (Some v) = length (decimal 0 tag) + (1 + (long_of v + 1))
 
-abbrev pub field_shown : List ℕ → ℕ → Value → List ℕ
+abbrev pub field_shown : List ℕ → ℕ → Option Value → List ℕ
 field_shown s tag v = spellings (field_of tag (shown s v) [])
 
 -- where its bytes end
-abbrev pub reach : Value → ℕ
-reach Nothing = 0
-reach (Bytes f n) = f + n
-reach (Number l h p) = 0
-reach (Words n) = 0
-reach (Exec f n l) = f + n
+abbrev pub reach : Option Value → ℕ
+reach None = 0
+reach (Some (Bytes f n)) = f + n
+reach (Some (Number l h p)) = 0
+reach (Some (Words n)) = 0
+reach (Some (Exec f n l)) = f + n
 
 -- its bytes stand in the buffer
-abbrev pub Sound : List ℕ → Value → Type 0
+abbrev pub Sound : List ℕ → Option Value → Type 0
 Sound s v = reach v ≤ length s
 
 -- the fields of rows
-unfoldable pub rows_long : List Row → (ℕ → Value) → ℕ
+unfoldable pub rows_long : List Row → (ℕ → Option Value) → ℕ
 rows_long [] f = 0
 rows_long (r ∷ rows) f = field_long r.tag (f r.bit) + rows_long rows f
 
-unfoldable pub rows_shown : List ℕ → List Row → (ℕ → Value) → List ℕ
+unfoldable pub rows_shown : List ℕ → List Row → (ℕ → Option Value) → List ℕ
 rows_shown s [] f = []
 rows_shown s (r ∷ rows) f = field_shown s r.tag (f r.bit) ++ rows_shown s rows f
 

@@ -1,21 +1,16 @@
 -- A value planned from a record's parts is the one that the definitions say, and its bytes stand in the record. Rests on Plan.
-use Rattle.std.specs.Prelude.{ℕ, suc, ◌+◌, ◌-◌, ◌*◌, ◌^◌, ◌≤◌, ◌<◌, ◌≡◌, Bool, not, ◌||◌, leb, take, drop, Option, None, Some}
-use Rattle.std.proofs.Math.Path.{refl, sym, ap, subst}
-use Rattle.std.proofs.Common.{◌∙◌, add-one, lit<, lit≤, take_all}
-use mathlib.Core.List.{List, [], ◌∷◌, ◌++◌}
-use Rattle.std.proofs.Math.Bool.{true, false}
+use Rattle.std.specs.Prelude.{ℕ, suc, ◌+◌, ◌-◌, ◌*◌, ◌^◌, ◌≤◌, ◌<◌, ◌≡◌, Bool, not, ◌||◌, leb, take, drop, Option, None, Some, refl, List, [], ◌∷◌, ◌++◌, true, false, eqb, length, get_or}
+use Rattle.std.proofs.Common.{sym, ap, subst, ◌∙◌, add-one, lit<, lit≤, take_all, arith, eqb-true, ne_eqb, leb-true, length-drop}
 use Rattle.std.proofs.Math.Decide.{ℕ_discrete}
-use native.Mathlib.Omega.{arith}
-use borrow.Author.Tests.{eqb-true, ne_eqb, leb-true}
-use Rattle.std.proofs.Math.Dec.{eqb}
-use Rattle.std.proofs.Math.ListN.{length, get_or, length-drop, get_or-append}
-use Rattle.prelude.specs.Cases.{if◌then◌otherwise◌, split_if, if_true, if_false, both_true}
+use Rattle.std.proofs.Math.ListN.{get_or-append}
+use Rattle.std.proofs.lemmas.Bool.{and_parts}
+use Rattle.prelude.specs.Cases.{if◌then◌otherwise◌, split_if, if_true, if_false}
 use Rattle.prelude.specs.Below.{all_below, all_elim}
 use Rattle.prelude.specs.Number.{number}
 use Rattle.prelude.specs.Span.{span, span_none, span_drop}
 use Rattle.bits.specs.Map.{bit}
 use Rattle.format.specs.Codes.{within}
-use Rattle.format.specs.Format.{size, range, fields, is_text_bit, in_range, side, status}
+use Rattle.format.specs.Format.{size, range, fields, is_text_bit, in_range, side, status, quantity, price}
 use Rattle.format.specs.Places.{extent, start, strip, part, content, value, map_at, right_at, shaped}
 use Rattle.format.specs.Laws.Places.{start_up, start_on, length_part, content_off, length_number}
 use Rattle.format.specs.Refusal.{ranged, message_shaped}
@@ -25,30 +20,30 @@ use Rattle.decimal.specs.Decimal.{digits, decimal}
 use Rattle.fix_words.specs.Values.{texts, words_of, none_word, is_plain, places, spelling, over, or_else, either, exec_id, fixed_words, value_of}
 use Rattle.fix_words.specs.Record.{field_at}
 use Rattle.fix.specs.declared.value.Value.{Value}
-use Rattle.fix.specs.declared.value.Value.TheVariants.{Nothing, Bytes, Number, Words, Exec}
+use Rattle.fix.specs.declared.value.Value.TheVariants.{Bytes, Number, Words, Exec}
 use Rattle.fix.specs.Laws.Plan.{Parted, plain_plan, fixed_plan, exec_plan, instead_plan, planned, said_by, shown, Sound}
 use Rattle.fix_table.specs.Table.{spoken, form_of}
 
 -- ---- what each form shows
 
-shown_bytes : (s : List ℕ) (f n : ℕ) → shown s (Bytes f n) ≡ Some (span s f n)
-unfolding shown said_by if◌then◌otherwise◌
+shown_bytes : (s : List ℕ) (f n : ℕ) → shown s (Some (Bytes f n)) ≡ Some (span s f n)
+unfolding shown said_by
 shown_bytes s f n = refl
 
-shown_number : (s : List ℕ) (l h p : ℕ) → shown s (Number l h p) ≡ Some (decimal p (l + 2 ^ 64 * h))
-unfolding shown said_by if◌then◌otherwise◌
+shown_number : (s : List ℕ) (l h p : ℕ) → shown s (Some (Number l h p)) ≡ Some (decimal p (l + 2 ^ 64 * h))
+unfolding shown said_by
 shown_number s l h p = refl
 
-shown_words : (s : List ℕ) (n : ℕ) → shown s (Words n) ≡ Some (get_or spoken n [])
-unfolding shown said_by if◌then◌otherwise◌
+shown_words : (s : List ℕ) (n : ℕ) → shown s (Some (Words n)) ≡ Some (get_or spoken n [])
+unfolding shown said_by
 shown_words s n = refl
 
-shown_exec : (s : List ℕ) (f n l : ℕ) → shown s (Exec f n l) ≡ Some (span s f n ++ (46 ∷ digits l))
-unfolding shown said_by if◌then◌otherwise◌
+shown_exec : (s : List ℕ) (f n l : ℕ) → shown s (Some (Exec f n l)) ≡ Some (span s f n ++ (46 ∷ digits l))
+unfolding shown said_by
 shown_exec s f n l = refl
 
-shown_nothing : (s : List ℕ) → shown s Nothing ≡ None
-unfolding shown if◌then◌otherwise◌
+shown_nothing : (s : List ℕ) → shown s None ≡ None
+unfolding shown
 shown_nothing s = refl
 
 spoken_text : (n : ℕ) → n < 19 → get_or spoken n [] ≡ words_of n
@@ -58,6 +53,13 @@ spoken_text n h = get_or-append texts (none_word ∷ []) [] n h
 spoken_none : get_or spoken 19 [] ≡ none_word
 unfolding spoken texts
 spoken_none = refl
+
+-- a number has no decimals, four or eight
+pub places_no : (b : ℕ) → (eqb (places b) 2 ≡ false) × (eqb (places b) 1 ≡ false)
+unfolding places
+places_no b =
+    split_if (λ (n : ℕ). (eqb n 2 ≡ false) × (eqb n 1 ≡ false)) (eqb (range b) quantity) (λ e. (refl, refl))
+    (λ e. split_if (λ (n : ℕ). (eqb n 2 ≡ false) × (eqb n 1 ≡ false)) (eqb (range b) price || eqb b 26) (λ f. (refl, refl)) (λ f. (refl, refl)))
 
 -- two words
 two_words : (c : List ℕ) → 8 ≤ length c → number c ≡ number (take 8 c) + 2 ^ 64 * number (drop 8 c)
@@ -91,8 +93,8 @@ module _ (s : List ℕ) (m : ℕ) (at ns : List ℕ) (high : ℕ) (p : Parted s 
   inside : start s 0 m 32 ≤ length s
   unfolding whole_message message_shaped
   inside =
-      let a = both_true (message_shaped s 0) _ p.whole in
-      let b = both_true (shaped s 0) _ a.0 in
+      let a = and_parts (message_shaped s 0) _ p.whole in
+      let b = and_parts (shaped s 0) _ a.0 in
       rw (← p.map) at (whole_of s 0 b.0).inside
 
   in_field : (b : ℕ) → b < 32 → start s 0 m (suc b) ≤ length s
@@ -178,12 +180,12 @@ module _ (s : List ℕ) (m : ℕ) (at ns : List ℕ) (high : ℕ) (p : Parted s 
 
   -- ---- a bit that stands
 
-  plain_shown : (b : ℕ) → b < 32 → bit m b ≡ true → shown s (plain_plan (get_or at (b + 1) 0) (get_or ns b 0) high b) ≡ Some (spelling b (content s 0 m b))
+  plain_shown : (b : ℕ) → b < 32 → bit m b ≡ true → shown s (Some (plain_plan (get_or at (b + 1) 0) (get_or ns b 0) high b)) ≡ Some (spelling b (content s 0 m b))
   unfolding plain_plan form_of spelling is_plain if◌then◌otherwise◌
   plain_shown b h e = go (is_text_bit b) refl (within side status (range b)) refl (eqb b 26) refl
     where
       go : (x : Bool) → is_text_bit b ≡ x → (y : Bool) → within side status (range b) ≡ y → (z : Bool) → eqb b 26 ≡ z
-          → shown s (plain_plan (get_or at (b + 1) 0) (get_or ns b 0) high b) ≡ Some (spelling b (content s 0 m b))
+          → shown s (Some (plain_plan (get_or at (b + 1) 0) (get_or ns b 0) high b)) ≡ Some (spelling b (content s 0 m b))
       go true t y w z q = rw (t) (shown_bytes s (get_or at (b + 1) 0 - get_or ns b 0) (get_or ns b 0) ∙ ap {B = Option (List ℕ)} Some (text_there b h t))
       go false t true w z q = rw (t, w) (shown_bytes s (get_or at (b + 1) 0 - 1) 1 ∙ ap {B = Option (List ℕ)} Some (code_there b h t w e).0)
       go false t false w true q =
@@ -194,12 +196,12 @@ module _ (s : List ℕ) (m : ℕ) (at ns : List ℕ) (high : ℕ) (p : Parted s 
           let n : get_or ns b 0 + 2 ^ 64 * 0 ≡ number (content s 0 m b) = omega (arith, small_number b h t e (number_eight b h t w q)) in
           rw (t, w, q) (shown_number s (get_or ns b 0) 0 (places b) ∙ ap {B = Option (List ℕ)} (λ (j : ℕ). Some (decimal (places b) j)) n)
 
-  plain_sound : (b : ℕ) → b < 32 → bit m b ≡ true → Sound s (plain_plan (get_or at (b + 1) 0) (get_or ns b 0) high b)
+  plain_sound : (b : ℕ) → b < 32 → bit m b ≡ true → Sound s (Some (plain_plan (get_or at (b + 1) 0) (get_or ns b 0) high b))
   unfolding plain_plan form_of if◌then◌otherwise◌
   plain_sound b h e = go (is_text_bit b) refl (within side status (range b)) refl (eqb b 26) refl
     where
       go : (x : Bool) → is_text_bit b ≡ x → (y : Bool) → within side status (range b) ≡ y → (z : Bool) → eqb b 26 ≡ z
-          → Sound s (plain_plan (get_or at (b + 1) 0) (get_or ns b 0) high b)
+          → Sound s (Some (plain_plan (get_or at (b + 1) 0) (get_or ns b 0) high b))
       go true t y w z q = rw (t) (text_sound b h t)
       go false t true w z q = rw (t, w) (code_there b h t w e).1
       go false t false w z q = rw (t, w) (omega arith)
@@ -211,7 +213,7 @@ module _ (s : List ℕ) (m : ℕ) (at ns : List ℕ) (high : ℕ) (p : Parted s 
   fixed_number e =
       let l : length (content s 0 m 27) ≡ 1 = length_number s 0 m 27 (in_field 27 (lit< tt)) e refl in
       let n : get_or ns 27 0 ≡ number (content s 0 m 27) = small_number 27 (lit< tt) refl e (lit≤ tt) in
-      let r : right_at s 0 m 27 ≡ true = all_elim (right_at s 0 m) 32 (rw (← p.map) at (both_true (all_below (right_at s 0 (map_at s 0)) 32) _ p.right).0) 27 (lit< tt) in
+      let r : right_at s 0 m 27 ≡ true = all_elim (right_at s 0 m) 32 (rw (← p.map) at (and_parts (all_below (right_at s 0 (map_at s 0)) 32) _ p.right).0) 27 (lit< tt) in
       let w : within 1 18 (value 27 (content s 0 m 27)) ≡ true = rw e at r in
       (n ∙ one_byte (content s 0 m 27) l, omega (arith, p.numbers 27 (lit< tt), within_most 1 18 (value 27 (content s 0 m 27)) w))
     where
@@ -224,12 +226,12 @@ module _ (s : List ℕ) (m : ℕ) (at ns : List ℕ) (high : ℕ) (p : Parted s 
   unfolding fixed_plan
   fixed_shown = go (bit m 27) refl
     where
-      go : (x : Bool) → bit m 27 ≡ x → shown s (if bit m 27 then Words (get_or ns 27 0) otherwise Nothing) ≡ over fixed_words (field_at s 27)
+      go : (x : Bool) → bit m 27 ≡ x → shown s (if bit m 27 then Some (Words (get_or ns 27 0)) otherwise None) ≡ over fixed_words (field_at s 27)
       go true e =
-          ap (shown s) (if_true (bit m 27) (Words (get_or ns 27 0)) Nothing e) ∙ shown_words s (get_or ns 27 0)
+          ap (shown s) (if_true (bit m 27) (Some (Words (get_or ns 27 0))) None e) ∙ shown_words s (get_or ns 27 0)
           ∙ ap {B = Option (List ℕ)} Some (spoken_text (get_or ns 27 0) (fixed_number e).1 ∙ ap words_of (fixed_number e).0)
           ∙ ap (over fixed_words) (sym (on 27 e))
-      go false e = ap (shown s) (if_false (bit m 27) (Words (get_or ns 27 0)) Nothing e) ∙ shown_nothing s ∙ ap (over fixed_words) (sym (off 27 e))
+      go false e = ap (shown s) (if_false (bit m 27) (Some (Words (get_or ns 27 0))) None e) ∙ shown_nothing s ∙ ap (over fixed_words) (sym (off 27 e))
 
   name_there : or_else [] (field_at s 2) ≡ content s 0 m 2
   name_there = go (bit m 2) refl
@@ -242,12 +244,12 @@ module _ (s : List ℕ) (m : ℕ) (at ns : List ℕ) (high : ℕ) (p : Parted s 
   unfolding exec_plan size range fields
   exec_shown = go (bit m 25) refl
     where
-      go : (x : Bool) → bit m 25 ≡ x → shown s (if bit m 25 then Exec (get_or at 3 0 - get_or ns 2 0) (get_or ns 2 0) (get_or ns 25 0) otherwise Nothing) ≡ over (exec_id (field_at s 2)) (field_at s 25)
+      go : (x : Bool) → bit m 25 ≡ x → shown s (if bit m 25 then Some (Exec (get_or at 3 0 - get_or ns 2 0) (get_or ns 2 0) (get_or ns 25 0)) otherwise None) ≡ over (exec_id (field_at s 2)) (field_at s 25)
       go true e =
-          ap (shown s) (if_true (bit m 25) (Exec (get_or at 3 0 - get_or ns 2 0) (get_or ns 2 0) (get_or ns 25 0)) Nothing e) ∙ shown_exec s (get_or at 3 0 - get_or ns 2 0) (get_or ns 2 0) (get_or ns 25 0)
+          ap (shown s) (if_true (bit m 25) (Some (Exec (get_or at 3 0 - get_or ns 2 0) (get_or ns 2 0) (get_or ns 25 0))) None e) ∙ shown_exec s (get_or at 3 0 - get_or ns 2 0) (get_or ns 2 0) (get_or ns 25 0)
           ∙ (λ i. Some ((text_there 2 (lit< tt) refl ∙ sym name_there) i ++ (46 ∷ digits (small_number 25 (lit< tt) refl e (lit≤ tt) i))))
           ∙ ap (over (exec_id (field_at s 2))) (sym (on 25 e))
-      go false e = ap (shown s) (if_false (bit m 25) (Exec (get_or at 3 0 - get_or ns 2 0) (get_or ns 2 0) (get_or ns 25 0)) Nothing e) ∙ shown_nothing s ∙ ap (over (exec_id (field_at s 2))) (sym (off 25 e))
+      go false e = ap (shown s) (if_false (bit m 25) (Some (Exec (get_or at 3 0 - get_or ns 2 0) (get_or ns 2 0) (get_or ns 25 0))) None e) ∙ shown_nothing s ∙ ap (over (exec_id (field_at s 2))) (sym (off 25 e))
 
   -- ---- every bit
 
@@ -325,18 +327,18 @@ module _ (s : List ℕ) (m : ℕ) (at ns : List ℕ) (high : ℕ) (p : Parted s 
 
   fixed_sound : (n : ℕ) → Sound s (fixed_plan m n)
   unfolding fixed_plan
-  fixed_sound n = split_if (λ (v : Value). Sound s v) (bit m 27) (λ e. omega arith) (λ e. omega arith)
+  fixed_sound n = split_if (λ (v : Option Value). Sound s v) (bit m 27) (λ e. omega arith) (λ e. omega arith)
 
   pub plan_sound : (k b : ℕ) → b < 32 → Sound s (planned k m at ns high b)
   unfolding planned exec_plan instead_plan size fields
   plan_sound k b h =
-      split_if (λ (v : Value). Sound s v) (eqb b 25)
-      (λ e. split_if (λ (v : Value). Sound s v) (bit m 25) (λ q. named) (λ q. omega arith))
-      (λ e. split_if (λ (v : Value). Sound s v) (eqb b 27) (λ q. fixed_sound (get_or ns 27 0))
-      (λ q. split_if (λ (v : Value). Sound s v) (bit m b) (plain_sound b h)
-      (λ r. split_if (λ (v : Value). Sound s v) (not (eqb k 17)) (λ u. omega arith)
-      (λ u. split_if (λ (v : Value). Sound s v) (eqb b 2) (λ w. omega arith)
-      (λ w. split_if (λ (v : Value). Sound s v) (eqb b 20) (λ x. fixed_sound (get_or ns 27 0)) (λ x. omega arith))))))
+      split_if (λ (v : Option Value). Sound s v) (eqb b 25)
+      (λ e. split_if (λ (v : Option Value). Sound s v) (bit m 25) (λ q. named) (λ q. omega arith))
+      (λ e. split_if (λ (v : Option Value). Sound s v) (eqb b 27) (λ q. fixed_sound (get_or ns 27 0))
+      (λ q. split_if (λ (v : Option Value). Sound s v) (bit m b) (plain_sound b h)
+      (λ r. split_if (λ (v : Option Value). Sound s v) (not (eqb k 17)) (λ u. omega arith)
+      (λ u. split_if (λ (v : Option Value). Sound s v) (eqb b 2) (λ w. omega arith)
+      (λ w. split_if (λ (v : Option Value). Sound s v) (eqb b 20) (λ x. fixed_sound (get_or ns 27 0)) (λ x. omega arith))))))
     where
       named : (get_or at 3 0 - get_or ns 2 0) + get_or ns 2 0 ≤ length s
       named = text_sound 2 (lit< tt) refl

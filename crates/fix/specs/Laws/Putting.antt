@@ -1,8 +1,8 @@
 -- How the writer's bytes come together: a value's length, a field behind a field, and what is left to be written. Rests on Plan.
-use Rattle.std.specs.Prelude.{ℕ, suc, ◌+◌, ◌-◌, ◌*◌, ◌^◌, ◌≤◌, ◌<◌, ◌≡◌, refl, List, [], ◌∷◌, ◌++◌, Bool, true, false, ◌≢◌, eqb, leb, length, drop, get_or, Option, None, Some}
+use Rattle.std.specs.Prelude.{ℕ, suc, ◌+◌, ◌-◌, ◌*◌, ◌^◌, ◌≤◌, ◌<◌, ◌≡◌, refl, List, [], ◌∷◌, ◌++◌, Bool, true, false, eqb, leb, length, drop, get_or, Option, None, Some}
 use Rattle.std.proofs.Common.{sym, ap, subst, ◌∙◌, arith, leb-true, le-leb, leb-false, eq-eqb, length-append, drop-cons}
 use Rattle.std.proofs.lemmas.Bool.{lt-leb}
-use Rattle.prelude.specs.Cases.{if◌then◌otherwise◌, if_true}
+use Rattle.prelude.specs.Cases.{if◌then◌otherwise◌}
 use Rattle.prelude.specs.Span.{span, splice, length_span, length_splice, splice_append, splice_nil, span_whole}
 use Rattle.decimal.specs.Decimal.{digits_by, digits, decimal}
 use Rattle.fix_words.specs.Spelling.{Field, field, spellings}
@@ -10,81 +10,91 @@ use Rattle.fix_words.specs.Laws.Spelling.{spellings_append}
 use Rattle.fix_words.specs.Rows.{Row, Values, field_of, body, in_rows}
 use Rattle.fix_words.specs.Laws.Rows.{or_right}
 use Rattle.fix_words.specs.Laws.Counting.{field_long_lem, decimal_none}
+use Rattle.fix_table.specs.Table.{spoken}
 use Rattle.fix.specs.declared.value.Value.{Value}
-use Rattle.fix.specs.declared.value.Value.TheVariants.{Nothing, Bytes, Number, Words, Exec}
-use Rattle.fix.specs.Laws.Plan.{said_by, stands, shown, long_of, field_long, field_shown, Sound, rows_long, rows_shown, less_by, head_long, stamp_fields, stamp_long}
+use Rattle.fix.specs.declared.value.Value.TheVariants.{Bytes, Number, Words, Exec}
+use Rattle.fix.specs.Laws.Plan.{said_by, shown, long_of, field_long, field_shown, Sound, rows_long, rows_shown, less_by, head_long, stamp_fields, stamp_long}
+
+-- ---- the four forms of a value that stands: how long each is, and what it says
+
+pub form_1 : (s : List ℕ) (v : Value) (f n : ℕ) → v ≡ Bytes f n → (long_of v ≡ n) × (said_by s v ≡ span s f n)
+unfolding long_of said_by
+form_1 s v f n e = (rw e refl, rw e refl)
+
+pub form_2 : (s : List ℕ) (v : Value) (l h p : ℕ) → v ≡ Number l h p
+    → (long_of v ≡ length (decimal p (l + 2 ^ 64 * h))) × (said_by s v ≡ decimal p (l + 2 ^ 64 * h))
+unfolding long_of said_by
+form_2 s v l h p e = (rw e refl, rw e refl)
+
+pub form_3 : (s : List ℕ) (v : Value) (n : ℕ) → v ≡ Words n → (long_of v ≡ length (get_or spoken n [])) × (said_by s v ≡ get_or spoken n [])
+unfolding long_of said_by
+form_3 s v n e = (rw e refl, rw e refl)
+
+pub form_4 : (s : List ℕ) (v : Value) (f n l : ℕ) → v ≡ Exec f n l
+    → (long_of v ≡ n + (1 + length (digits l))) × (said_by s v ≡ span s f n ++ (46 ∷ digits l))
+unfolding long_of said_by
+form_4 s v f n l e = (rw e refl, rw e refl)
 
 -- ---- lengths
 
-pub said_long : (s : List ℕ) (v : Value) → Sound s v → length (said_by s v) ≡ long_of v
+pub said_long : (s : List ℕ) (v : Value) → Sound s (Some v) → length (said_by s v) ≡ long_of v
 unfolding said_by long_of
-said_long s Nothing h = refl
 said_long s (Bytes f n) h = length_span s f n h
 said_long s (Number l g p) h = refl
 said_long s (Words n) h = refl
 said_long s (Exec f n l) h = length-append (span s f n) (46 ∷ digits l) ∙ omega (arith, length_span s f n h)
 
-pub shown_long : (s : List ℕ) (tag : ℕ) (v : Value) → Sound s v → length (field_shown s tag v) ≡ field_long tag v
-unfolding shown field_long spellings if◌then◌otherwise◌
-shown_long s tag v h = go (stands v)
-  where
-    go : (a : Bool) → length (spellings (field_of tag (if a then Some (said_by s v) otherwise None) [])) ≡ (if a then length (decimal 0 tag) + (1 + (long_of v + 1)) otherwise 0)
-    go false = refl
-    go true = omega (arith, field_long_lem tag (said_by s v), said_long s v h)
+pub shown_long : (s : List ℕ) (tag : ℕ) (v : Option Value) → Sound s v → length (field_shown s tag v) ≡ field_long tag v
+unfolding shown field_long spellings
+shown_long s tag None h = refl
+shown_long s tag (Some v) h = omega (arith, field_long_lem tag (said_by s v), said_long s v h)
 
--- a field that stands
-pub standing : (v : Value) → (v ≢ Nothing) → stands v ≡ true
-standing Nothing h = absurd (h refl)
-standing (Bytes f n) h = refl
-standing (Number l g p) h = refl
-standing (Words n) h = refl
-standing (Exec f n l) h = refl
-
-pub shown_some : (s : List ℕ) (tag : ℕ) (v : Value) → stands v ≡ true → field_shown s tag v ≡ spellings (field tag (said_by s v) ∷ [])
+-- a field that stands, and one that does not
+pub shown_some : (s : List ℕ) (tag : ℕ) (v : Option Value) (w : Value) → v ≡ Some w → field_shown s tag v ≡ spellings (field tag (said_by s w) ∷ [])
 unfolding shown
-shown_some s tag v e = ap (λ (o : Option (List ℕ)). spellings (field_of tag o [])) (if_true (stands v) (Some (said_by s v)) None e)
+shown_some s tag v w e = rw e refl
 
-pub field_some : (tag : ℕ) (v : Value) → stands v ≡ true → field_long tag v ≡ length (decimal 0 tag) + (1 + (long_of v + 1))
+pub field_some : (tag : ℕ) (v : Option Value) (w : Value) → v ≡ Some w → field_long tag v ≡ length (decimal 0 tag) + (1 + (long_of w + 1))
 unfolding field_long
-field_some tag v e = if_true (stands v) _ 0 e
+field_some tag v w e = rw e refl
 
-pub shown_none : (s : List ℕ) (tag : ℕ) → (field_shown s tag Nothing ≡ []) × (field_long tag Nothing ≡ 0)
-unfolding shown field_long spellings if◌then◌otherwise◌
-shown_none s tag = (refl, refl)
+pub shown_none : (s : List ℕ) (tag : ℕ) (v : Option Value) → v ≡ None → (field_shown s tag v ≡ []) × (field_long tag v ≡ 0)
+unfolding shown field_long spellings
+shown_none s tag v e = (rw e refl, rw e refl)
 
 -- a number and a text as fields
-number_said : (s : List ℕ) (tag n : ℕ) → field_shown s tag (Number n 0 0) ≡ spellings (field tag (decimal 0 (n + 2 ^ 64 * 0)) ∷ [])
-unfolding shown said_by if◌then◌otherwise◌
+number_said : (s : List ℕ) (tag n : ℕ) → field_shown s tag (Some (Number n 0 0)) ≡ spellings (field tag (decimal 0 (n + 2 ^ 64 * 0)) ∷ [])
+unfolding shown said_by
 number_said s tag n = refl
 
-pub number_field : (s : List ℕ) (tag n : ℕ) → field_shown s tag (Number n 0 0) ≡ spellings (field tag (digits n) ∷ [])
+pub number_field : (s : List ℕ) (tag n : ℕ) → field_shown s tag (Some (Number n 0 0)) ≡ spellings (field tag (digits n) ∷ [])
 number_field s tag n =
     let z : n + 2 ^ 64 * 0 ≡ n = omega arith in
     number_said s tag n ∙ ap (λ (v : List ℕ). spellings (field tag v ∷ [])) (ap (decimal 0) z ∙ decimal_none n)
 
-pub number_long : (tag n : ℕ) → field_long tag (Number n 0 0) ≡ length (spellings (field tag (digits n) ∷ []))
-number_long tag n = sym (shown_long [] tag (Number n 0 0) (omega arith)) ∙ ap length (number_field [] tag n)
+pub number_long : (tag n : ℕ) → field_long tag (Some (Number n 0 0)) ≡ length (spellings (field tag (digits n) ∷ []))
+number_long tag n = sym (shown_long [] tag (Some (Number n 0 0)) (omega arith)) ∙ ap length (number_field [] tag n)
 
-text_said : (s : List ℕ) (tag n : ℕ) → field_shown s tag (Bytes 0 n) ≡ spellings (field tag (span s 0 n) ∷ [])
-unfolding shown said_by if◌then◌otherwise◌
+text_said : (s : List ℕ) (tag n : ℕ) → field_shown s tag (Some (Bytes 0 n)) ≡ spellings (field tag (span s 0 n) ∷ [])
+unfolding shown said_by
 text_said s tag n = refl
 
-pub text_field : (s : List ℕ) (tag : ℕ) → field_shown s tag (Bytes 0 (length s)) ≡ spellings (field tag s ∷ [])
+pub text_field : (s : List ℕ) (tag : ℕ) → field_shown s tag (Some (Bytes 0 (length s))) ≡ spellings (field tag s ∷ [])
 text_field s tag = text_said s tag (length s) ∙ ap (λ (v : List ℕ). spellings (field tag v ∷ [])) (span_whole s)
 
-pub text_long : (s : List ℕ) (tag : ℕ) → field_long tag (Bytes 0 (length s)) ≡ length (spellings (field tag s ∷ []))
-text_long s tag = sym (shown_long s tag (Bytes 0 (length s)) (omega arith)) ∙ ap length (text_field s tag)
+pub text_long : (s : List ℕ) (tag : ℕ) → field_long tag (Some (Bytes 0 (length s))) ≡ length (spellings (field tag s ∷ []))
+text_long s tag = sym (shown_long s tag (Some (Bytes 0 (length s))) (omega arith)) ∙ ap length (text_field s tag)
 
 -- ---- rows
 
 -- the bytes of every row stand in s
-abbrev pub AllSound : List ℕ → List Row → (ℕ → Value) → Type 0
+abbrev pub AllSound : List ℕ → List Row → (ℕ → Option Value) → Type 0
 AllSound s rows f = (b : ℕ) → in_rows rows b ≡ true → Sound s (f b)
 
 own : (r : Row) (rows : List Row) → in_rows (r ∷ rows) r.bit ≡ true
 own r rows = rw (eq-eqb r.bit r.bit refl) refl
 
-pub rows_long_lem : (s : List ℕ) (f : ℕ → Value) (rows : List Row) → AllSound s rows f → length (rows_shown s rows f) ≡ rows_long rows f
+pub rows_long_lem : (s : List ℕ) (f : ℕ → Option Value) (rows : List Row) → AllSound s rows f → length (rows_shown s rows f) ≡ rows_long rows f
 unfolding rows_shown rows_long
 rows_long_lem s f [] h = refl
 rows_long_lem s f (r ∷ rows) h =
@@ -92,7 +102,7 @@ rows_long_lem s f (r ∷ rows) h =
     ∙ (λ i. shown_long s r.tag (f r.bit) (h r.bit (own r rows)) i + rows_long_lem s f rows (λ b q. h b (or_right (eqb r.bit b) (in_rows rows b) q)) i)
 
 -- the rows' bytes are those of the body
-pub rows_body : (s : List ℕ) (f : ℕ → Value) (vs : Values) (rows : List Row) → ((b : ℕ) → in_rows rows b ≡ true → shown s (f b) ≡ vs b)
+pub rows_body : (s : List ℕ) (f : ℕ → Option Value) (vs : Values) (rows : List Row) → ((b : ℕ) → in_rows rows b ≡ true → shown s (f b) ≡ vs b)
     → rows_shown s rows f ≡ spellings (body rows vs [])
 unfolding rows_shown body spellings
 rows_body s f vs [] h = refl
@@ -111,12 +121,12 @@ no_row = record { tag = 0; bit = 0; must = true }
 drop_next : (rows : List Row) (j : ℕ) → j < length rows → drop j rows ≡ get_or rows j no_row ∷ drop (j + 1) rows
 drop_next rows j h = let e : j + 1 ≡ suc j = omega arith in rw e (drop-cons rows j no_row h)
 
-pub long_next : (f : ℕ → Value) (rows : List Row) (j : ℕ) → j < length rows
+pub long_next : (f : ℕ → Option Value) (rows : List Row) (j : ℕ) → j < length rows
     → rows_long (drop j rows) f ≡ field_long (get_or rows j no_row).tag (f (get_or rows j no_row).bit) + rows_long (drop (j + 1) rows) f
 unfolding rows_long
 long_next f rows j h = ap (λ (l : List Row). rows_long l f) (drop_next rows j h)
 
-pub shown_next : (s : List ℕ) (f : ℕ → Value) (rows : List Row) (j : ℕ) → j < length rows
+pub shown_next : (s : List ℕ) (f : ℕ → Option Value) (rows : List Row) (j : ℕ) → j < length rows
     → rows_shown s (drop j rows) f ≡ field_shown s (get_or rows j no_row).tag (f (get_or rows j no_row).bit) ++ rows_shown s (drop (j + 1) rows) f
 unfolding rows_shown
 shown_next s f rows j h = ap (λ (l : List Row). rows_shown s l f) (drop_next rows j h)
@@ -126,11 +136,11 @@ drop_last : (rows : List Row) (j : ℕ) → j ≡ length rows → drop j rows �
 drop_last [] j e = rw e refl
 drop_last (r ∷ rows) j e = rw e (drop_last rows (length rows) refl)
 
-pub long_last : (f : ℕ → Value) (rows : List Row) (j : ℕ) → j ≡ length rows → rows_long (drop j rows) f ≡ 0
+pub long_last : (f : ℕ → Option Value) (rows : List Row) (j : ℕ) → j ≡ length rows → rows_long (drop j rows) f ≡ 0
 unfolding rows_long
 long_last f rows j e = ap (λ (l : List Row). rows_long l f) (drop_last rows j e)
 
-pub shown_last : (s : List ℕ) (f : ℕ → Value) (rows : List Row) (j : ℕ) → j ≡ length rows → rows_shown s (drop j rows) f ≡ []
+pub shown_last : (s : List ℕ) (f : ℕ → Option Value) (rows : List Row) (j : ℕ) → j ≡ length rows → rows_shown s (drop j rows) f ≡ []
 unfolding rows_shown
 shown_last s f rows j e = ap (λ (l : List Row). rows_shown s l f) (drop_last rows j e)
 
@@ -202,7 +212,7 @@ module _ {o : List ℕ} {st : ℕ} {whole out : List ℕ} {at : ℕ} where
   field_next f fs r e a = rest_next (spellings (f ∷ [])) (spellings fs) (subst (Rest o st whole out at) (spellings_append (f ∷ []) fs) r) e a
 
 -- row j of a body
-module _ (s : List ℕ) (f : ℕ → Value) (rows : List Row) (j : ℕ) (h : j < length rows) (tag : ℕ) (v : Value)
+module _ (s : List ℕ) (f : ℕ → Option Value) (rows : List Row) (j : ℕ) (h : j < length rows) (tag : ℕ) (v : Option Value)
     (t : tag ≡ (get_or rows j no_row).tag) (w : v ≡ f (get_or rows j no_row).bit) (sound : Sound s v)
     {o : List ℕ} {st : ℕ} {whole out : List ℕ} {at : ℕ} (r : Rest o st whole out at (rows_shown s (drop j rows) f)) where
   this : Rest o st whole out at (field_shown s tag v ++ rows_shown s (drop (j + 1) rows) f)

@@ -1,18 +1,14 @@
 -- The whole message from the parts that the writer puts: its length, the questions, and how its bytes follow each other. Rests on Planned and
 -- Putting.
 use Rattle.std.specs.Option.{is_some}
-use Rattle.std.specs.Prelude.{ℕ, ◌≢◌, Some, None, ◌+◌, ◌-◌, ◌%◌, ◌≤◌, ◌<◌, Bool, ◌&&◌, leb, get_or, drop}
-use Rattle.std.proofs.Math.Path.{◌≡◌, refl, ap}
-use Rattle.std.proofs.Common.{sym, ◌∙◌}
-use mathlib.Core.List.{List, [], ◌∷◌, ◌++◌, append_assoc}
-use Rattle.std.proofs.Math.Bool.{true, false}
-use native.Mathlib.Omega.{arith}
-use borrow.Author.Tests.{leb-true, leb-false, le-ltb, lt-ltb, ltb-false}
-use Rattle.std.proofs.Math.Dec.{ltb}
-use Rattle.std.proofs.Math.ListN.{length, length-append}
-use Rattle.prelude.specs.Cases.{if◌then◌otherwise◌, both_true}
-use Rattle.prelude.specs.Below.{all_below, all_ext}
+use Rattle.std.specs.Prelude.{ℕ, ◌≢◌, Option, Some, None, ◌+◌, ◌-◌, ◌%◌, ◌≤◌, ◌<◌, Bool, ◌&&◌, leb, get_or, drop, ◌≡◌, refl, List, [], ◌∷◌, ◌++◌, true, false, ltb, length}
+use Rattle.std.proofs.Common.{ap, sym, ◌∙◌, append_assoc, arith, leb-true, leb-false, le-leb, le-ltb, lt-ltb, ltb-false, length-append}
+use Rattle.std.proofs.lemmas.Bool.{lt-leb, and_parts}
+use Rattle.std.specs.Cmp.{both_ways}
+use Rattle.prelude.specs.Cases.{if◌then◌otherwise◌}
+use Rattle.prelude.specs.Below.{all_below, all_ext, all_intro, all_elim}
 use Rattle.fix_words.specs.Lists.{every, is_print}
+use Rattle.fix_words.specs.Laws.Lists.{every_below, below_every}
 use Rattle.prelude.specs.Span.{span, splice, span_splice_same, span_splice_before, splice_append, length_splice}
 use Rattle.bits.specs.Map.{bit}
 use Rattle.format.specs.Codes.{within}
@@ -61,6 +57,31 @@ room_none room T = go (leb T room) refl
     go true e q = cc
     go false e q = leb-false T room e
 
+-- what is left, 0 where it did not fit
+abbrev pub left_of : Option ℕ → ℕ
+left_of None = 0
+left_of (Some rest) = rest
+
+pub room_body : (room T : ℕ) → T ≤ room → room - left_of (less_by (Some room) T) ≡ T
+unfolding less_by if◌then◌otherwise◌
+room_body room T h = rw (le-leb T room h) (omega arith)
+
+-- the body and its frame fit where both together do
+pub room_fits : (room T : ℕ) → is_some (less_by (less_by (Some room) T) (frame_long (room - left_of (less_by (Some room) T)))) ≡ leb (T + frame_long T) room
+unfolding less_by if◌then◌otherwise◌
+room_fits room T = go (leb T room) refl
+  where
+    later : (x : Bool) → leb (frame_long T) (room - T) ≡ x → T ≤ room → is_some (if leb (frame_long T) (room - T) then Some (room - T - frame_long T) otherwise None) ≡ leb (T + frame_long T) room
+    later true e h = rw e (sym (le-leb (T + frame_long T) room (omega (arith, leb-true (frame_long T) (room - T) e))))
+    later false e h = rw e (sym (lt-leb (T + frame_long T) room (omega (arith, leb-false (frame_long T) (room - T) e))))
+
+    go : (x : Bool) → leb T room ≡ x → is_some (less_by (less_by (Some room) T) (frame_long (room - left_of (less_by (Some room) T)))) ≡ leb (T + frame_long T) room
+    go true e =
+        let h : T ≤ room = leb-true T room e in
+        let z : room - (room - T) ≡ T = omega arith in
+        rw (e, z) (later (leb (frame_long T) (room - T)) refl h)
+    go false e = rw e (sym (lt-leb (T + frame_long T) room (omega (arith, leb-false T room e))))
+
 -- whether n bytes more fit
 pub fit_or_not : (room n : ℕ) → is_some (less_by (Some room) n) ≡ leb n room
 unfolding less_by if◌then◌otherwise◌
@@ -103,7 +124,7 @@ module _ (s : List ℕ) (m : ℕ) (at ns : List ℕ) (high : ℕ) (p : Parted s 
   abbrev k : ℕ
   k = kind_at s 0
 
-  abbrev f : ℕ → Value
+  abbrev f : ℕ → Option Value
   f = planned k m at ns high
 
   abbrev vs : Values
@@ -191,6 +212,16 @@ text_none (c ∷ s) h = absurd (omega arith)
 pub text_some : (s : List ℕ) → (length s ≢ 0) → is_text s ≡ every is_print s
 text_some [] h = absurd (h refl)
 text_some (c ∷ s) h = refl
+
+abbrev pub print_at : List ℕ → ℕ → Bool
+print_at s k = is_print (get_or s k 0)
+
+pub text_all : (s : List ℕ) → 0 < length s → is_text s ≡ all_below (print_at s) (length s)
+text_all [] h = absurd (omega arith)
+text_all (c ∷ s) h =
+    both_ways (every is_print (c ∷ s)) (all_below (print_at (c ∷ s)) (length (c ∷ s)))
+    (λ e. all_intro (print_at (c ∷ s)) (length (c ∷ s)) (every_below is_print (c ∷ s) e))
+    (λ e. below_every is_print (c ∷ s) (all_elim (print_at (c ∷ s)) (length (c ∷ s)) e))
 
 pub form_text : (b : ℕ) → form_of b ≡ Text → is_text_bit b ≡ true
 unfolding form_of if◌then◌otherwise◌
@@ -288,10 +319,10 @@ whole_parted s r p =
 pub whole_kind : (s : List ℕ) → whole_message s ≡ true → (within 16 20 (kind_at s 0) ≡ true) × (5 ≤ length s)
 unfolding whole_message message_shaped bits_right
 whole_kind s e =
-    let a = both_true (message_shaped s 0) _ e in
-    let b = both_true (shaped s 0) (leb 16 (kind_at s 0)) a.0 in
+    let a = and_parts (message_shaped s 0) _ e in
+    let b = and_parts (shaped s 0) (leb 16 (kind_at s 0)) a.0 in
     let w = whole_of s 0 b.0 in
-    (message_kind (kind_at s 0) (both_true (is_kind (kind_at s 0)) _ w.right).0 b.1, omega (arith, w.long))
+    (message_kind (kind_at s 0) (and_parts (is_kind (kind_at s 0)) _ w.right).0 b.1, omega (arith, w.long))
 
 -- the answer 0 has a whole message in range
 pub taken_parts : (s : List ℕ) (n : Session) (room : ℕ) → write_refusal s n room ≡ 0 → parts_refusal s ≡ 0

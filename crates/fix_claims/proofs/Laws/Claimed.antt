@@ -1,15 +1,8 @@
 -- The promises of Claims hold. Rests on Table, Texts, fix_words' laws and cut's.
-use Prim.Native.Nat.{ℕ, ◌+◌, ◌%◌, ◌≤◌, ◌<◌}
-use Rattle.std.specs.Prelude.{◌≡◌, Bool, ◌↔◌, ◌⊎◌, eqb, length, get_or}
-use Rattle.std.proofs.Math.Path.{refl, ap, subst}
-use Rattle.std.proofs.Common.{sym, ◌∙◌, arith}
-use mathlib.Core.List.{List, []}
-use Rattle.std.proofs.Math.Bool.{true, false}
-use Rattle.std.proofs.Math.Logic.{inl, inr}
-use borrow.Author.Tests.{eqb-true, eq-eqb, ltb-true, ltb-false}
-use Rattle.std.proofs.Math.Dec.{ltb}
+use Rattle.std.proofs.Common.{ℕ, ◌+◌, ◌%◌, ◌≤◌, ◌<◌, ◌≡◌, Bool, ◌↔◌, ◌⊎◌, eqb, length, get_or, refl, ap, subst, sym, ◌∙◌, arith, List, [], true, false, inl, inr, eqb-true, eq-eqb, ltb-true, ltb-false, ltb}
+use Rattle.std.proofs.lemmas.Bool.{and_from}
 use Rattle.std.proofs.lemmas.List.{length-replicate}
-use Rattle.prelude.specs.Cases.{if◌then◌otherwise◌, both_hold}
+use Rattle.prelude.specs.Cases.{if◌then◌otherwise◌}
 use Rattle.prelude.specs.Bytes.{zeros, bytes_zeros}
 use Rattle.prelude.specs.Number.{Bytes}
 use Rattle.prelude.specs.Span.{splice, get_span, span_splice_same, span_splice_after}
@@ -231,7 +224,7 @@ unfolding whole_message
 cut_taken a w e i h n out =
     let c = cut_out a w e i h in
     let s : List ℕ = cut_at a (place_of a i) in
-    let p = past_shape s n (length out) (both_hold (message_shaped s 0) (eqb (end_of s 0) (length s)) c.shape (eq-eqb (end_of s 0) (length s) c.whole)) c.right in
+    let p = past_shape s n (length out) (and_from (message_shaped s 0) (eqb (end_of s 0) (length s)) c.shape (eq-eqb (end_of s 0) (length s) c.whole)) c.right in
     (λ q. p.0 (sym (answer_is s n out) ∙ q), λ q. p.1 (sym (answer_is s n out) ∙ q))
 
 pub claims : Claims

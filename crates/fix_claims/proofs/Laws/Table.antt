@@ -1,12 +1,8 @@
 -- What the table of a message's fields says: each field is in it, with its value standing where the table says, and behind them are zeros; and a
 -- message that was written is read as the fields that it was written with. Rests on Claims and fix_words' laws.
-use Rattle.std.specs.Prelude.{ℕ, suc, ◌+◌, ◌≤◌, ◌<◌, ◌≡◌, true, leb, ltb, drop, Option, None, Some}
-use Rattle.std.proofs.Math.Path.{refl, sym, ap}
-use Rattle.std.proofs.Common.{subst, ◌∙◌, arith, leb-true, lt-ltb, le-ltb, take-append-drop, drop-cons, drop_at}
-use mathlib.Core.List.{List, [], ◌∷◌, ◌++◌, append_assoc}
+use Rattle.std.proofs.Common.{ℕ, suc, ◌+◌, ◌≤◌, ◌<◌, ◌≡◌, true, leb, ltb, drop, Option, None, Some, refl, sym, ap, subst, ◌∙◌, arith, leb-true, lt-ltb, le-ltb, take-append-drop, drop-cons, drop_at, List, [], ◌∷◌, ◌++◌, append_assoc, length, get_or, take, length-append, take_at}
 use Rattle.std.proofs.Math.Decide.{dec_lt}
-use Rattle.std.proofs.Math.ListN.{length, get_or, take, length-append, get_or-eq_default}
-use Rattle.std.proofs.Math.Seq.{take_at}
+use Rattle.std.proofs.Math.ListN.{get_or-eq_default}
 use Rattle.prelude.specs.Cases.{split_if, if_true, if_false}
 use Rattle.prelude.specs.Lists.{list_below, length_list, get_list}
 use Rattle.prelude.specs.Number.{Bytes}

@@ -1,12 +1,8 @@
 -- The texts of a message, one by one: the writer's question asks whether FIX can carry every one of them. Rests on Claims.
-use Rattle.std.specs.Prelude.{ℕ, zero, suc, ◌<◌, ◌≡◌, Bool, not, ◌&&◌, ◌||◌, eqb, leb, ltb, length, get_or, None, Some}
-use Rattle.std.proofs.Math.Path.{refl, ap}
-use Rattle.std.proofs.Common.{sym, ◌∙◌, inl, arith, eqb-true, leb-true, leb-false, ltb-true}
-use mathlib.Core.List.{List, [], ◌∷◌}
-use Rattle.std.proofs.Math.Bool.{true, false}
-use Rattle.std.proofs.Math.Logic.{inr, ⊎_elim}
-use Rattle.std.proofs.lemmas.Bool.{not-true}
-use Rattle.prelude.specs.Cases.{if_true, if_false, clash, both_true, either_true}
+use Rattle.std.specs.Prelude.{ℕ, zero, suc, ◌<◌, ◌≡◌, Bool, not, ◌&&◌, ◌||◌, eqb, leb, ltb, length, get_or, None, Some, refl, List, [], ◌∷◌, true, false}
+use Rattle.std.proofs.Common.{ap, sym, ◌∙◌, inl, arith, eqb-true, leb-true, leb-false, ltb-true, inr, ⊎_elim}
+use Rattle.std.proofs.lemmas.Bool.{not-true, and_parts, or_cases}
+use Rattle.prelude.specs.Cases.{if_true, if_false, clash}
 use Rattle.prelude.specs.Below.{all_below, all_elim}
 use Rattle.bits.specs.Map.{bit}
 use Rattle.format.specs.Codes.{listed}
@@ -60,14 +56,14 @@ all_listed = refl
 in_list : (p : ℕ → Bool) (l : List ℕ) (b : ℕ) → every p l ≡ true → listed b l ≡ true → p b ≡ true
 in_list p [] b e h = clash false h refl
 in_list p (c ∷ l) b e h =
-    let s = both_true (p c) (every p l) e in
-    ⊎_elim (λ q. ap p (eqb-true b c q) ∙ s.0) (λ q. in_list p l b s.1 q) (either_true (eqb b c) (listed b l) h)
+    let s = and_parts (p c) (every p l) e in
+    ⊎_elim (λ q. ap p (eqb-true b c q) ∙ s.0) (λ q. in_list p l b s.1 q) (or_cases (eqb b c) (listed b l) h)
 
 text_bit : (b : ℕ) → listed b texts ≡ true → (b < 32) × (is_text_bit b ≡ true)
-text_bit b h = let s = both_true (ltb b 32) (is_text_bit b) (in_list is_one texts b all_one h) in (ltb-true b 32 s.0, s.1)
+text_bit b h = let s = and_parts (ltb b 32) (is_text_bit b) (in_list is_one texts b all_one h) in (ltb-true b 32 s.0, s.1)
 
 bit_text : (b : ℕ) → b < 32 → is_text_bit b ≡ true → listed b texts ≡ true
-bit_text b h e = ⊎_elim (λ q. clash (is_text_bit b) e (not-true _ q)) (λ q. q) (either_true (not (is_text_bit b)) (listed b texts) (all_elim is_listed 32 all_listed b h))
+bit_text b h e = ⊎_elim (λ q. clash (is_text_bit b) e (not-true _ q)) (λ q. q) (or_cases (not (is_text_bit b)) (listed b texts) (all_elim is_listed 32 all_listed b h))
 
 -- ---- the first of n that fails
 
@@ -100,9 +96,9 @@ module _ (s : List ℕ) (n : Session) where
   pub all_clean : texted (writing_of s n) ≡ true → (t : List ℕ) → TextOf s n t → Clean t
   unfolding texted
   all_clean e t is =
-      let a = both_true (is_text n.sender) (is_text n.target && (is_text n.time && all_below asks 32)) e in
-      let b = both_true (is_text n.target) (is_text n.time && all_below asks 32) a.1 in
-      let c = both_true (is_text n.time) (all_below asks 32) b.1 in
+      let a = and_parts (is_text n.sender) (is_text n.target && (is_text n.time && all_below asks 32)) e in
+      let b = and_parts (is_text n.target) (is_text n.time && all_below asks 32) a.1 in
+      let c = and_parts (is_text n.time) (all_below asks 32) b.1 in
       go a.0 b.0 c.0 c.1 is
     where
       go : is_text n.sender ≡ true → is_text n.target ≡ true → is_text n.time ≡ true → all_below asks 32 ≡ true → TextOf s n t → Clean t
@@ -112,7 +108,7 @@ module _ (s : List ℕ) (n : Session) where
       go a b c d (inr (inr (inr (k, l, e, q)))) =
           let w = text_bit k l in
           ⊎_elim (λ z. clash (is_text_bit k) w.1 (not-true _ z)) (λ z. text_clean t (ap is_text q ∙ z))
-          (either_true (not (is_text_bit k)) (is_text (held s k)) (sym (field_there k e) ∙ all_elim asks 32 d k w.0))
+          (or_cases (not (is_text_bit k)) (is_text (held s k)) (sym (field_there k e) ∙ all_elim asks 32 d k w.0))
 
   pub one_unclean : texted (writing_of s n) ≡ false → (t : List ℕ) × TextOf s n t × Unclean t
   unfolding texted

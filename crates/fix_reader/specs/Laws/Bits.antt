@@ -1,8 +1,8 @@
 -- What holds of each bit that a table has, computed once: it may stand in the record, and the form of its value. Rests on Kinds.
 use Rattle.std.specs.Prelude.{◌≡◌, ℕ, ◌<◌, ◌≤◌, Bool, true, false, not, ◌&&◌, ◌||◌, ◌==◌, ◌≢◌, nat_eq, refl}
-use Rattle.std.proofs.Common.{ap, ◌∙◌, ⊎_elim, arith, eqb-true, ne_eqb}
-use Rattle.std.proofs.lemmas.Bool.{not-true}
-use Rattle.prelude.specs.Cases.{if◌then◌otherwise◌, clash, both_true, either_true}
+use Rattle.std.proofs.Common.{sym, ap, subst, ◌∙◌, ⊎_elim, arith, eqb-true, ne_eqb}
+use Rattle.std.proofs.lemmas.Bool.{not-true, and_parts, or_cases}
+use Rattle.prelude.specs.Cases.{if◌then◌otherwise◌, clash}
 use Rattle.prelude.specs.Below.{all_below, all_elim}
 use Rattle.bits.specs.Map.{bit}
 use Rattle.format.specs.Codes.{within}
@@ -27,7 +27,7 @@ stand_test =
 pub may_stand : (k : ℕ) → within 16 20 k ≡ true → (b : ℕ) → in_rows (rows k) b ≡ true → (bit (required k) b || bit (allowed k) b) ≡ true
 may_stand k w b i =
     ⊎_elim (λ q. clash (in_rows (rows k) b) i (not-true _ q)) (λ q. q)
-    (either_true (not (in_rows (rows k) b)) _ (stand_test k w b (row_small k w b i)))
+    (or_cases (not (in_rows (rows k) b)) _ (stand_test k w b (row_small k w b i)))
 
 -- the order's name must stand in a report
 pub name_must : (k : ℕ) → within 16 20 k ≡ true → in_rows (rows k) 2 ≡ true → bit (required k) 2 ≡ not (k == 17)
@@ -66,8 +66,8 @@ all_texts = refl
 pub text_bit : (b : ℕ) → b < 32 → form_of b ≡ Text → TextBit b
 text_bit b h e =
     ⊎_elim (λ q. clash (as_text (form_of b)) (ap as_text e) (not-true _ q))
-    (λ q. let p = both_true (is_text_bit b) (is_plain b) q in record { text = p.0; plain = p.1 })
-    (either_true (not (as_text (form_of b))) (is_text_bit b && is_plain b) (all_elim text_test 32 all_texts b h))
+    (λ q. let p = and_parts (is_text_bit b) (is_plain b) q in record { text = p.0; plain = p.1 })
+    (or_cases (not (as_text (form_of b))) (is_text_bit b && is_plain b) (all_elim text_test 32 all_texts b h))
 
 pub record CodeBit (b : ℕ) : Type 0 where
   pub text : is_text_bit b ≡ false
@@ -84,10 +84,10 @@ all_codes = refl
 pub code_bit : (b : ℕ) → b < 32 → form_of b ≡ Code → CodeBit b
 code_bit b h e =
     ⊎_elim (λ q. clash (as_code (form_of b)) (ap as_code e) (not-true _ q))
-    (λ q. let p = both_true (is_plain b) _ q in
-    let t = both_true (not (is_text_bit b)) (size b == 1) p.1 in
+    (λ q. let p = and_parts (is_plain b) _ q in
+    let t = and_parts (not (is_text_bit b)) (size b == 1) p.1 in
     record { text = not-true _ t.0; plain = p.0; one = eqb-true (size b) 1 t.1 })
-    (either_true (not (as_code (form_of b))) (is_plain b && (not (is_text_bit b) && size b == 1)) (all_elim code_test 32 all_codes b h))
+    (or_cases (not (as_code (form_of b))) (is_plain b && (not (is_text_bit b) && size b == 1)) (all_elim code_test 32 all_codes b h))
 
 pub record NumberBit (b p : ℕ) : Type 0 where
   pub text : is_text_bit b ≡ false
@@ -120,22 +120,34 @@ pub number_bit : (k : ℕ) → within 16 20 k ≡ true → (b : ℕ) → in_rows
     → (b ≢ 2) → (b ≢ 25) → (b ≢ 26) → (b ≢ 27) → NumberBit b p
 number_bit k w b i p f n2 n25 n26 n27 =
     let e : (apart b || is_number_bit b) ≡ true =
-    ⊎_elim (λ q. clash (in_rows (rows k) b) i (not-true _ q)) (λ q. q) (either_true (not (in_rows (rows k) b)) _ (number_test k w b (row_small k w b i))) in
+    ⊎_elim (λ q. clash (in_rows (rows k) b) i (not-true _ q)) (λ q. q) (or_cases (not (in_rows (rows k) b)) _ (number_test k w b (row_small k w b i))) in
     let o : apart b ≡ false = rw (f, ne_eqb b 2 n2, ne_eqb b 25 n25, ne_eqb b 26 n26, ne_eqb b 27 n27) refl in
-    let t : is_number_bit b ≡ true = ⊎_elim (λ q. clash (apart b) q o) (λ q. q) (either_true (apart b) (is_number_bit b) e) in
-    let n = both_true (not (is_plain b)) _ t in
-    let q = both_true (not (is_text_bit b)) _ n.1 in
-    let r = both_true (not (b == 20)) _ q.1 in
-    let u = both_true (places b == decimals (form_of b)) (sized b) r.1 in
+    let t : is_number_bit b ≡ true = ⊎_elim (λ q. clash (apart b) q o) (λ q. q) (or_cases (apart b) (is_number_bit b) e) in
+    let n = and_parts (not (is_plain b)) _ t in
+    let q = and_parts (not (is_text_bit b)) _ n.1 in
+    let r = and_parts (not (b == 20)) _ q.1 in
+    let u = and_parts (places b == decimals (form_of b)) (sized b) r.1 in
     record {
       text = not-true _ q.0;
       plain = not-true _ n.0;
       other = not-true _ r.0;
       places = eqb-true (places b) (decimals (form_of b)) u.0 ∙ ap decimals f;
       short = ⊎_elim (λ x. omega (arith, eqb-true (size b) 8 x))
-          (λ y. ⊎_elim (λ x. omega (arith, eqb-true (size b) 4 x)) (λ x. omega (arith, eqb-true (size b) 1 x)) (either_true (size b == 4) (size b == 1) y))
-          (either_true (size b == 8) (size b == 4 || size b == 1) u.1);
+          (λ y. ⊎_elim (λ x. omega (arith, eqb-true (size b) 4 x)) (λ x. omega (arith, eqb-true (size b) 1 x)) (or_cases (size b == 4) (size b == 1) y))
+          (or_cases (size b == 8) (size b == 4 || size b == 1) u.1);
       sizes = λ a8 a4. ⊎_elim (λ x. absurd (a8 (eqb-true (size b) 8 x)))
-          (λ y. ⊎_elim (λ x. absurd (a4 (eqb-true (size b) 4 x))) (λ x. eqb-true (size b) 1 x) (either_true (size b == 4) (size b == 1) y))
-          (either_true (size b == 8) (size b == 4 || size b == 1) u.1);
+          (λ y. ⊎_elim (λ x. absurd (a4 (eqb-true (size b) 4 x))) (λ x. eqb-true (size b) 1 x) (or_cases (size b == 4) (size b == 1) y))
+          (or_cases (size b == 8) (size b == 4 || size b == 1) u.1);
     }
+
+-- neither a text nor a code: a number, and of so many decimals
+pub number_bit_else : (k : ℕ) → within 16 20 k ≡ true → (b : ℕ) → in_rows (rows k) b ≡ true → (form_of b ≢ Text) → (form_of b ≢ Code)
+    → (b ≢ 2) → (b ≢ 25) → (b ≢ 26) → (b ≢ 27) → (form_of b ≡ Number (places b)) × NumberBit b (places b)
+number_bit_else k w b i t c n2 n25 n26 n27 = go (form_of b) refl
+  where
+    go : (f : Form) → form_of b ≡ f → (form_of b ≡ Number (places b)) × NumberBit b (places b)
+    go Text e = absurd (t e)
+    go Code e = absurd (c e)
+    go (Number p) e =
+        let n : NumberBit b p = number_bit k w b i p e n2 n25 n26 n27 in
+        (e ∙ ap (λ (q : ℕ). Number q) (sym n.places), subst (NumberBit b) (sym n.places) n)

@@ -1,12 +1,13 @@
 -- The reader's questions on the fields of a message: its header, its rows, its end. Bytes are a message exactly where their fields pass them.
 -- Rests on Fits and Trip.
-use Rattle.std.specs.Prelude.{◌≡◌, ℕ, suc, ◌-◌, ◌%◌, ◌<◌, Bool, true, false, not, ◌&&◌, ◌||◌, ltb, List, [], ◌∷◌, ◌++◌, length, take, drop, ◌==◌, nat_le, nat_lt, slice_index, slice_index_or, Option, None, Some}
-use Rattle.std.proofs.Math.Path.{refl, sym, ap, subst}
-use Rattle.std.proofs.Common.{◌∙◌, ⊎_elim, arith, eqb-true, eq-eqb, length-append, drop-cons, get_or-drop, take_at}
+use Rattle.std.specs.Prelude.{◌≡◌, ℕ, suc, ◌-◌, ◌%◌, ◌<◌, Bool, true, false, not, ◌&&◌, ◌||◌, ltb, List, [], ◌∷◌, ◌++◌, length, take, drop, ◌==◌, nat_le, nat_lt, slice_index, slice_index_or, Option, None, Some, refl}
+use Rattle.std.proofs.Common.{sym, ap, subst, ◌∙◌, ⊎_elim, arith, eqb-true, eq-eqb, length-append, drop-cons, get_or-drop, take_at}
 use Rattle.std.proofs.Math.Decide.{dec_lt}
-use Rattle.std.proofs.lemmas.Bool.{not-true}
 use Rattle.std.proofs.Math.ListN.{get_or-eq_default}
-use Rattle.prelude.specs.Cases.{if_true, if_false, is_some, clash, both_true, both_hold, either_true, test_same}
+use Rattle.std.proofs.lemmas.Bool.{not-true, and_parts, and_from, or_cases}
+use Rattle.std.specs.Option.{is_some}
+use Rattle.std.specs.Cmp.{both_ways}
+use Rattle.prelude.specs.Cases.{if_true, if_false, clash}
 use Rattle.prelude.specs.Below.{all_below, all_elim, all_intro}
 use Rattle.prelude.specs.Number.{bound}
 use Rattle.decimal.specs.Decimal.{digits, low_digits, number_in}
@@ -80,13 +81,13 @@ same_fields_lem [] [] e = refl
 same_fields_lem [] (g ∷ gs) e = clash false e refl
 same_fields_lem (f ∷ fs) [] e = clash false e refl
 same_fields_lem (f ∷ fs) (g ∷ gs) e =
-    let h = both_true (f.tag == g.tag && same f.value g.value) (same_fields fs gs) e in
-    let k = both_true (f.tag == g.tag) (same f.value g.value) h.0 in
+    let h = and_parts (f.tag == g.tag && same f.value g.value) (same_fields fs gs) e in
+    let k = and_parts (f.tag == g.tag) (same f.value g.value) h.0 in
     λ i. field (eqb-true f.tag g.tag k.0 i) (same_true f.value g.value k.1 i) ∷ same_fields_lem fs gs h.1 i
 
 fields_self : (fs : List Field) → same_fields fs fs ≡ true
 fields_self [] = refl
-fields_self (f ∷ fs) = both_hold _ _ (both_hold _ _ (eq-eqb f.tag f.tag refl) (same_self f.value)) (fields_self fs)
+fields_self (f ∷ fs) = and_from _ _ (and_from _ _ (eq-eqb f.tag f.tag refl) (same_self f.value)) (fields_self fs)
 
 -- a field whose tag is not 0
 cons_field : (fs : List Field) (i t : ℕ) → 0 < t → (tag_of fs i == t) ≡ true → drop i fs ≡ field t (value_at fs i) ∷ drop (suc i) fs
@@ -124,13 +125,13 @@ text_rows =
 stand_must : (rs : List Row) (vs : Values) → stand rs vs ≡ true → (b : ℕ) → must_in rs b ≡ true → is_some (vs b) ≡ true
 stand_must [] vs s b m = clash false m refl
 stand_must (r ∷ rs) vs s b m =
-    let g = both_true (not r.must || is_some (vs r.bit)) (stand rs vs) s in
+    let g = and_parts (not r.must || is_some (vs r.bit)) (stand rs vs) s in
     ⊎_elim
-    (λ q. let p = both_true (r.bit == b) r.must q in
+    (λ q. let p = and_parts (r.bit == b) r.must q in
     subst (λ (b : ℕ). is_some (vs b) ≡ true) (eqb-true r.bit b p.0)
-    (⊎_elim (λ z. clash r.must p.1 (not-true _ z)) (λ z. z) (either_true (not r.must) (is_some (vs r.bit)) g.0)))
+    (⊎_elim (λ z. clash r.must p.1 (not-true _ z)) (λ z. z) (or_cases (not r.must) (is_some (vs r.bit)) g.0)))
     (λ q. stand_must rs vs g.1 b q)
-    (either_true (r.bit == b && r.must) (must_in rs b) m)
+    (or_cases (r.bit == b && r.must) (must_in rs b) m)
 
 init_is : (fs P : List Field) (t : Field) → fs ≡ P ++ (t ∷ []) → init fs ≡ P
 init_is fs P t e =
@@ -151,7 +152,7 @@ module _ (fs : List Field) (passes : checks fs ≡ true) (bytes : (i : ℕ) → 
 
   two : (headed fs ≡ true) × (ends fs (walk (asked_by k nm) false (rows k) (drop 7 fs)) ≡ true)
   unfolding checks
-  two = both_true (headed fs) _ passes
+  two = and_parts (headed fs) _ passes
 
   record Head : Type 0 where
     tags : head_tags fs ≡ true
@@ -166,24 +167,24 @@ module _ (fs : List Field) (passes : checks fs ≡ true) (bytes : (i : ℕ) → 
   head : Head
   unfolding headed
   head =
-      let a = both_true (head_tags fs) _ two.0 in
-      let b = both_true (same (value_at fs 0) version) _ a.1 in
-      let c = both_true (within 16 20 k) _ b.1 in
-      let d = both_true (same (value_at fs 2) (type_of k ∷ [])) _ c.1 in
-      let e = both_true (is_text (value_at fs 3)) _ d.1 in
-      let f = both_true (is_text (value_at fs 4)) _ e.1 in
-      let g = both_true (is_number (value_at fs 5)) (is_text (value_at fs 6)) f.1 in
+      let a = and_parts (head_tags fs) _ two.0 in
+      let b = and_parts (same (value_at fs 0) version) _ a.1 in
+      let c = and_parts (within 16 20 k) _ b.1 in
+      let d = and_parts (same (value_at fs 2) (type_of k ∷ [])) _ c.1 in
+      let e = and_parts (is_text (value_at fs 3)) _ d.1 in
+      let f = and_parts (is_text (value_at fs 4)) _ e.1 in
+      let g = and_parts (is_number (value_at fs 5)) (is_text (value_at fs 6)) f.1 in
       record { tags = a.0; eight = b.0; kind = c.0; type = d.0; sender = e.0; target = f.0; sequence = g.0; time = g.1 }
 
   open_seven : fs ≡ field 8 (value_at fs 0) ∷ field 9 (value_at fs 1) ∷ field 35 (value_at fs 2) ∷ field 49 (value_at fs 3) ∷ field 56 (value_at fs 4)
       ∷ field 34 (value_at fs 5) ∷ field 52 (value_at fs 6) ∷ drop 7 fs
   open_seven =
-      let a = both_true (tag_of fs 0 == 8) _ head.tags in
-      let b = both_true (tag_of fs 1 == 9) _ a.1 in
-      let c = both_true (tag_of fs 2 == 35) _ b.1 in
-      let d = both_true (tag_of fs 3 == 49) _ c.1 in
-      let e = both_true (tag_of fs 4 == 56) _ d.1 in
-      let f = both_true (tag_of fs 5 == 34) (tag_of fs 6 == 52) e.1 in
+      let a = and_parts (tag_of fs 0 == 8) _ head.tags in
+      let b = and_parts (tag_of fs 1 == 9) _ a.1 in
+      let c = and_parts (tag_of fs 2 == 35) _ b.1 in
+      let d = and_parts (tag_of fs 3 == 49) _ c.1 in
+      let e = and_parts (tag_of fs 4 == 56) _ d.1 in
+      let f = and_parts (tag_of fs 5 == 34) (tag_of fs 6 == 52) e.1 in
       cons_field fs 0 8 (omega arith) a.0
       ∙ ap (λ (l : List Field). field 8 (value_at fs 0) ∷ l)
       (cons_field fs 1 9 (omega arith) b.0
@@ -235,16 +236,16 @@ module _ (fs : List Field) (passes : checks fs ≡ true) (bytes : (i : ℕ) → 
   pub passes_writing : is_writing (loose_of fs) ≡ true
   unfolding is_writing loose_of shaped ranged texted typed
   passes_writing =
-      both_hold _ _
-      (both_hold _ _ (both_true (same (digits (number_in (value_at fs 5))) (value_at fs 5)) _ head.sequence).1 (both_hold _ _ (bytes 3) (both_hold _ _ (bytes 4) (bytes 6))))
-      (both_hold _ _
-      (both_hold _ _ head.kind
-      (both_hold _ _ (all_intro (λ b. shape_at k b (now b)) 32 (λ b h. (both_true (shape_at k b (now b)) _ (now_right b h)).0))
+      and_from _ _
+      (and_from _ _ (and_parts (same (digits (number_in (value_at fs 5))) (value_at fs 5)) _ head.sequence).1 (and_from _ _ (bytes 3) (and_from _ _ (bytes 4) (bytes 6))))
+      (and_from _ _
+      (and_from _ _ head.kind
+      (and_from _ _ (all_intro (λ b. shape_at k b (now b)) 32 (λ b h. (and_parts (shape_at k b (now b)) _ (now_right b h)).0))
       (fit_paired k head.kind us nm fit walked.stands silent named pair)))
-      (both_hold _ _
-      (all_intro (λ b. range_at b (now b)) 32 (λ b h. (both_true (range_at b (now b)) _ (both_true (shape_at k b (now b)) _ (now_right b h)).1).0))
-      (both_hold _ _ head.sender (both_hold _ _ head.target (both_hold _ _ head.time
-      (all_intro (λ b. text_at b (now b)) 32 (λ b h. (both_true (range_at b (now b)) _ (both_true (shape_at k b (now b)) _ (now_right b h)).1).1)))))))
+      (and_from _ _
+      (all_intro (λ b. range_at b (now b)) 32 (λ b h. (and_parts (range_at b (now b)) _ (and_parts (shape_at k b (now b)) _ (now_right b h)).1).0))
+      (and_from _ _ head.sender (and_from _ _ head.target (and_from _ _ head.time
+      (all_intro (λ b. text_at b (now b)) 32 (λ b h. (and_parts (range_at b (now b)) _ (and_parts (shape_at k b (now b)) _ (now_right b h)).1).1)))))))
 
   -- its fields are these
 
@@ -256,7 +257,7 @@ module _ (fs : List Field) (passes : checks fs ≡ true) (bytes : (i : ℕ) → 
   ending : left.0 ≡ stamp k (value_at fs 6) [] ++ (sum_field fs ∷ [])
   unfolding closed
   ending =
-      same_fields_lem left.0 (stamp k (value_at fs 6) (sum_field fs ∷ [])) (both_true (same_fields left.0 (stamp k (value_at fs 6) (sum_field fs ∷ []))) _ left.2).0
+      same_fields_lem left.0 (stamp k (value_at fs 6) (sum_field fs ∷ [])) (and_parts (same_fields left.0 (stamp k (value_at fs 6) (sum_field fs ∷ []))) _ left.2).0
       ∙ stamp_one k (value_at fs 6) (sum_field fs)
 
   rows_are : drop 7 fs ≡ body (rows k) (value_of k now) (stamp k (value_at fs 6) []) ++ (sum_field fs ∷ [])
@@ -267,7 +268,7 @@ module _ (fs : List Field) (passes : checks fs ≡ true) (bytes : (i : ℕ) → 
       ∙ sym (body_append (value_of k now) (stamp k (value_at fs 6) []) (sum_field fs ∷ []) (rows k))
 
   five : digits (number_in (value_at fs 5)) ≡ value_at fs 5
-  five = same_true (digits (number_in (value_at fs 5))) (value_at fs 5) (both_true (same (digits (number_in (value_at fs 5))) (value_at fs 5)) _ head.sequence).0
+  five = same_true (digits (number_in (value_at fs 5))) (value_at fs 5) (and_parts (same (digits (number_in (value_at fs 5))) (value_at fs 5)) _ head.sequence).0
 
   fields_are : fs ≡ (field 8 version ∷ field 9 (value_at fs 1) ∷ within_9) ++ (sum_field fs ∷ [])
   fields_are =
@@ -281,7 +282,7 @@ module _ (fs : List Field) (passes : checks fs ≡ true) (bytes : (i : ℕ) → 
   nine : value_at fs 1 ≡ digits (length (spellings within_9))
   unfolding closed
   nine =
-      same_true (value_at fs 1) _ (both_true (same_fields left.0 (stamp k (value_at fs 6) (sum_field fs ∷ []))) _ left.2).1
+      same_true (value_at fs 1) _ (and_parts (same_fields left.0 (stamp k (value_at fs 6) (sum_field fs ∷ []))) _ left.2).1
       ∙ ap (λ (l : List Field). digits (length (spellings (drop 2 l)))) before_10
 
   front_is : front within_9 ≡ init fs
@@ -304,32 +305,32 @@ module _ (w : Writing) (is : is_writing w ≡ true) where
   parts : (typed w ≡ true) × ((shaped kind_of_lem w.at ≡ true) × ((ranged w.at ≡ true) × (texted w ≡ true)))
   unfolding is_writing
   parts =
-      let a = both_true (typed w) _ is in
-      let b = both_true (shaped kind_of_lem w.at) _ a.1 in
-      (a.0, (b.0, both_true (ranged w.at) (texted w) b.1))
+      let a = and_parts (typed w) _ is in
+      let b = and_parts (shaped kind_of_lem w.at) _ a.1 in
+      (a.0, (b.0, and_parts (ranged w.at) (texted w) b.1))
 
   shapes : (within 16 20 kind_of_lem ≡ true) × ((all_below (λ b. shape_at kind_of_lem b (w.at b)) 32 ≡ true) × (paired kind_of_lem w.at ≡ true))
   unfolding shaped
   shapes =
-      let a = both_true (within 16 20 kind_of_lem) _ parts.1.0 in
-      (a.0, both_true (all_below (λ b. shape_at kind_of_lem b (w.at b)) 32) (paired kind_of_lem w.at) a.1)
+      let a = and_parts (within 16 20 kind_of_lem) _ parts.1.0 in
+      (a.0, and_parts (all_below (λ b. shape_at kind_of_lem b (w.at b)) 32) (paired kind_of_lem w.at) a.1)
 
   texts : (is_text w.sender ≡ true) × ((is_text w.target ≡ true) × ((is_text w.time ≡ true) × (all_below (λ b. text_at b (w.at b)) 32 ≡ true)))
   unfolding texted
   texts =
-      let a = both_true (is_text w.sender) _ parts.1.1.1 in
-      let b = both_true (is_text w.target) _ a.1 in
-      (a.0, (b.0, both_true (is_text w.time) _ b.1))
+      let a = and_parts (is_text w.sender) _ parts.1.1.1 in
+      let b = and_parts (is_text w.target) _ a.1 in
+      (a.0, (b.0, and_parts (is_text w.time) _ b.1))
 
   ok : (b : ℕ) → b < 32 → right kind_of_lem b (w.at b) ≡ true
   unfolding ranged
   ok b h =
-      both_hold _ _ (all_elim (λ b. shape_at kind_of_lem b (w.at b)) 32 shapes.1.0 b h)
-      (both_hold _ _ (all_elim (λ b. range_at b (w.at b)) 32 parts.1.1.0 b h) (all_elim (λ b. text_at b (w.at b)) 32 texts.1.1.1 b h))
+      and_from _ _ (all_elim (λ b. shape_at kind_of_lem b (w.at b)) 32 shapes.1.0 b h)
+      (and_from _ _ (all_elim (λ b. range_at b (w.at b)) 32 parts.1.1.0 b h) (all_elim (λ b. text_at b (w.at b)) 32 texts.1.1.1 b h))
 
   sequence_typed : ltb w.sequence (bound 8) ≡ true
   unfolding typed
-  sequence_typed = (both_true (nat_lt w.sequence (bound 8)) _ parts.0).0
+  sequence_typed = (and_parts (nat_lt w.sequence (bound 8)) _ parts.0).0
 
   abbrev vs : Values
   vs = value_of kind_of_lem w.at
@@ -345,7 +346,7 @@ module _ (w : Writing) (is : is_writing w ≡ true) where
   behind = go (nat_le 18 kind_of_lem) refl
     where
       a : (all_apart (rows kind_of_lem) 60 ≡ true) × (all_apart (rows kind_of_lem) 10 ≡ true)
-      a = both_true (all_apart (rows kind_of_lem) 60) (all_apart (rows kind_of_lem) 10) (rows_apart kind_of_lem shapes.0)
+      a = and_parts (all_apart (rows kind_of_lem) 60) (all_apart (rows kind_of_lem) 10) (rows_apart kind_of_lem shapes.0)
 
       go : (x : Bool) → nat_le 18 kind_of_lem ≡ x
           → (T : ℕ) × (v : List ℕ) × (fs : List Field) × (stamp kind_of_lem w.time [] ++ (last ∷ []) ≡ field T v ∷ fs) × (all_apart (rows kind_of_lem) T ≡ true)
@@ -380,7 +381,7 @@ module _ (w : Writing) (is : is_writing w ≡ true) where
   passed : (seen : Bool) → (seen ≡ true → is_some (vs 20) ≡ true) → (b : ℕ) → in_rows (rows kind_of_lem) b ≡ true → (v : List ℕ) → vs b ≡ Some v
       → asked_by kind_of_lem (first_value gs) seen b v ≡ true
   passed seen p b i v z =
-      both_hold _ _ (fit_again kind_of_lem w.at shapes.0 ok shapes.1.1 found_values found else_none (first_value gs) name_found b i v (found b i ∙ z))
+      and_from _ _ (fit_again kind_of_lem w.at shapes.0 ok shapes.1.1 found_values found else_none (first_value gs) name_found b i v (found b i ∙ z))
       (once seen refl (b == 27) refl)
     where
       once : (x : Bool) → seen ≡ x → (y : Bool) → (b == 27) ≡ y → not (seen && b == 27) ≡ true
@@ -453,15 +454,15 @@ module _ (w : Writing) (is : is_writing w ≡ true) where
   unfolding headed
   headed_in =
       let q = w.sequence in
-      both_hold _ _ tags_in
-      (both_hold _ _ (ap (λ (v : List ℕ). same v version) v0 ∙ same_self version)
-      (both_hold _ _ (ap (within 16 20) kind_in_lem ∙ shapes.0)
-      (both_hold _ _ ((λ i. same (v2 i) (type_of (kind_in_lem i) ∷ [])) ∙ same_self (type_of kind_of_lem ∷ []))
-      (both_hold _ _ (ap is_text v3 ∙ texts.0)
-      (both_hold _ _ (ap is_text v4 ∙ texts.1.0)
-      (both_hold _ _
+      and_from _ _ tags_in
+      (and_from _ _ (ap (λ (v : List ℕ). same v version) v0 ∙ same_self version)
+      (and_from _ _ (ap (within 16 20) kind_in_lem ∙ shapes.0)
+      (and_from _ _ ((λ i. same (v2 i) (type_of (kind_in_lem i) ∷ [])) ∙ same_self (type_of kind_of_lem ∷ []))
+      (and_from _ _ (ap is_text v3 ∙ texts.0)
+      (and_from _ _ (ap is_text v4 ∙ texts.1.0)
+      (and_from _ _
       (ap is_number v5
-      ∙ both_hold _ _ (ap (λ (n : ℕ). same (digits n) (digits q)) (digits_back q) ∙ same_self (digits q)) (ap (λ (n : ℕ). ltb n (bound 8)) (digits_back q) ∙ sequence_typed))
+      ∙ and_from _ _ (ap (λ (n : ℕ). same (digits n) (digits q)) (digits_back q) ∙ same_self (digits q)) (ap (λ (n : ℕ). ltb n (bound 8)) (digits_back q) ∙ sequence_typed))
       (ap is_text v6 ∙ texts.1.1.0)))))))
 
   two_off : drop 2 (front (inner w)) ≡ inner w
@@ -473,7 +474,7 @@ module _ (w : Writing) (is : is_writing w ≡ true) where
   closes =
       let out : List Field = stamp kind_of_lem w.time [] ++ (last ∷ []) in
       let t : sum_field (fields_of w) ≡ last = ap (λ (l : List Field). field 10 (low_digits 3 (sum (spellings l) % 256))) init_front in
-      both_hold _ _
+      and_from _ _
       (ap (same_fields out) ((λ i. stamp (kind_in_lem i) (v6 i) (t i ∷ [])) ∙ stamp_one kind_of_lem w.time last) ∙ fields_self out)
       ((λ i. same (v1 i) (digits (length (spellings (drop 2 (init_front i))))))
       ∙ ap (λ (l : List Field). same (digits (length (spellings (inner w)))) (digits (length (spellings l)))) two_off
@@ -482,7 +483,7 @@ module _ (w : Writing) (is : is_writing w ≡ true) where
   pub writing_passes : checks (fields_of w) ≡ true
   unfolding checks
   writing_passes =
-      both_hold _ _ headed_in
+      and_from _ _ headed_in
       (ap (ends (fields_of w)) ((λ i. walk (asked_by (kind_in_lem i) (v7 i)) false (rows (kind_in_lem i)) (seven i)) ∙ walks) ∙ closes)
 
   -- it is read as its fields
@@ -500,15 +501,15 @@ module _ (s : List ℕ) (fs : List Field) (spelled : spellings fs ≡ s) (prints
   unfolding is_message
   message_passes m =
       let w : Writing = loose_of (fields_in s) in
-      let h = both_true (is_writing w) (same (bytes_for w) s) m in
+      let h = and_parts (is_writing w) (same (bytes_for w) s) m in
       let e : fields_of w ≡ fs = sym (fields_in_lem w h.0) ∙ ap fields_in (same_true (bytes_for w) s h.1) ∙ fields_there in
       subst (λ (l : List Field). checks l ≡ true) e (writing_passes w h.0)
 
   passes_message : ((i : ℕ) → every (λ x. ltb x 256) (value_at fs i) ≡ true) → checks fs ≡ true → is_message s ≡ true
   unfolding is_message bytes_for
   passes_message bytes c =
-      both_hold _ _ (ap (λ (l : List Field). is_writing (loose_of l)) fields_there ∙ passes_writing fs c bytes)
+      and_from _ _ (ap (λ (l : List Field). is_writing (loose_of l)) fields_there ∙ passes_writing fs c bytes)
       (ap (λ (l : List ℕ). same l s) (ap (λ (l : List Field). spellings (fields_of (loose_of l))) fields_there ∙ ap spellings (passes_fields fs c bytes) ∙ spelled) ∙ same_self s)
 
   pub message_is : ((i : ℕ) → every (λ x. ltb x 256) (value_at fs i) ≡ true) → is_message s ≡ checks fs
-  message_is bytes = test_same (is_message s) (checks fs) message_passes (passes_message bytes)
+  message_is bytes = both_ways (is_message s) (checks fs) message_passes (passes_message bytes)

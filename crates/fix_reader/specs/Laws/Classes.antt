@@ -1,9 +1,10 @@
 -- What fits, by the form of the field: a text, a code, a number, the order's name. Rests on Fits.
-use Rattle.std.specs.Prelude.{◌≡◌, ℕ, ◌<◌, ◌≤◌, Bool, true, false, not, ◌&&◌, ◌||◌, ltb, List, [], ◌∷◌, length, take, ◌==◌, nat_eq, nat_le, nat_lt, slice_index, None, Some}
-use Rattle.std.proofs.Math.Path.{refl, sym, ap}
-use Rattle.std.proofs.Common.{◌∙◌, ⊎_elim, arith, eqb-true, eq-eqb, ltb-true, lt-ltb, leb-true, take_all}
-use Rattle.std.proofs.lemmas.Bool.{not-true}
-use Rattle.prelude.specs.Cases.{if◌then◌otherwise◌, if_true, if_false, clash, both_true, both_hold, either_true, test_same}
+use Rattle.std.specs.Prelude.{◌≡◌, ℕ, ◌<◌, ◌≤◌, Bool, true, false, not, ◌&&◌, ◌||◌, ltb, List, [], ◌∷◌, length, take, ◌==◌, nat_eq, nat_le, nat_lt, slice_index, None, Some, refl}
+use Rattle.std.proofs.Common.{sym, ap, ◌∙◌, ⊎_elim, arith, eqb-true, eq-eqb, ltb-true, lt-ltb, leb-true, take_all}
+use Rattle.std.proofs.Math.Bool.{and-true, not-not}
+use Rattle.std.proofs.lemmas.Bool.{not-true, and_parts, and_from, or_cases, not_from_false, or_left}
+use Rattle.std.specs.Cmp.{both_ways}
+use Rattle.prelude.specs.Cases.{if◌then◌otherwise◌, if_true, if_false, clash}
 use Rattle.prelude.specs.Number.{number, bytes_of, bound, length_bytes, number_bytes, number_bound}
 use Rattle.prelude.specs.Bytes.{bytes_of_lem}
 use Rattle.bits.specs.Map.{bit}
@@ -21,16 +22,6 @@ use Rattle.fix_words.specs.Laws.Rows.{or_right}
 use Rattle.fix_words.proofs.Laws.Kinds.{right}
 use Rattle.fix_reader.specs.Laws.Fits.{respelled, fits, fits_right, fits_same, fits_is, plain_held, plain_respelled}
 
-and_true : (x : Bool) → (x && true) ≡ x
-and_true true = refl
-and_true false = refl
-
-or_left : (x y : Bool) → x ≡ true → (x || y) ≡ true
-or_left x y e = rw e refl
-
-not_is : (x : Bool) → x ≡ false → not x ≡ true
-not_is x e = rw e refl
-
 bytes_every : (s n : ℕ) → every (λ x. ltb x 256) (bytes_of s n) ≡ true
 bytes_every s n = below_every (λ x. ltb x 256) (bytes_of s n) (λ i h. lt-ltb (slice_index (bytes_of s n) i) 256 (bytes_of_lem s n i))
 
@@ -42,7 +33,7 @@ text_some (c ∷ v) e = e ∙ sym (lt-ltb 0 (length (c ∷ v)) (omega arith))
 -- a value of bytes, in a bit that a record of kind k may have
 module _ (k b : ℕ) (nm v : List ℕ) (stand : (bit (required k) b || bit (allowed k) b) ≡ true) (bytes : every (λ x. ltb x 256) v ≡ true) where
   shape_some : (c : List ℕ) → every (λ x. ltb x 256) c ≡ true → (is_text_bit b || length c == size b) ≡ true → shape_at k b (Some c) ≡ true
-  shape_some c y l = both_hold _ _ stand (both_hold _ _ y l)
+  shape_some c y l = and_from _ _ stand (and_from _ _ y l)
 
   -- ---- as it stands
 
@@ -71,53 +62,53 @@ module _ (k b : ℕ) (nm v : List ℕ) (stand : (bit (required k) b || bit (allo
     plain_fits =
         (λ i. right k b (held_is i) && same (again_is i) v)
         ∙ ap (λ (x : Bool). right k b (Some v) && x) (same_self v)
-        ∙ and_true (right k b (Some v))
+        ∙ and-true (right k b (Some v))
 
     -- a text
 
     pub text_fits : is_text_bit b ≡ true → fits k nm b v ≡ (in_range (range b) (length v) && is_text v)
-    text_fits t = plain_fits ∙ test_same (right k b (Some v)) (in_range (range b) (length v) && is_text v) to back
+    text_fits t = plain_fits ∙ both_ways (right k b (Some v)) (in_range (range b) (length v) && is_text v) to back
       where
         long : value b v ≡ length v
         long = unfold value in if_true (is_text_bit b) (length v) _ t
 
         to : right k b (Some v) ≡ true → (in_range (range b) (length v) && is_text v) ≡ true
         to e =
-            let h = both_true (shape_at k b (Some v)) (range_at b (Some v) && text_at b (Some v)) e in
-            let r = both_true (range_at b (Some v)) (text_at b (Some v)) h.1 in
-            let i = (both_true (in_range (range b) (value b v)) (not (b == 2) || is_name_of v) r.0).0 in
-            both_hold _ _ (ap (in_range (range b)) (sym long) ∙ i)
-            (⊎_elim (λ q. clash (is_text_bit b) t (not-true _ q)) (λ q. q) (either_true (not (is_text_bit b)) (is_text v) r.1))
+            let h = and_parts (shape_at k b (Some v)) (range_at b (Some v) && text_at b (Some v)) e in
+            let r = and_parts (range_at b (Some v)) (text_at b (Some v)) h.1 in
+            let i = (and_parts (in_range (range b) (value b v)) (not (b == 2) || is_name_of v) r.0).0 in
+            and_from _ _ (ap (in_range (range b)) (sym long) ∙ i)
+            (⊎_elim (λ q. clash (is_text_bit b) t (not-true _ q)) (λ q. q) (or_cases (not (is_text_bit b)) (is_text v) r.1))
 
         back : (in_range (range b) (length v) && is_text v) ≡ true → right k b (Some v) ≡ true
         back e =
-            let h = both_true (in_range (range b) (length v)) (is_text v) e in
-            both_hold _ _ (shape_some v bytes (or_left (is_text_bit b) _ t))
-            (both_hold _ _ (both_hold _ _ (ap (in_range (range b)) long ∙ h.0) (or_left (not (b == 2)) (is_name_of v) (not_is (b == 2) n2)))
+            let h = and_parts (in_range (range b) (length v)) (is_text v) e in
+            and_from _ _ (shape_some v bytes (or_left (is_text_bit b) _ t))
+            (and_from _ _ (and_from _ _ (ap (in_range (range b)) long ∙ h.0) (or_left (not (b == 2)) (is_name_of v) (not_from_false (b == 2) n2)))
             (or_right (not (is_text_bit b)) (is_text v) h.1))
 
     -- a code
 
     pub code_fits : is_text_bit b ≡ false → size b ≡ 1 → fits k nm b v ≡ (length v == 1 && in_range (range b) (slice_index v 0))
-    code_fits t one = plain_fits ∙ test_same (right k b (Some v)) (length v == 1 && in_range (range b) (slice_index v 0)) to back
+    code_fits t one = plain_fits ∙ both_ways (right k b (Some v)) (length v == 1 && in_range (range b) (slice_index v 0)) to back
       where
         code : length v ≡ 1 → value b v ≡ slice_index v 0
         code l = let e : value b v ≡ number (take 8 v) = (unfold value in if_false (is_text_bit b) (length v) (number (take 8 v)) t) in e ∙ number_one v l
 
         to : right k b (Some v) ≡ true → (length v == 1 && in_range (range b) (slice_index v 0)) ≡ true
         to e =
-            let h = both_true (shape_at k b (Some v)) (range_at b (Some v) && text_at b (Some v)) e in
+            let h = and_parts (shape_at k b (Some v)) (range_at b (Some v) && text_at b (Some v)) e in
             let l : length v ≡ 1 = shape_long k b v h.0 t ∙ one in
-            let i = (both_true (in_range (range b) (value b v)) (not (b == 2) || is_name_of v) (both_true (range_at b (Some v)) (text_at b (Some v)) h.1).0).0 in
-            both_hold _ _ (eq-eqb (length v) 1 l) (ap (in_range (range b)) (sym (code l)) ∙ i)
+            let i = (and_parts (in_range (range b) (value b v)) (not (b == 2) || is_name_of v) (and_parts (range_at b (Some v)) (text_at b (Some v)) h.1).0).0 in
+            and_from _ _ (eq-eqb (length v) 1 l) (ap (in_range (range b)) (sym (code l)) ∙ i)
 
         back : (length v == 1 && in_range (range b) (slice_index v 0)) ≡ true → right k b (Some v) ≡ true
         back e =
-            let h = both_true (length v == 1) (in_range (range b) (slice_index v 0)) e in
+            let h = and_parts (length v == 1) (in_range (range b) (slice_index v 0)) e in
             let l : length v ≡ 1 = eqb-true (length v) 1 h.0 in
-            both_hold _ _ (shape_some v bytes (or_right (is_text_bit b) _ (eq-eqb (length v) (size b) (l ∙ sym one))))
-            (both_hold _ _ (both_hold _ _ (ap (in_range (range b)) (code l) ∙ h.1) (or_left (not (b == 2)) (is_name_of v) (not_is (b == 2) n2)))
-            (or_left (not (is_text_bit b)) (is_text v) (not_is (is_text_bit b) t)))
+            and_from _ _ (shape_some v bytes (or_right (is_text_bit b) _ (eq-eqb (length v) (size b) (l ∙ sym one))))
+            (and_from _ _ (and_from _ _ (ap (in_range (range b)) (code l) ∙ h.1) (or_left (not (b == 2)) (is_name_of v) (not_from_false (b == 2) n2)))
+            (or_left (not (is_text_bit b)) (is_text v) (not_from_false (is_text_bit b) t)))
 
   -- ---- a number
 
@@ -147,7 +138,7 @@ module _ (k b : ℕ) (nm v : List ℕ) (stand : (bit (required k) b || bit (allo
         ∙ ap number (take_all 8 c (omega (arith, length_bytes (size b) n)))
 
     pub number_fits : fits k nm b v ≡ (nat_lt n (bound (size b)) && (same (decimal (places b) n) v && in_range (range b) n))
-    number_fits = test_same (fits k nm b v) (nat_lt n (bound (size b)) && (same (decimal (places b) n) v && in_range (range b) n)) to back
+    number_fits = both_ways (fits k nm b v) (nat_lt n (bound (size b)) && (same (decimal (places b) n) v && in_range (range b) n)) to back
       where
         to : fits k nm b v ≡ true → (nat_lt n (bound (size b)) && (same (decimal (places b) n) v && in_range (range b) n)) ≡ true
         to e =
@@ -155,22 +146,22 @@ module _ (k b : ℕ) (nm v : List ℕ) (stand : (bit (required k) b || bit (allo
             let m : n ≡ number c = ap number_in (sym s) ∙ decimal_back (places b) (number c) in
             let l : number c < bound (size b) = (rw (length_bytes (size b) n) at (number_bound c (bytes_of_lem (size b) n))) in
             let r : right k b (Some c) ≡ true = ap (right k b) (sym number_held) ∙ fits_right k nm b v e in
-            let h = both_true (shape_at k b (Some c)) (range_at b (Some c) && text_at b (Some c)) r in
-            let i = (both_true (in_range (range b) (value b c)) (not (b == 2) || is_name_of c) (both_true (range_at b (Some c)) (text_at b (Some c)) h.1).0).0 in
-            both_hold _ _ (lt-ltb n (bound (size b)) (omega (arith, m, l)))
-            (both_hold _ _ (ap (λ (x : ℕ). same (decimal (places b) x) v) m ∙ ap (λ (w : List ℕ). same w v) s ∙ same_self v)
+            let h = and_parts (shape_at k b (Some c)) (range_at b (Some c) && text_at b (Some c)) r in
+            let i = (and_parts (in_range (range b) (value b c)) (not (b == 2) || is_name_of c) (and_parts (range_at b (Some c)) (text_at b (Some c)) h.1).0).0 in
+            and_from _ _ (lt-ltb n (bound (size b)) (omega (arith, m, l)))
+            (and_from _ _ (ap (λ (x : ℕ). same (decimal (places b) x) v) m ∙ ap (λ (w : List ℕ). same w v) s ∙ same_self v)
             (ap (in_range (range b)) (m ∙ sym number_value) ∙ i))
 
         back : (nat_lt n (bound (size b)) && (same (decimal (places b) n) v && in_range (range b) n)) ≡ true → fits k nm b v ≡ true
         back e =
-            let a = both_true (nat_lt n (bound (size b))) (same (decimal (places b) n) v && in_range (range b) n) e in
-            let d = both_true (same (decimal (places b) n) v) (in_range (range b) n) a.1 in
+            let a = and_parts (nat_lt n (bound (size b))) (same (decimal (places b) n) v && in_range (range b) n) e in
+            let d = and_parts (same (decimal (places b) n) v) (in_range (range b) n) a.1 in
             let m : number c ≡ n = number_bytes (size b) n (ltb-true n (bound (size b)) a.0) in
             fits_is k nm b v
             (ap (right k b) number_held
-            ∙ both_hold _ _ (shape_some c (bytes_every (size b) n) (or_right (is_text_bit b) _ (eq-eqb (length c) (size b) (length_bytes (size b) n))))
-            (both_hold _ _ (both_hold _ _ (ap (in_range (range b)) (number_value ∙ m) ∙ d.1) (or_left (not (b == 2)) (is_name_of c) (not_is (b == 2) n2)))
-            (or_left (not (is_text_bit b)) (is_text c) (not_is (is_text_bit b) t))))
+            ∙ and_from _ _ (shape_some c (bytes_every (size b) n) (or_right (is_text_bit b) _ (eq-eqb (length c) (size b) (length_bytes (size b) n))))
+            (and_from _ _ (and_from _ _ (ap (in_range (range b)) (number_value ∙ m) ∙ d.1) (or_left (not (b == 2)) (is_name_of c) (not_from_false (b == 2) n2)))
+            (or_left (not (is_text_bit b)) (is_text c) (not_from_false (is_text_bit b) t))))
             (number_again ∙ ap (decimal (places b)) m ∙ same_true (decimal (places b) n) v d.0)
 
 -- ---- the order's name
@@ -202,34 +193,30 @@ module _ (k : ℕ) (nm v : List ℕ) (stand : (bit (required k) 2 || bit (allowe
   value_2 = if_true (is_text_bit 2) (length v) (number (take 8 v)) text_bit_2
 
   none_right : right k 2 None ≡ (k == 17)
-  none_right = ap (λ (x : Bool). not x && true) must ∙ and_true (not (not (k == 17))) ∙ twice (k == 17)
-    where
-      twice : (x : Bool) → not (not x) ≡ x
-      twice true = refl
-      twice false = refl
+  none_right = ap (λ (x : Bool). not x && true) must ∙ and-true (not (not (k == 17))) ∙ not-not (k == 17)
 
   some_right : same v none_word ≡ false → right k 2 (Some v) ≡ as_name
-  some_right s = test_same (right k 2 (Some v)) as_name to back
+  some_right s = both_ways (right k 2 (Some v)) as_name to back
     where
       to : right k 2 (Some v) ≡ true → as_name ≡ true
       to e =
-          let r = both_true (range_at 2 (Some v)) (text_at 2 (Some v)) (both_true (shape_at k 2 (Some v)) (range_at 2 (Some v) && text_at 2 (Some v)) e).1 in
-          let i = both_true (in_range (range 2) (value 2 v)) (is_name_of v) r.0 in
-          both_hold _ _ (sym (name_range_lem (length v)) ∙ ap (in_range (range 2)) (sym value_2) ∙ i.0) (both_true (every is_alnum v) (not (same v none_word)) i.1).0
+          let r = and_parts (range_at 2 (Some v)) (text_at 2 (Some v)) (and_parts (shape_at k 2 (Some v)) (range_at 2 (Some v) && text_at 2 (Some v)) e).1 in
+          let i = and_parts (in_range (range 2) (value 2 v)) (is_name_of v) r.0 in
+          and_from _ _ (sym (name_range_lem (length v)) ∙ ap (in_range (range 2)) (sym value_2) ∙ i.0) (and_parts (every is_alnum v) (not (same v none_word)) i.1).0
 
       back : as_name ≡ true → right k 2 (Some v) ≡ true
       back e =
-          let h = both_true (within 1 20 (length v)) (every is_alnum v) e in
-          let l : 1 ≤ length v = leb-true 1 (length v) (both_true (nat_le 1 (length v)) (nat_le (length v) 20) h.0).0 in
+          let h = and_parts (within 1 20 (length v)) (every is_alnum v) e in
+          let l : 1 ≤ length v = leb-true 1 (length v) (and_parts (nat_le 1 (length v)) (nat_le (length v) 20) h.0).0 in
           let x : is_text v ≡ true = text_some v prints ∙ lt-ltb 0 (length v) (omega arith) in
-          both_hold _ _ (shape_some k 2 nm v stand bytes v bytes (or_left (is_text_bit 2) (length v == size 2) text_bit_2))
-          (both_hold _ _
-          (both_hold _ _ (ap (in_range (range 2)) value_2 ∙ name_range_lem (length v) ∙ h.0) (both_hold _ _ h.1 (not_is (same v none_word) s)))
+          and_from _ _ (shape_some k 2 nm v stand bytes v bytes (or_left (is_text_bit 2) (length v == size 2) text_bit_2))
+          (and_from _ _
+          (and_from _ _ (ap (in_range (range 2)) value_2 ∙ name_range_lem (length v) ∙ h.0) (and_from _ _ h.1 (not_from_false (same v none_word) s)))
           (or_right (not (is_text_bit 2)) (is_text v) x))
 
   pub name_fits : fits k nm 2 v ≡ (if same v none_word then (k == 17) otherwise as_name)
   unfolding fits
-  name_fits = (λ i. right k 2 (name_held i) && name_again i) ∙ and_true (right k 2 (if same v none_word then None otherwise Some v)) ∙ go (same v none_word) refl
+  name_fits = (λ i. right k 2 (name_held i) && name_again i) ∙ and-true (right k 2 (if same v none_word then None otherwise Some v)) ∙ go (same v none_word) refl
     where
       go : (x : Bool) → same v none_word ≡ x → right k 2 (if same v none_word then None otherwise Some v) ≡ (if same v none_word then (k == 17) otherwise as_name)
       go true e = ap (right k 2) (if_true (same v none_word) None (Some v) e) ∙ none_right ∙ sym (if_true (same v none_word) (k == 17) as_name e)

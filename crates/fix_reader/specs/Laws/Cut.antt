@@ -1,27 +1,28 @@
 -- What the reader's code has of a message that was cut: its fields, and the tables of their tags, places and lengths. Rests on Split and
 -- Table.
 use Rattle.std.specs.Prelude.{◌≡◌, ℕ, zero, suc, ◌+◌, ◌-◌, ◌<◌, ◌≤◌, Bool, true, ◌&&◌, List, [], ◌∷◌, length, take, drop, ◌==◌, nat_eq, nat_lt, slice_index, slice_index_or, refl}
-use Rattle.std.proofs.Common.{sym, ap, ◌∙◌, arith, lt-ltb, le-ltb, drop_of_length-le, drop-cons}
+use Rattle.std.proofs.Common.{sym, ap, subst, ◌∙◌, arith, lt-ltb, le-ltb, drop_of_length-le, drop-cons}
 use Rattle.std.proofs.Math.Decide.{dec_lt}
 use Rattle.std.proofs.Math.ListN.{get_or-eq_default}
-use Rattle.prelude.specs.Cases.{if_false, both_true}
+use denote.Struct.Props.{props}
+use Rattle.prelude.specs.Cases.{if_false}
 use Rattle.prelude.specs.Lists.{get_list}
 use Rattle.prelude.specs.Span.{span, span_none, part_span}
 use Rattle.decimal.specs.Decimal.{digits}
 use Rattle.fix_words.specs.Lists.{every, is_print}
-use Rattle.fix_words.specs.Spelling.{Field, spellings, fields_in, printable}
+use Rattle.fix_words.specs.Spelling.{Field, spellings, fields_in}
 use Rattle.fix_words.specs.Rows.{leads}
 use Rattle.fix_words.specs.Message.{value_at}
 use Rattle.fix_words.specs.Laws.Spelling.{fields_back}
 use Rattle.fix_claims.specs.declared.FixFields.{FixFields}
 use Rattle.fix_claims.specs.Reading.{no_field, tag_of, place_of, length_of, tabled}
-use Rattle.fix_reader.specs.Laws.Split.{plains_print, Found}
+use Rattle.fix_reader.specs.Laws.Split.{Plains, plains_prop, plains_print, Found}
 use Rattle.fix_claims.proofs.Laws.Table.{value_stands, value_within}
 
 -- the bytes are fields, and the tables say where their values stand
 pub record Placed (s at len : List ℕ) : Type 0 where
   pub spelled : spellings (fields_in s) ≡ s
-  pub prints : printable (fields_in s) ≡ true
+  pub plain : Plains (fields_in s)
   pub places : (i : ℕ) → i < 32 → slice_index at i ≡ place_of (fields_in s) i
   pub lengths : (i : ℕ) → i < 32 → slice_index len i ≡ length_of (fields_in s) i
 
@@ -31,6 +32,9 @@ pub record Cut (s : List ℕ) (n : ℕ) (tag at len : List ℕ) : Type 0 where
   pub count : length (fields_in s) ≡ n
   pub few : n ≤ 32
   pub tags : (i : ℕ) → i < 32 → slice_index tag i ≡ tag_of (fields_in s) i
+
+-- `Cut` has one proof at most
+pub ruleset cut_props = (plains_prop, props)
 
 pub found_fields : (s : List ℕ) (r : FixFields) (f : Found s r) → fields_in s ≡ f.fields
 found_fields s r f = ap fields_in (sym f.spelled) ∙ fields_back f.fields (plains_print f.fields f.plain)
@@ -44,7 +48,7 @@ cut_of s r f =
     record {
       placed = record {
         spelled = ap spellings e ∙ f.spelled;
-        prints = ap printable e ∙ plains_print f.fields f.plain;
+        plain = subst Plains (sym e) f.plain;
         places = λ i h. ap (λ (x : FixFields). slice_index x.at i) f.table ∙ get_list (place_of fs) 0 32 i h ∙ ap (λ (l : List Field). place_of l i) (sym e);
         lengths = λ i h. ap (λ (x : FixFields). slice_index x.length i) f.table ∙ get_list (length_of fs) 0 32 i h ∙ ap (λ (l : List Field). length_of l i) (sym e);
       };
@@ -55,10 +59,10 @@ cut_of s r f =
 
 -- ---- a value
 
-value_prints : (fs : List Field) → printable fs ≡ true → (i : ℕ) → every is_print (value_at fs i) ≡ true
+value_prints : (fs : List Field) → Plains fs → (i : ℕ) → every is_print (value_at fs i) ≡ true
 value_prints [] p i = refl
-value_prints (f ∷ fs) p zero = (both_true (every is_print f.value) (printable fs) p).0
-value_prints (f ∷ fs) p (suc i) = value_prints fs (both_true (every is_print f.value) (printable fs) p).1 i
+value_prints (f ∷ fs) p zero = p.0.prints
+value_prints (f ∷ fs) p (suc i) = value_prints fs p.1 i
 
 place_none : (fs : List Field) (i : ℕ) → length fs ≤ i → place_of fs i ≡ 0
 unfolding place_of
@@ -97,7 +101,10 @@ module _ (s at len : List ℕ) (z : Placed s at len) (i : ℕ) (h : i < 32) wher
           ap (λ (f : Field). span s (place_of fs i) (length f.value)) e ∙ span_none s (place_of fs i) ∙ sym (ap (λ (f : Field). f.value) e)
 
   pub part_prints : every is_print (value_at fs i) ≡ true
-  part_prints = value_prints fs z.prints i
+  part_prints = value_prints fs z.plain i
+
+  pub value_long : length (value_at fs i) ≡ l
+  value_long = sym (z.lengths i h)
 
 -- ---- a tag
 

@@ -1,13 +1,12 @@
 -- Which bytes are a number's decimal: digits without a zero in front, and with decimals a point and so many digits behind it. So code need not
 -- write a number again to see that it was spelled right. Rests on decimal's laws.
-use Rattle.std.specs.Prelude.{◌≡◌, ℕ, zero, suc, ◌+◌, ◌-◌, ◌*◌, ◌<◌, ◌≤◌, Bool, true, false, ◌&&◌, ◌||◌, List, [], ◌∷◌, ◌++◌, length, take, drop, ◌==◌, nat_le, nat_lt, slice_index, slice_index_or}
-use Rattle.std.proofs.Math.Path.{refl, sym, ap}
-use Rattle.std.proofs.Common.{◌∙◌, ⊎_elim, arith, add-one}
+use Rattle.std.specs.Prelude.{◌≡◌, ℕ, zero, suc, ◌+◌, ◌-◌, ◌*◌, ◌<◌, ◌≤◌, Bool, true, false, ◌&&◌, ◌||◌, List, [], ◌∷◌, ◌++◌, length, take, drop, ◌==◌, nat_le, nat_lt, slice_index, slice_index_or, refl}
+use Rattle.std.proofs.Common.{sym, ap, ◌∙◌, ⊎_elim, arith, add-one, eqb-true, eq-eqb, leb-true, ltb-true, lt-ltb, length-append, length-drop, take_at}
 use Rattle.std.proofs.Math.Decide.{dec_lt}
-use borrow.Author.Tests.{eqb-true, eq-eqb, leb-true, ltb-true, lt-ltb}
-use Rattle.std.proofs.Math.ListN.{length-append, length-drop}
-use Rattle.std.proofs.Math.Seq.{split_at, take_at, get_or_at}
-use Rattle.prelude.specs.Cases.{if_true, if_false, clash, both_true, both_hold, either_true, test_same}
+use Rattle.std.proofs.Math.Seq.{split_at, get_or_at}
+use Rattle.std.proofs.lemmas.Bool.{and_parts, and_from, or_cases}
+use Rattle.std.specs.Cmp.{both_ways}
+use Rattle.prelude.specs.Cases.{if_true, if_false, clash}
 use Rattle.decimal.specs.Decimal.{is_digit, point, digits, low_digits, down, decimal, read_from, number_in}
 use Rattle.decimal.specs.Laws.Back.{read_append, digits_back, low_back}
 use Rattle.decimal.specs.Laws.Columns.{Digits, low_are, same_digits}
@@ -45,7 +44,7 @@ tenfold_more (suc j) (suc k) h = go j k 10 (omega arith)
     go (suc j) (suc k) x h = go j k (10 * x) (omega arith)
 
 digit_low : (c : ℕ) → is_digit c ≡ true → (48 ≤ c) × (c ≤ 57)
-digit_low c e = let p = both_true (nat_le 48 c) (nat_le c 57) e in (leb-true 48 c p.0, leb-true c 57 p.1)
+digit_low c e = let p = and_parts (nat_le 48 c) (nat_le c 57) e in (leb-true 48 c p.0, leb-true c 57 p.1)
 
 read_more : (a c : ℕ) (s : List ℕ) → is_digit c ≡ true → read_from a (c ∷ s) ≡ read_from (a * 10 + (c - 48)) s
 read_more a c s e = ap (λ (x : ℕ). read_from x s) (if_true (is_digit c) (a * 10 + (c - 48)) a e)
@@ -53,14 +52,14 @@ read_more a c s e = ap (λ (x : ℕ). read_from x s) (if_true (is_digit c) (a * 
 read_least : (a : ℕ) (s : List ℕ) → every is_digit s ≡ true → tenfold (length s) a ≤ read_from a s
 read_least a [] d = omega arith
 read_least a (c ∷ s) d =
-    let h = both_true (is_digit c) (every is_digit s) d in
+    let h = and_parts (is_digit c) (every is_digit s) d in
     let i = read_least (a * 10 + (c - 48)) s h.1 in
     omega (arith, i, read_more a c s h.0, tenfold_up (length s) (10 * a) (a * 10 + (c - 48)) (omega arith))
 
 read_below : (a : ℕ) (s : List ℕ) → every is_digit s ≡ true → read_from a s < tenfold (length s) (a + 1)
 read_below a [] d = omega arith
 read_below a (c ∷ s) d =
-    let h = both_true (is_digit c) (every is_digit s) d in
+    let h = and_parts (is_digit c) (every is_digit s) d in
     let b = digit_low c h.0 in
     let i = read_below (a * 10 + (c - 48)) s h.1 in
     omega (arith, i, read_more a c s h.0, tenfold_up (length s) (a * 10 + (c - 48) + 1) (10 * (a + 1)) (omega (arith, b.0, b.1)))
@@ -69,7 +68,7 @@ read_below a (c ∷ s) d =
 
 whole_digits : (v : List ℕ) → is_whole v ≡ true → every is_digit v ≡ true
 unfolding is_whole
-whole_digits v e = (both_true (every is_digit v) _ e).0
+whole_digits v e = (and_parts (every is_digit v) _ e).0
 
 -- no bytes are no number
 pub whole_none : (v : List ℕ) → length v ≡ 0 → is_whole v ≡ false
@@ -81,7 +80,7 @@ whole_first : (v : List ℕ) → is_whole v ≡ true → 1 < length v → 48 < s
 unfolding is_whole
 whole_first v e h =
     ⊎_elim (λ q. absurd (omega (arith, eqb-true (length v) 1 q))) (λ q. ltb-true 48 (slice_index v 0) q)
-    (either_true (length v == 1) (nat_lt 48 (slice_index v 0)) (both_true (every is_digit v) _ e).1)
+    (or_cases (length v == 1) (nat_lt 48 (slice_index v 0)) (and_parts (every is_digit v) _ e).1)
 
 whole_some : (v : List ℕ) → is_whole v ≡ true → 0 < length v
 whole_some [] e = clash (is_whole []) e (whole_none [] refl)
@@ -90,7 +89,7 @@ whole_some (c ∷ v) e = omega arith
 shorter : (s t : List ℕ) → is_whole s ≡ true → is_whole t ≡ true → length t < length s → number_in t < number_in s
 shorter [] t p q l = absurd (omega arith)
 shorter (c ∷ s) t p q l =
-    let h = both_true (is_digit c) (every is_digit s) (whole_digits (c ∷ s) p) in
+    let h = and_parts (is_digit c) (every is_digit s) (whole_digits (c ∷ s) p) in
     let f = whole_first (c ∷ s) p (omega (arith, whole_some t q)) in
     omega (
       arith,
@@ -114,7 +113,7 @@ one_spelling s t p q e = go (dec_lt (length s) (length t)) (dec_lt (length t) (l
 
 digits_whole : (n : ℕ) → is_whole (digits n) ≡ true
 unfolding is_whole
-digits_whole n = both_hold _ _ (digits_digits n) (go (dec_lt n 10))
+digits_whole n = and_from _ _ (digits_digits n) (go (dec_lt n 10))
   where
     go : Dec (n < 10) → (length (digits n) == 1 || nat_lt 48 (slice_index (digits n) 0)) ≡ true
     go (yes h) = ap (λ (b : Bool). b || nat_lt 48 (slice_index (digits n) 0)) (eq-eqb (length (digits n)) 1 (width_one n h))
@@ -126,7 +125,7 @@ back_digits v e = one_spelling (digits (number_in v)) v (digits_whole (number_in
 -- THE LAW without decimals
 pub whole_is : (v : List ℕ) → same (digits (number_in v)) v ≡ is_whole v
 whole_is v =
-    test_same (same (digits (number_in v)) v) (is_whole v)
+    both_ways (same (digits (number_in v)) v) (is_whole v)
     (λ e. ap is_whole (sym (same_true (digits (number_in v)) v e)) ∙ digits_whole (number_in v))
     (λ e. ap (λ (w : List ℕ). same w v) (back_digits v e) ∙ same_self v)
 
@@ -155,8 +154,8 @@ module _ (p : ℕ) (some : 0 < p) where
       let t : take (point_at p (decimal p n)) (decimal p n) ≡ a = (λ i. take (k i) (w i)) ∙ take_at a (point ∷ b) (length a) refl in
       let g : slice_index_or (decimal p n) (point_at p (decimal p n)) 0 ≡ 46 = (λ i. slice_index (w i) (k i)) ∙ get_or_at a point b 0 (length a) refl in
       let d : drop (point_at p (decimal p n) + 1) (decimal p n) ≡ b = (λ i. drop (k i + 1) (w i)) ∙ ap (λ (j : ℕ). drop j (a ++ (point ∷ b))) (add-one (length a)) ∙ behind a point b in
-      both_hold _ _ (ap is_whole t ∙ digits_whole (down p n))
-      (both_hold _ _ (eq-eqb (slice_index (decimal p n) (point_at p (decimal p n))) 46 g) (ap (every is_digit) d ∙ below_every is_digit b (low_are p n)))
+      and_from _ _ (ap is_whole t ∙ digits_whole (down p n))
+      (and_from _ _ (eq-eqb (slice_index (decimal p n) (point_at p (decimal p n))) 46 g) (ap (every is_digit) d ∙ below_every is_digit b (low_are p n)))
     where
       behind : (a : List ℕ) (x : ℕ) (b : List ℕ) → drop (suc (length a)) (a ++ (x ∷ b)) ≡ b
       behind [] x b = refl
@@ -175,8 +174,8 @@ module _ (p : ℕ) (some : 0 < p) where
     pointed_back : is_pointed p v ≡ true → decimal p (number_in v) ≡ v
     unfolding is_pointed
     pointed_back e =
-        let h = both_true (is_whole a) _ e in
-        let g = both_true (slice_index v k == 46) (every is_digit (drop (k + 1) v)) h.1 in
+        let h = and_parts (is_whole a) _ e in
+        let g = and_parts (slice_index v k == 46) (every is_digit (drop (k + 1) v)) h.1 in
         let x : slice_index_or v k 0 ≡ 46 = eqb-true (slice_index v k) 46 g.0 in
         let db : every is_digit b ≡ true = ap (λ (j : ℕ). every is_digit (drop j v)) (sym (add-one k)) ∙ g.1 in
         let w : v ≡ a ++ (46 ∷ b) = split_at v k 0 (omega arith) ∙ ap (λ (y : ℕ). a ++ (y ∷ b)) x in
@@ -191,7 +190,7 @@ module _ (p : ℕ) (some : 0 < p) where
     -- THE LAW with decimals
     pub pointed_is : same (decimal p (number_in v)) v ≡ is_pointed p v
     pointed_is =
-        test_same (same (decimal p (number_in v)) v) (is_pointed p v)
+        both_ways (same (decimal p (number_in v)) v) (is_pointed p v)
         (λ e. ap (is_pointed p) (sym (same_true (decimal p (number_in v)) v e)) ∙ written_pointed (number_in v))
         (λ e. ap (λ (w : List ℕ). same w v) (pointed_back e) ∙ same_self v)
 

@@ -48,11 +48,18 @@ module _ (s : List ℕ) (r : FixFields) (f : Found s r) (bytes : Bytes s) where
           ap (every (λ x. nat_lt x 256)) (sym q) ∙ bytes_all (span s (place_of fs i) (length_of fs i)) (bytes_span s (place_of fs i) (length_of fs i) bytes)
       go (no h) = ap (λ (f : Field). every (λ x. nat_lt x 256) f.value) (get_or-eq_default fs no_field {n = i} (omega arith))
 
-  asked : is_message s ≡ checks (fields_in s)
-  asked = message_is s fs f.spelled (plains_print fs f.plain) values_bytes ∙ ap checks (sym (found_fields s r f))
+  asked : is_message s ≡ checks fs
+  asked = message_is s fs f.spelled (plains_print fs f.plain) values_bytes
 
-  pub read_taken : checks (fields_in s) ≡ true → fields_read s ≡ r
+  pub read_taken : checks fs ≡ true → fields_read s ≡ r
   read_taken c = answer_0 s (asked ∙ c) ∙ ap (tabled 0) (found_fields s r f) ∙ sym f.table
 
-  pub read_refused : checks (fields_in s) ≡ false → fields_read s ≡ tabled 3 []
+  pub read_refused : checks fs ≡ false → fields_read s ≡ tabled 3 []
   read_refused c = answer_3 s (asked ∙ c)
+
+  -- the same of the fields that the bytes have
+  pub fields_taken : checks (fields_in s) ≡ true → fields_read s ≡ r
+  fields_taken c = read_taken (ap checks (sym (found_fields s r f)) ∙ c)
+
+  pub fields_refused : checks (fields_in s) ≡ false → fields_read s ≡ tabled 3 []
+  fields_refused c = read_refused (ap checks (sym (found_fields s r f)) ∙ c)

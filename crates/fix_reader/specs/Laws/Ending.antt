@@ -1,10 +1,11 @@
 -- The end of a message in the reader's code: 60 and 10 as the last fields, and where the bytes that 9 counts start and end. Rests on Checks and
 -- Cut.
-use Rattle.std.specs.Prelude.{◌≡◌, ℕ, suc, ◌+◌, ◌-◌, ◌%◌, ◌<◌, ◌≤◌, Bool, true, false, ◌&&◌, List, [], ◌∷◌, ◌++◌, length, get_or, take, drop, ◌==◌, nat_le, nat_lt, slice_index_or, refl}
+use Rattle.std.specs.Prelude.{◌≡◌, ℕ, suc, ◌+◌, ◌-◌, ◌%◌, ◌<◌, ◌≤◌, Bool, true, false, ◌&&◌, List, [], ◌∷◌, ◌++◌, length, get_or, take, drop, ◌==◌, ◌≢◌, nat_le, nat_lt, slice_index_or, refl}
 use Rattle.std.proofs.Common.{sym, ap, ◌∙◌, arith, add-one, eq-eqb, ne_eqb, le-leb, lt-ltb, length-append, length-drop, take-append-drop, drop_of_length-le, drop-cons, take_at, take-take, get_or-drop}
+use Rattle.std.proofs.Math.Bool.{and-false, and-true}
 use Rattle.std.proofs.Math.Decide.{dec_lt, ℕ_discrete}
-use Rattle.std.proofs.lemmas.Bool.{lt-leb}
 use Rattle.std.proofs.Math.ListN.{get_or-eq_default}
+use Rattle.std.proofs.lemmas.Bool.{lt-leb}
 use Rattle.prelude.specs.Cases.{if◌then◌otherwise◌, if_true, if_false}
 use Rattle.decimal.specs.Decimal.{digits, digits_by, low_digits}
 use Rattle.fix_words.specs.Lists.{same}
@@ -50,30 +51,25 @@ module _ (fs : List Field) where
   abbrev pub last : List Field
   last = sum_field fs ∷ []
 
-  and_false : (x : Bool) → (x && false) ≡ false
-  and_false true = refl
-  and_false false = refl
-
   more_left : (f : Field) (gs : List Field) → 0 < length gs → same_fields (f ∷ gs) last ≡ false
   more_left f [] h = absurd (omega arith)
-  more_left f (g ∷ gs) h = and_false (f.tag == 10 && same f.value (sum_field fs).value)
+  more_left f (g ∷ gs) h = and-false (f.tag == 10 && same f.value (sum_field fs).value)
 
   opened : (i : ℕ) → i < length fs → drop i fs ≡ slice_index_or fs i no_field ∷ drop (suc i) fs
   opened i h = drop-cons fs i no_field h
+
+  pub sum_past : (i : ℕ) → length fs ≤ i → same_fields (drop i fs) last ≡ false
+  sum_past i h = ap (λ (l : List Field). same_fields l last) (drop_of_length-le fs {i = i} h)
 
   pub sum_early : (i : ℕ) → suc i < length fs → same_fields (drop i fs) last ≡ false
   sum_early i h =
       ap (λ (l : List Field). same_fields l last) (opened i (omega arith))
       ∙ more_left (slice_index_or fs i no_field) (drop (suc i) fs) (omega (arith, length-drop (suc i) fs))
 
-  and_true : (x : Bool) → (x && true) ≡ x
-  and_true true = refl
-  and_true false = refl
-
   sum_last : (i : ℕ) → suc i ≡ length fs → same_fields (drop i fs) last ≡ (tag_of fs i == 10 && same (value_at fs i) (sum_field fs).value)
   sum_last i h =
       ap (λ (l : List Field). same_fields l last) (opened i (omega arith) ∙ ap (λ (l : List Field). slice_index_or fs i no_field ∷ l) (drop_of_length-le fs {i = suc i} (omega arith)))
-      ∙ and_true (tag_of fs i == 10 && same (value_at fs i) (sum_field fs).value)
+      ∙ and-true (tag_of fs i == 10 && same (value_at fs i) (sum_field fs).value)
 
   pub sum_here : (i : ℕ) (s : List ℕ) → spellings fs ≡ s → suc i ≡ length fs → tag_of fs i ≡ 10
       → same_fields (drop i fs) last ≡ same (value_at fs i) (sum_digits (take (place_of fs i - 3) s))
@@ -85,6 +81,9 @@ module _ (fs : List Field) where
       sum_last i h
       ∙ ap (λ (b : Bool). b && same (value_at fs i) (sum_field fs).value) (eq-eqb (tag_of fs i) 10 t)
       ∙ ap (λ (l : List ℕ). same (value_at fs i) (sum_digits l)) (ap spellings q ∙ sym b)
+
+  pub sum_tag : (i : ℕ) → suc i ≡ length fs → (tag_of fs i ≢ 10) → same_fields (drop i fs) last ≡ false
+  sum_tag i h t = sum_last i h ∙ ap (λ (b : Bool). b && same (value_at fs i) (sum_field fs).value) (ne_eqb (tag_of fs i) 10 t)
 
   -- ---- 60
 

@@ -1,13 +1,12 @@
 -- The values that the writer yields, asked one by one: what is held by values that fit is right and writes them again, and the values of a
 -- right record fit. Rests on Again and Walk.
-use Rattle.std.specs.Prelude.{◌≡◌, ℕ, ◌<◌, Bool, true, false, not, ◌&&◌, ◌||◌, ◌⊎◌, List, [], ◌∷◌, ◌++◌, drop, ◌==◌, ◌≢◌, nat_eq, Option, None, Some}
-use Rattle.std.proofs.Math.Path.{refl, sym, ap, subst}
-use Rattle.std.proofs.Common.{◌∙◌, inl, inr, eq-eqb, ne_eqb}
-use Rattle.std.proofs.Math.Logic.{⊎_elim}
+use Rattle.std.specs.Prelude.{◌≡◌, ℕ, ◌<◌, Bool, true, false, not, ◌&&◌, ◌||◌, ◌⊎◌, List, [], ◌∷◌, ◌++◌, drop, ◌==◌, ◌≢◌, nat_eq, Option, None, Some, refl}
+use Rattle.std.proofs.Common.{sym, ap, subst, ◌∙◌, inl, inr, eq-eqb, ne_eqb, ⊎_elim, arith}
+use Rattle.std.proofs.Math.Bool.{and-false}
 use Rattle.std.proofs.Math.Decide.{ℕ_discrete}
-use native.Mathlib.Omega.{arith}
-use Rattle.std.proofs.lemmas.Bool.{not-true}
-use Rattle.prelude.specs.Cases.{if◌then◌otherwise◌, if_true, if_false, is_some, clash, both_true, both_hold, both_false, either_true, same_some}
+use Rattle.std.proofs.lemmas.Bool.{not-true, and_parts, and_from, or_cases}
+use Rattle.std.specs.Option.{is_some}
+use Rattle.prelude.specs.Cases.{if◌then◌otherwise◌, if_true, if_false, clash, same_some}
 use Rattle.prelude.specs.Below.{all_below, all_elim}
 use Rattle.prelude.specs.Number.{number, bytes_of}
 use Rattle.bits.specs.Map.{bit}
@@ -42,23 +41,23 @@ abbrev pub asked_by : ℕ → List ℕ → Asked
 asked_by k nm seen b v = fits k nm b v && not (seen && b == 27)
 
 pub asked_stops : (k : ℕ) (nm v : List ℕ) → asked_by k nm true 27 v ≡ false
-asked_stops k nm v = both_false (fits k nm 27 v)
+asked_stops k nm v = and-false (fits k nm 27 v)
 
 pub asked_fits : (k : ℕ) (nm : List ℕ) (seen : Bool) (b : ℕ) (v : List ℕ) → asked_by k nm seen b v ≡ true → fits k nm b v ≡ true
-asked_fits k nm seen b v e = (both_true (fits k nm b v) _ e).0
+asked_fits k nm seen b v e = (and_parts (fits k nm b v) _ e).0
 
 module _ (k : ℕ) (nm : List ℕ) (b : ℕ) (v : List ℕ) where
   pub fits_right : fits k nm b v ≡ true → right k b (held_in b (Some v)) ≡ true
   unfolding fits
-  fits_right e = (both_true (right k b (held_in b (Some v))) _ e).0
+  fits_right e = (and_parts (right k b (held_in b (Some v))) _ e).0
 
   pub fits_same : fits k nm b v ≡ true → respelled nm b v ≡ v
   unfolding fits
-  fits_same e = same_true (respelled nm b v) v (both_true (right k b (held_in b (Some v))) _ e).1
+  fits_same e = same_true (respelled nm b v) v (and_parts (right k b (held_in b (Some v))) _ e).1
 
   pub fits_is : right k b (held_in b (Some v)) ≡ true → respelled nm b v ≡ v → fits k nm b v ≡ true
   unfolding fits
-  fits_is r e = both_hold _ _ r (ap (λ (w : List ℕ). same w v) e ∙ same_self v)
+  fits_is r e = and_from _ _ r (ap (λ (w : List ℕ). same w v) e ∙ same_self v)
 
 -- ---- the bits that go their own way
 
@@ -148,7 +147,7 @@ if_self false = refl
 
 paired_16 : (at : Values) (x : Bool) → is_some (at 19) ≡ x → is_some (at 28) ≡ x → (is_some (at 20) && is_some (at 27)) ≡ false → paired 16 at ≡ true
 unfolding paired if◌then◌otherwise◌
-paired_16 at x p q r = rw (p, q) (both_hold _ _ (if_self x) (rw r refl))
+paired_16 at x p q r = rw (p, q) (and_from _ _ (if_self x) (rw r refl))
 
 paired_17 : (at : Values) → is_some (at 20) ≡ true → is_some (at 27) ≡ false → paired 17 at ≡ true
 unfolding paired if◌then◌otherwise◌
@@ -156,7 +155,7 @@ paired_17 at p q = rw (p, q) refl
 
 both_out : (at : Values) → is_some (at 20) ≡ true → is_some (at 27) ≡ true → paired 16 at ≡ false
 unfolding paired if◌then◌otherwise◌
-both_out at p q = rw (p, q) (both_false (if is_some (at 19) then is_some (at 28) otherwise not (is_some (at 28))))
+both_out at p q = rw (p, q) (and-false (if is_some (at 19) then is_some (at 28) otherwise not (is_some (at 28))))
 
 unsaid_origin : (k : ℕ) (o : Option (List ℕ)) → is_some (unsaid k o 28) ≡ is_some o
 unfolding unsaid if◌then◌otherwise◌
@@ -212,14 +211,14 @@ module _ (k : ℕ) (kind : within 16 20 k ≡ true) (us : Values) (nm : List ℕ
   fit_right b h = go (in_rows (rows k) b) refl (us b) refl
     where
       go : (x : Bool) → in_rows (rows k) b ≡ x → (o : Option (List ℕ)) → us b ≡ o → right k b (now b) ≡ true
-      go false i o z = rw (now_out b i) (⊎_elim (λ q. clash (in_rows (rows k) b) q i) (λ q. q) (either_true (in_rows (rows k) b) _ (unsaid_right k kind (us 19) reason b h)))
+      go false i o z = rw (now_out b i) (⊎_elim (λ q. clash (in_rows (rows k) b) q i) (λ q. q) (or_cases (in_rows (rows k) b) _ (unsaid_right k kind (us 19) reason b h)))
       go true i (Some v) z = rw (now_in b i, z) (fits_right k nm b v (fit b i v z))
       go true i None z =
           let q : not (bit (required k) b) ≡ true =
           ⊎_elim (λ y. clash (in_rows (rows k) b) i (not-true _ y))
-          (λ y. ⊎_elim (λ m. clash (is_some (us b)) (stands b m) (ap is_some z)) (λ m. m) (either_true (must_in (rows k) b) _ y))
-          (either_true (not (in_rows (rows k) b)) _ (may_miss k kind b h)) in
-          rw (now_in b i, z, held_none_none b) (both_hold _ _ q refl)
+          (λ y. ⊎_elim (λ m. clash (is_some (us b)) (stands b m) (ap is_some z)) (λ m. m) (or_cases (must_in (rows k) b) _ y))
+          (or_cases (not (in_rows (rows k) b)) _ (may_miss k kind b h)) in
+          rw (now_in b i, z, held_none_none b) (and_from _ _ q refl)
 
   -- what is written again
 

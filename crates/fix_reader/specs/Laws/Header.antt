@@ -1,11 +1,12 @@
 -- The header's questions in the order of the code. Rests on Checks, Classes,
 -- Cut and Taking.
-use Rattle.std.specs.Prelude.{◌≡◌, ℕ, ◌<◌, ◌≤◌, Bool, true, false, not, ◌&&◌, leb, ◌⊎◌, List, [], ◌∷◌, length, ◌==◌, ◌≢◌, nat_le, nat_lt, slice_index, Option, None, Some, refl}
-use Rattle.std.proofs.Common.{sym, ◌∙◌, inl, inr, ⊎_elim, arith, eqb-true, eq-eqb, ne_eqb, leb-true, le-leb}
-use Rattle.std.proofs.lemmas.Bool.Decides.{nat_tests}
-use Rattle.std.proofs.Math.Path.{ap}
+use Rattle.std.specs.Prelude.{◌≡◌, ℕ, ◌<◌, ◌≤◌, Bool, true, false, not, ◌&&◌, leb, ltb, ◌⊎◌, List, [], ◌∷◌, length, ◌==◌, ◌≢◌, nat_le, nat_lt, slice_index, Option, None, Some, refl}
+use Rattle.std.proofs.Common.{sym, ◌∙◌, inl, inr, ⊎_elim, arith, eqb-true, eq-eqb, ne_eqb, leb-true, le-leb, ap}
+use Rattle.std.proofs.Math.Bool.{and-false}
 use Rattle.std.proofs.Math.Decide.{ℕ_discrete}
-use Rattle.prelude.specs.Cases.{if◌then◌otherwise◌, if_false, both_true, both_false, none_some, same_some}
+use Rattle.std.proofs.lemmas.Bool.{and_parts}
+use Rattle.std.proofs.lemmas.Bool.Decides.{nat_tests}
+use Rattle.prelude.specs.Cases.{if◌then◌otherwise◌, if_false, none_some, same_some}
 use Rattle.format.specs.Codes.{within}
 use Rattle.fix_words.specs.Lists.{same}
 use Rattle.fix_words.specs.Spelling.{Field, fields_in}
@@ -16,10 +17,11 @@ use Rattle.fix_words.specs.Laws.Held.{one_byte}
 use Rattle.fix_claims.specs.declared.FixFields.{FixFields}
 use Rattle.fix_claims.specs.Reading.{tag_of}
 use Rattle.fix_table.specs.Table.{kind_for}
+use Rattle.fix_reader.specs.declared.walk.MessageKind.{MessageKind}
 use Rattle.fix_reader.specs.Laws.Numbers.{same_long}
 use Rattle.fix_reader.specs.Laws.Classes.{text_some}
 use Rattle.fix_reader.specs.Laws.Checks.{kind_in, head_tags, is_number, headed, ends, checks}
-use Rattle.fix_reader.specs.Laws.Cut.{Cut, part_prints}
+use Rattle.fix_reader.specs.Laws.Cut.{Cut, part_prints, value_long}
 use Rattle.fix_reader.specs.Laws.Taking.{walk_all}
 
 abbrev pub tags_in : List ℕ → Bool
@@ -45,7 +47,7 @@ abbrev pub is_type : List ℕ → Bool
 is_type v = within 16 20 (kind_of (slice_index v 0)) && same v (type_of (kind_of (slice_index v 0)) ∷ [])
 
 pub type_long : (v : List ℕ) → (length v ≢ 1) → is_type v ≡ false
-type_long v h = ap (λ (b : Bool). within 16 20 (kind_of (slice_index v 0)) && b) (same_long v (type_of (kind_of (slice_index v 0)) ∷ []) h) ∙ both_false (within 16 20 (kind_of (slice_index v 0)))
+type_long v h = ap (λ (b : Bool). within 16 20 (kind_of (slice_index v 0)) && b) (same_long v (type_of (kind_of (slice_index v 0)) ∷ []) h) ∙ and-false (within 16 20 (kind_of (slice_index v 0)))
 
 pub type_one : (v : List ℕ) → length v ≡ 1 → is_type v ≡ nat_le 16 (kind_of (slice_index v 0))
 type_one v h = ⊎_elim none some (kind_cases c)
@@ -78,14 +80,27 @@ one_type c = ⊎_elim none some (kind_cases c)
 
     some : (within 16 20 (kind_of c) ≡ true) × (type_of (kind_of c) ≡ c) → kind_for c ≡ type_kind (c ∷ [])
     some e =
-        let h : 16 ≤ kind_of c = leb-true 16 (kind_of c) (both_true (nat_le 16 (kind_of c)) (nat_le (kind_of c) 20) e.0).0 in
+        let h : 16 ≤ kind_of c = leb-true 16 (kind_of c) (and_parts (nat_le 16 (kind_of c)) (nat_le (kind_of c) 20) e.0).0 in
         rw (ne_eqb (kind_of c) 0 (λ z. absurd (omega arith)), type_one (c ∷ []) refl, le-leb 16 (kind_of c) h) refl
 
 pub no_type : (v : List ℕ) → (length v ≢ 1) → type_kind v ≡ None
 unfolding type_kind
 no_type v h = if_false (is_type v) _ None (type_long v h)
 
+pub type_within : (v : List ℕ) (k : ℕ) → type_kind v ≡ Some k → within 16 20 k ≡ true
+unfolding type_kind if◌then◌otherwise◌
+type_within v k = go (within 16 20 (kind_of (slice_index v 0))) refl (same v (type_of (kind_of (slice_index v 0)) ∷ []))
+  where
+    go : (w : Bool) → within 16 20 (kind_of (slice_index v 0)) ≡ w → (y : Bool) → (if w && y then Some (kind_of (slice_index v 0)) otherwise None) ≡ Some k → within 16 20 k ≡ true
+    go true h true e = ap (within 16 20) (same_some e refl) ∙ h
+    go true h false e = none_some refl e
+    go false h y e = none_some refl e
+
 -- ---- all of it
+
+abbrev pub kind_number : Option MessageKind → Option ℕ
+kind_number None = None
+kind_number (Some kind) = Some kind.number
 
 -- the kind of a message, where its header is one that the writer yields
 unfoldable pub kind_headed : List Field → Option ℕ
@@ -106,42 +121,77 @@ in_turn true true false y t3 t4 n5 t6 k = refl
 in_turn true true true false t3 t4 n5 t6 k = refl
 in_turn true true true true t3 t4 n5 t6 k = refl
 
+arranged : (b w y t3 t4 n5 t6 : Bool) → (b && (w && (y && (t3 && (t4 && (n5 && t6)))))) ≡ (b && ((w && y) && (n5 && (t3 && (t4 && t6)))))
+arranged false w y t3 t4 n5 t6 = refl
+arranged true false y t3 t4 n5 t6 = refl
+arranged true true false t3 t4 n5 t6 = refl
+arranged true true true t3 t4 true t6 = refl
+arranged true true true false t4 false t6 = refl
+arranged true true true true false false t6 = refl
+arranged true true true true true false t6 = refl
+
 some_is : (n : ℕ) → nat_lt 0 n ≡ not (n == 0)
 some_is n = grind (arith, nat_tests)
 
-module _ (s : List ℕ) (r : FixFields) (z : Cut s r.count r.tag r.at r.length) where
+-- by the tables
+module _ (s : List ℕ) (n : ℕ) (tag at len : List ℕ) (z : Cut s n tag at len) where
   abbrev fs : List Field
   fs = fields_in s
 
-  tags_are : head_tags fs ≡ tags_in r.tag
+  tags_are : head_tags fs ≡ tags_in tag
   tags_are = sym (λ i. (z.tags 0 (omega arith) i == 8) && (z.tags 1 (omega arith) i == 9 && (z.tags 2 (omega arith) i == 35 && (z.tags 3 (omega arith) i == 49
       && (z.tags 4 (omega arith) i == 56 && (z.tags 5 (omega arith) i == 34 && z.tags 6 (omega arith) i == 52))))))
 
-  text_at : (i : ℕ) → i < 32 → is_text (value_at fs i) ≡ not (length (value_at fs i) == 0)
-  text_at i h = text_some (value_at fs i) (part_prints s r.at r.length z.placed i h) ∙ some_is (length (value_at fs i))
+  text_some_at : (i : ℕ) → i < 32 → is_text (value_at fs i) ≡ nat_lt 0 (length (value_at fs i))
+  text_some_at i h = text_some (value_at fs i) (part_prints s at len z.placed i h)
 
-  abbrev pub texts_right : Bool
-  texts_right = not (length (value_at fs 3) == 0) && (not (length (value_at fs 4) == 0) && (is_number (value_at fs 5) && not (length (value_at fs 6) == 0)))
+  text_at : (i : ℕ) → i < 32 → is_text (value_at fs i) ≡ nat_lt 0 (slice_index len i)
+  text_at i h = text_some_at i h ∙ ap (ltb 0) (value_long s at len z.placed i h)
 
-  kind_is : kind_headed fs ≡ asked_in_turn (tags_in r.tag) (same (value_at fs 0) version) (type_kind (value_at fs 2)) texts_right
+  pub header_is : headed fs ≡ (tags_in tag && (same (value_at fs 0) version && (is_type (value_at fs 2) && (is_number (value_at fs 5) && (nat_lt 0 (slice_index len 3) && (nat_lt 0 (slice_index len 4) && nat_lt 0 (slice_index len 6)))))))
+  unfolding headed
+  header_is =
+      (λ i. tags_are i && (same (value_at fs 0) version && (within 16 20 (kind_in fs) && (same (value_at fs 2) (type_of (kind_in fs) ∷ [])
+      && (text_at 3 (omega arith) i && (text_at 4 (omega arith) i && (is_number (value_at fs 5) && text_at 6 (omega arith) i)))))))
+      ∙ ap (λ (b : Bool). tags_in tag && b)
+      (arranged (same (value_at fs 0) version) (within 16 20 (kind_in fs)) (same (value_at fs 2) (type_of (kind_in fs) ∷ [])) (nat_lt 0 (slice_index len 3)) (nat_lt 0 (slice_index len 4)) (is_number (value_at fs 5)) (nat_lt 0 (slice_index len 6)))
+
+-- the texts behind the MsgType, and the number
+abbrev pub texts_right : List Field → Bool
+texts_right fs = not (length (value_at fs 3) == 0) && (not (length (value_at fs 4) == 0) && (is_number (value_at fs 5) && not (length (value_at fs 6) == 0)))
+
+-- in the order of the code
+module _ (s : List ℕ) (r : FixFields) (z : Cut s r.count r.tag r.at r.length) where
+  abbrev gs : List Field
+  gs = fields_in s
+
+  some_at : (i : ℕ) → i < 32 → is_text (value_at gs i) ≡ not (length (value_at gs i) == 0)
+  some_at i h = text_some_at s r.count r.tag r.at r.length z i h ∙ some_is (length (value_at gs i))
+
+  kind_is : kind_headed gs ≡ asked_in_turn (tags_in r.tag) (same (value_at gs 0) version) (type_kind (value_at gs 2)) (texts_right gs)
   unfolding kind_headed headed type_kind
   kind_is =
-      in_turn (head_tags fs) (same (value_at fs 0) version) (within 16 20 (kind_in fs)) (same (value_at fs 2) (type_of (kind_in fs) ∷ [])) (is_text (value_at fs 3)) (is_text (value_at fs 4)) (is_number (value_at fs 5)) (is_text (value_at fs 6)) (kind_in fs)
-      ∙ (λ i. asked_in_turn (tags_are i) (same (value_at fs 0) version) (type_kind (value_at fs 2)) (text_at 3 (omega arith) i && (text_at 4 (omega arith) i && (is_number (value_at fs 5) && text_at 6 (omega arith) i))))
+      in_turn (head_tags gs) (same (value_at gs 0) version) (within 16 20 (kind_in gs)) (same (value_at gs 2) (type_of (kind_in gs) ∷ [])) (is_text (value_at gs 3)) (is_text (value_at gs 4)) (is_number (value_at gs 5)) (is_text (value_at gs 6)) (kind_in gs)
+      ∙ (λ i. asked_in_turn (tags_are s r.count r.tag r.at r.length z i) (same (value_at gs 0) version) (type_kind (value_at gs 2)) (some_at 3 (omega arith) i && (some_at 4 (omega arith) i && (is_number (value_at gs 5) && some_at 6 (omega arith) i))))
 
-  pub kind_untagged : tags_in r.tag ≡ false → None ≡ kind_headed fs
-  kind_untagged a = sym (kind_is ∙ (λ i. asked_in_turn (a i) (same (value_at fs 0) version) (type_kind (value_at fs 2)) texts_right))
+  pub kind_untagged : tags_in r.tag ≡ false → None ≡ kind_headed gs
+  kind_untagged a = sym (kind_is ∙ (λ i. asked_in_turn (a i) (same (value_at gs 0) version) (type_kind (value_at gs 2)) (texts_right gs)))
 
   module _ (a : tags_in r.tag ≡ true) where
-    pub kind_other : same (value_at fs 0) version ≡ false → None ≡ kind_headed fs
-    kind_other b = sym (kind_is ∙ (λ i. asked_in_turn (a i) (b i) (type_kind (value_at fs 2)) texts_right))
+    pub kind_other : same (value_at gs 0) version ≡ false → None ≡ kind_headed gs
+    kind_other b = sym (kind_is ∙ (λ i. asked_in_turn (a i) (b i) (type_kind (value_at gs 2)) (texts_right gs)))
 
-    module _ (b : same (value_at fs 0) version ≡ true) where
-      pub kind_untyped : type_kind (value_at fs 2) ≡ None → None ≡ kind_headed fs
-      kind_untyped k = sym (kind_is ∙ (λ i. asked_in_turn (a i) (b i) (k i) texts_right))
+    module _ (b : same (value_at gs 0) version ≡ true) where
+      pub kind_untyped : type_kind (value_at gs 2) ≡ None → None ≡ kind_headed gs
+      kind_untyped k = sym (kind_is ∙ (λ i. asked_in_turn (a i) (b i) (k i) (texts_right gs)))
 
-      pub kind_typed : (k : ℕ) → type_kind (value_at fs 2) ≡ Some k → (if texts_right then Some k otherwise None) ≡ kind_headed fs
-      kind_typed k e = sym (kind_is ∙ (λ i. asked_in_turn (a i) (b i) (e i) texts_right))
+      pub kind_right : (k : ℕ) → type_kind (value_at gs 2) ≡ Some k → texts_right gs ≡ true → Some k ≡ kind_headed gs
+      unfolding if◌then◌otherwise◌
+      kind_right k e t = sym (kind_is ∙ (λ i. asked_in_turn (a i) (b i) (e i) (t i)))
+
+      pub kind_wrong : (k : ℕ) → type_kind (value_at gs 2) ≡ Some k → texts_right gs ≡ false → None ≡ kind_headed gs
+      unfolding if◌then◌otherwise◌
+      kind_wrong k e t = sym (kind_is ∙ (λ i. asked_in_turn (a i) (b i) (e i) (t i)))
 
 -- ---- what follows
 
@@ -149,16 +199,16 @@ module _ (fs : List Field) (e : headed fs ≡ true) where
   tags_rest : (head_tags fs ≡ true) × ((same (value_at fs 0) version && (within 16 20 (kind_in fs) && (same (value_at fs 2) (type_of (kind_in fs) ∷ [])
       && (is_text (value_at fs 3) && (is_text (value_at fs 4) && (is_number (value_at fs 5) && is_text (value_at fs 6))))))) ≡ true)
   unfolding headed
-  tags_rest = both_true (head_tags fs) _ e
+  tags_rest = and_parts (head_tags fs) _ e
 
   pub headed_kind : within 16 20 (kind_in fs) ≡ true
-  headed_kind = (both_true (within 16 20 (kind_in fs)) _ (both_true (same (value_at fs 0) version) _ tags_rest.1).1).0
+  headed_kind = (and_parts (within 16 20 (kind_in fs)) _ (and_parts (same (value_at fs 0) version) _ tags_rest.1).1).0
 
   pub headed_type : tag_of fs 2 ≡ 35
   headed_type =
-      let a = both_true (tag_of fs 0 == 8) _ tags_rest.0 in
-      let b = both_true (tag_of fs 1 == 9) _ a.1 in
-      eqb-true (tag_of fs 2) 35 (both_true (tag_of fs 2 == 35) _ b.1).0
+      let a = and_parts (tag_of fs 0 == 8) _ tags_rest.0 in
+      let b = and_parts (tag_of fs 1 == 9) _ a.1 in
+      eqb-true (tag_of fs 2) 35 (and_parts (tag_of fs 2 == 35) _ b.1).0
 
   pub checks_walked : checks fs ≡ ends fs (walk_all fs (kind_in fs))
   unfolding checks

@@ -1,8 +1,7 @@
 -- The first field of bytes, as code finds it: a tag of at most three digits, '=', printing bytes, SOH; and that there is no other way to read it.
 -- Rests on Spelling.
 use Rattle.std.specs.Prelude.{◌≡◌, ℕ, suc, ◌+◌, ◌-◌, ◌/◌, ◌%◌, ◌<◌, ◌≤◌, true, ◌⊎◌, List, [], ◌∷◌, ◌++◌, length, drop, ◌≢◌, slice_index, slice_index_or, Option, None, Some}
-use Rattle.std.proofs.Math.Path.{sym, ap}
-use Rattle.std.proofs.Common.{◌∙◌, append_assoc, inl, inr, ⊎_elim, arith, add-one, leb-true, le-leb, lit<, length-append, length-drop, take-append-drop, drop-cons, get_or-drop, get_or-append-add, drop-drop}
+use Rattle.std.proofs.Common.{sym, ap, ◌∙◌, append_assoc, inl, inr, ⊎_elim, arith, add-one, leb-true, le-leb, lit<, length-append, length-drop, take-append-drop, drop-cons, get_or-drop, get_or-append-add, drop-drop}
 use Rattle.std.proofs.Math.Decide.{dec_lt}
 use Rattle.std.proofs.Math.ListN.{get_or-eq_default, get_or-append}
 use Rattle.prelude.specs.Span.{span, get_span, length_span}
@@ -145,6 +144,9 @@ abbrev pub Tagged : List ℕ → Option Tag → Type 0
 Tagged t None = (n : ℕ) → 0 < n → n < 1000 → (u : List ℕ) → t ≢ digits n ++ (equals ∷ u)
 Tagged t (Some r) = TagAt t r.tag r.at
 
+pub with_tag : (t : List ℕ) (r : Tag) → TagAt t r.tag r.at → Tagged t (Some r)
+with_tag t r h = h
+
 pub no_tag : (t : List ℕ) → (One t → ⊥) → (Two t → ⊥) → (Three t → ⊥) → Tagged t None
 no_tag t a b c n p h u w = ⊎_elim a (λ y. ⊎_elim b c y) (tag_cases t n p h u w)
 
@@ -175,6 +177,9 @@ pub record PieceAt (t : List ℕ) (n at end : ℕ) : Type 0 where
 abbrev pub Pieced : List ℕ → Option Piece → Type 0
 Pieced t None = (f : Field) → Plain f → (u : List ℕ) → t ≢ piece f ++ (soh ∷ u)
 Pieced t (Some r) = PieceAt t r.tag r.at r.end
+
+pub no_piece : (t : List ℕ) → ((f : Field) → Plain f → (u : List ℕ) → t ≢ piece f ++ (soh ∷ u)) → Pieced t None
+no_piece t h = h
 
 piece_open : (f : Field) (u : List ℕ) → piece f ++ (soh ∷ u) ≡ digits f.tag ++ (equals ∷ (f.value ++ (soh ∷ u)))
 unfolding piece
@@ -245,3 +250,6 @@ module _ (t : List ℕ) (n at e : ℕ) (k : TagAt t n at) (z : Ends t at e) wher
 
     pub soh_at : slice_index_or t e 0 ≡ soh
     soh_at = ap (λ (i : ℕ). slice_index t i) end_there ∙ soh_there
+
+    pub end_within : e < length t
+    end_within = stands_at t e soh (omega arith) soh_at

@@ -1,16 +1,15 @@
 -- What fits the bits that go their own way: the ExecID, LastPx of two words, and the words of our own. What a value holds is its number modulo
 -- the size of its bit, so that code may let the number wrap. Rests on Fits and Wrapping.
-use Rattle.std.specs.Prelude.{◌≡◌, ℕ, zero, suc, ◌+◌, ◌*◌, ◌%◌, ◌<◌, ◌≤◌, Bool, true, false, not, ◌&&◌, ◌||◌, cond, leb, ltb, List, [], ◌∷◌, ◌++◌, length, take, drop, ◌==◌, ◌≢◌, nat_le, nat_lt, slice_index, slice_index_or, Option, None, Some}
-use Rattle.std.specs.List.{position_or_len}
-use Rattle.std.proofs.lemmas.Bool.Decides.{nat_tests}
-use Rattle.std.proofs.Math.Path.{refl, ap}
-use Rattle.std.proofs.Common.{sym, ◌∙◌, drop_of_length-le}
-use native.Mathlib.Omega.{arith}
-use borrow.Author.Tests.{eq-eqb, lt-ltb, le-leb, leb-true}
+use Rattle.std.specs.Prelude.{◌≡◌, ℕ, zero, suc, ◌+◌, ◌*◌, ◌%◌, ◌<◌, ◌≤◌, Bool, true, false, not, ◌&&◌, ◌||◌, cond, leb, ltb, List, [], ◌∷◌, ◌++◌, length, take, drop, ◌==◌, ◌≢◌, nat_le, nat_lt, slice_index, slice_index_or, Option, None, Some, refl}
+use Rattle.std.proofs.Common.{ap, sym, ◌∙◌, drop_of_length-le, drop-cons, arith, eq-eqb, lt-ltb, le-leb, leb-true}
 use Rattle.std.proofs.Math.ListN.{get_or-append}
 use Rattle.std.proofs.Math.Seq.{split_at}
-use Rattle.prelude.specs.Cases.{if◌then◌otherwise◌, maybe_none, maybe_some, both_true, both_hold, test_same}
-use Rattle.prelude.specs.Below.{first_below, First, first_some, first_none, first_more, first_hit}
+use Rattle.std.proofs.lemmas.Bool.{and_parts, and_from}
+use Rattle.std.specs.List.{position_or_len}
+use Rattle.std.proofs.lemmas.Bool.Decides.{nat_tests}
+use Rattle.std.specs.Cmp.{both_ways}
+use Rattle.prelude.specs.Cases.{if◌then◌otherwise◌, if_true, if_false, maybe_none, maybe_some}
+use Rattle.prelude.specs.Below.{all_below, all_elim, all_intro, first_below, First, first_some, first_none, first_more, first_hit}
 use Rattle.prelude.specs.Number.{number, bytes_of, length_bytes}
 use Rattle.prelude.specs.Bytes.{bytes_of_lem}
 use Rattle.bits.specs.Map.{bit}
@@ -21,7 +20,7 @@ use Rattle.format.specs.Places.{value}
 use Rattle.fix_words.specs.Lists.{every, same, after}
 use Rattle.fix_words.specs.Values.{texts, words_of, word_number, is_plain, places, spelling, unspelled, held_in, none_word}
 use Rattle.fix_words.specs.Message.{shape_at, range_at, text_at}
-use Rattle.fix_words.specs.Laws.Lists.{below_every}
+use Rattle.fix_words.specs.Laws.Lists.{every_below, below_every}
 use Rattle.fix_words.proofs.Laws.Kinds.{right}
 use Rattle.fix_table.specs.Table.{spoken}
 use Rattle.fix_reader.specs.Laws.Numbers.{word}
@@ -40,7 +39,7 @@ module _ (k : ℕ) (nm v : List ℕ) where
 
     exec_right : right k 25 (Some c) ≡ true
     unfolding size range fields in_range if◌then◌otherwise◌
-    exec_right = both_hold _ _ (both_hold _ _ stand (both_hold _ _ (bytes_every 8 (number_in (after 46 v))) (eq-eqb (length c) 8 (length_bytes 8 (number_in (after 46 v)))))) refl
+    exec_right = and_from _ _ (and_from _ _ stand (and_from _ _ (bytes_every 8 (number_in (after 46 v))) (eq-eqb (length c) 8 (length_bytes 8 (number_in (after 46 v)))))) refl
 
     pub exec_fits : fits k nm 25 v ≡ same (nm ++ (46 ∷ digits (number_in (after 46 v) % word))) v
     unfolding fits held_in respelled if◌then◌otherwise◌
@@ -54,7 +53,7 @@ module _ (k : ℕ) (nm v : List ℕ) where
 
     price_right_lem : right k 26 (Some d) ≡ true
     unfolding size range fields in_range if◌then◌otherwise◌
-    price_right_lem = both_hold _ _ (both_hold _ _ stand (both_hold _ _ (bytes_every 16 (number_in v)) (eq-eqb (length d) 16 (length_bytes 16 (number_in v))))) refl
+    price_right_lem = and_from _ _ (and_from _ _ stand (and_from _ _ (bytes_every 16 (number_in v)) (eq-eqb (length d) 16 (length_bytes 16 (number_in v))))) refl
 
     pub price_fits : fits k nm 26 v ≡ same (decimal 8 (two_low (number_in v))) v
     unfolding fits held_in respelled unspelled spelling is_plain places size range fields if◌then◌otherwise◌
@@ -114,26 +113,26 @@ module _ (v : List ℕ) where
     unfolding size range fields in_range value if◌then◌otherwise◌
     words_right l h =
         let z : n + 256 * 0 ≡ n = omega arith in
-        both_hold _ _ (both_hold _ _ stand (both_hold _ _ (both_hold _ _ (lt-ltb n 256 (omega arith)) refl) refl))
-        (both_hold _ _ (both_hold _ _ (ap (within 1 18) z ∙ both_hold _ _ (le-leb 1 n l) (le-leb n 18 (omega arith))) refl) refl)
+        and_from _ _ (and_from _ _ stand (and_from _ _ (and_from _ _ (lt-ltb n 256 (omega arith)) refl) refl))
+        (and_from _ _ (and_from _ _ (ap (within 1 18) z ∙ and_from _ _ (le-leb 1 n l) (le-leb n 18 (omega arith))) refl) refl)
 
     words_least : right k 27 (Some (n ∷ [])) ≡ true → 1 ≤ n
     unfolding size range fields in_range value if◌then◌otherwise◌
     words_least e =
         let z : n + 256 * 0 ≡ n = omega arith in
-        let h = both_true (shape_at k 27 (Some (n ∷ []))) (range_at 27 (Some (n ∷ [])) && text_at 27 (Some (n ∷ []))) e in
-        let r = both_true (range_at 27 (Some (n ∷ []))) (text_at 27 (Some (n ∷ []))) h.1 in
-        let w = both_true (within 1 18 (n + 256 * 0)) true r.0 in
-        omega (arith, leb-true 1 (n + 256 * 0) (both_true (nat_le 1 (n + 256 * 0)) (nat_le (n + 256 * 0) 18) w.0).0)
+        let h = and_parts (shape_at k 27 (Some (n ∷ []))) (range_at 27 (Some (n ∷ [])) && text_at 27 (Some (n ∷ []))) e in
+        let r = and_parts (range_at 27 (Some (n ∷ []))) (text_at 27 (Some (n ∷ []))) h.1 in
+        let w = and_parts (within 1 18 (n + 256 * 0)) true r.0 in
+        omega (arith, leb-true 1 (n + 256 * 0) (and_parts (nat_le 1 (n + 256 * 0)) (nat_le (n + 256 * 0) 18) w.0).0)
 
     words_again : fits k nm 27 v ≡ (right k 27 (Some (n ∷ [])) && same (words_of n) v)
     unfolding fits held_in respelled if◌then◌otherwise◌
     words_again = refl
 
     pub words_fit : fits k nm 27 v ≡ nat_le 1 (word_number v)
-    words_fit = words_again ∙ test_same (right k 27 (Some (n ∷ [])) && same (words_of n) v) (nat_le 1 n)
-        (λ e. le-leb 1 n (words_least (both_true (right k 27 (Some (n ∷ []))) _ e).0))
-        (λ e. let f = known (leb-true 1 n e) in both_hold _ _ (words_right (leb-true 1 n e) f.below) f.passes)
+    words_fit = words_again ∙ both_ways (right k 27 (Some (n ∷ [])) && same (words_of n) v) (nat_le 1 n)
+        (λ e. le-leb 1 n (words_least (and_parts (right k 27 (Some (n ∷ []))) _ e).0))
+        (λ e. let f = known (leb-true 1 n e) in and_from _ _ (words_right (leb-true 1 n e) f.below) f.passes)
 
 -- the words n among all that are spoken
 pub spoken_words : (n : ℕ) → n < 19 → slice_index_or spoken n [] ≡ words_of n
@@ -141,6 +140,22 @@ unfolding spoken words_of texts
 spoken_words n h = get_or-append texts (none_word ∷ []) [] n h
 
 -- ---- behind a point
+
+pub after_point : (v : List ℕ) (i : ℕ) → i < length v → slice_index v i ≡ 46 → after 46 (drop i v) ≡ drop (suc i) v
+unfolding after
+after_point v i h e =
+    ap (after 46) (drop-cons v i 0 h)
+    ∙ if_true (slice_index v i == 46) (drop (suc i) v) (after 46 (drop (suc i) v)) (eq-eqb (slice_index v i) 46 e)
+
+pub after_other : (v : List ℕ) (i : ℕ) → i < length v → (slice_index v i == 46) ≡ false → after 46 (drop i v) ≡ after 46 (drop (suc i) v)
+unfolding after
+after_other v i h e =
+    ap (after 46) (drop-cons v i 0 h)
+    ∙ if_false (slice_index v i == 46) (drop (suc i) v) (after 46 (drop (suc i) v)) e
+
+pub after_none : after 46 [] ≡ []
+unfolding after
+after_none = refl
 
 abbrev pub is_point : ℕ → Bool
 is_point c = c == 46
@@ -196,3 +211,11 @@ exec_parts nm d v h =
     taken zero v h = refl
     taken (suc n) [] h = absurd (omega arith)
     taken (suc n) (x ∷ v) h = ap suc (taken n v (omega arith))
+
+-- ---- every byte
+
+pub every_all : (p : ℕ → Bool) (v : List ℕ) → every p v ≡ all_below (λ i. p (slice_index v i)) (length v)
+every_all p v =
+    both_ways (every p v) (all_below (λ i. p (slice_index v i)) (length v))
+    (λ e. all_intro (λ i. p (slice_index v i)) (length v) (λ i h. every_below p v e i h))
+    (λ e. below_every p v (λ i h. all_elim (λ i. p (slice_index v i)) (length v) e i h))

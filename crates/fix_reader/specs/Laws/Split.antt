@@ -1,13 +1,14 @@
 -- Bytes cut into fields from the front, as code does it: what it has when it came to the end, and that bytes on which it stops spell no
 -- fields. Rests on Reading and Pieces.
 use Rattle.std.specs.Prelude.{◌≡◌, ℕ, ◌+◌, ◌-◌, ◌<◌, ◌≤◌, true, List, [], ◌∷◌, ◌++◌, length, get_or, take, drop, replicate, ◌≢◌, nat_lt, slice_index, slice_index_or, slice_set, refl, Option, None, Some}
-use Rattle.std.proofs.Math.Path.{sym, ap}
-use Rattle.std.proofs.Common.{◌∙◌, append_assoc, append-nil, leb-true, ne_eqb, lt-ltb, le-ltb, lit<, length-append, length-set, drop_of_length-le, drop-drop, take_at, get_or-set_same, get_or-set_other, ext_get_or}
+use Rattle.std.proofs.Common.{sym, ap, ◌∙◌, append_assoc, append-nil, leb-true, ne_eqb, lt-ltb, le-ltb, lit<, length-append, length-set, drop_of_length-le, drop-drop, take_at, get_or-set_same, get_or-set_other, ext_get_or, arith, length-drop}
 use Rattle.std.proofs.Math.Decide.{dec_lt, ℕ_discrete}
-use native.Mathlib.Omega.{arith}
-use Rattle.std.proofs.Math.ListN.{length-drop, get_or-eq_default, get_or-append}
+use Rattle.std.proofs.Math.ListN.{get_or-eq_default, get_or-append}
+use Rattle.std.proofs.lemmas.Bool.{and_from}
+use mathlib.Core.HLevel.{Unit-prop, ×_prop}
+use denote.Struct.Props.{props}
 use Rattle.std.proofs.lemmas.List.{get_or-replicate, take-append-le, get_or_at}
-use Rattle.prelude.specs.Cases.{if_true, if_false, both_hold}
+use Rattle.prelude.specs.Cases.{if_true, if_false}
 use Rattle.prelude.specs.Lists.{list_below, length_list, get_list}
 use Rattle.prelude.specs.Span.{span, length_span}
 use Rattle.decimal.specs.Decimal.{digits}
@@ -24,13 +25,18 @@ abbrev pub Plains : List Field → Type 0
 Plains [] = Unit {0}
 Plains (f ∷ fs) = Plain f × Plains fs
 
+-- one proof of it at most, so that a struct may hold it
+pub plains_prop : (fs : List Field) → IsProp (Plains fs)
+plains_prop [] = Unit-prop
+plains_prop (f ∷ fs) = ×_prop (hlevel props) (plains_prop fs)
+
 plains_one : (fs : List Field) (f : Field) → Plains fs → Plain f → Plains (fs ++ (f ∷ []))
 plains_one [] f a p = (p, tt)
 plains_one (g ∷ fs) f a p = (a.0, plains_one fs f a.1 p)
 
 pub plains_print : (fs : List Field) → Plains fs → printable fs ≡ true
 plains_print [] a = refl
-plains_print (f ∷ fs) a = both_hold _ _ a.0.prints (plains_print fs a.1)
+plains_print (f ∷ fs) a = and_from _ _ a.0.prints (plains_print fs a.1)
 
 -- ---- one field more
 
@@ -105,11 +111,15 @@ split_start s = record {
   only = λ gs a e. record { rest = gs; plain = a; spelled = e; count = omega arith };
 }
 
+pub split_within : (s : List ℕ) (p n : ℕ) (tag at len : List ℕ) → Split s p n tag at len → p ≤ length s
+split_within s p n tag at len z =
+    omega (arith, z.reached, ap length (sym z.spelled) ∙ length-append (spellings z.fields) (drop p s), length-drop p s)
+
 no_soh : (f : Field) → every is_print f.value ≡ true → every (is_not soh) (piece f) ≡ true
 unfolding piece
 no_soh f e =
     every_append (is_not soh) (digits f.tag) (equals ∷ f.value) (digits_not soh f.tag (lit< tt))
-    (both_hold _ _ refl (every_map is_print (is_not soh) (λ c h. rw (ne_eqb c soh (λ q. absurd (omega (arith, leb-true 32 c h))))) f.value e))
+    (and_from _ _ refl (every_map is_print (is_not soh) (λ c h. rw (ne_eqb c soh (λ q. absurd (omega (arith, leb-true 32 c h))))) f.value e))
 
 module _ (l : List ℕ) (size : length l ≡ 32) (n x : ℕ) (h : n < 32) (old now : ℕ → ℕ) (is : (i : ℕ) → i < 32 → slice_index l i ≡ old i)
     (here : x ≡ now n) (there : (i : ℕ) → (i ≢ n) → now i ≡ old i) where
@@ -224,6 +234,9 @@ NoFields s = (gs : List Field) → Plains gs → length gs ≤ 32 → spellings 
 abbrev pub Splits : List ℕ → Option FixFields → Type 0
 Splits s None = NoFields s
 Splits s (Some r) = Found s r
+
+pub splits_nothing : (s : List ℕ) → NoFields s → Splits s None
+splits_nothing s none = none
 
 table_is : (l : List ℕ) (f : ℕ → ℕ) → (length l ≡ 32) × ((i : ℕ) → i < 32 → slice_index l i ≡ f i) → l ≡ list_below f 32
 table_is l f z = ext_get_or 0 l (list_below f 32) (z.0 ∙ sym (length_list f 32)) (λ i h. z.1 i (omega (arith, z.0)) ∙ sym (get_list f 0 32 i (omega (arith, z.0))))

@@ -1,7 +1,6 @@
 -- The rows taken one by one, as the reader's code does it: where the walk stands, and what one row makes of it. Rests on Walk and Fits.
-use Rattle.std.specs.Prelude.{◌≡◌, ℕ, zero, suc, ◌+◌, ◌<◌, Bool, true, false, ◌||◌, List, [], ◌∷◌, length, drop, ◌==◌, slice_index_or, Option, None, Some}
-use Rattle.std.proofs.Math.Path.{refl, sym, ap}
-use Rattle.std.proofs.Common.{◌∙◌, arith, add-one, eq-eqb, get_or-drop}
+use Rattle.std.specs.Prelude.{◌≡◌, ℕ, zero, suc, ◌+◌, ◌<◌, Bool, true, false, ◌||◌, List, [], ◌∷◌, length, drop, ◌==◌, slice_index_or, Option, None, Some, refl}
+use Rattle.std.proofs.Common.{sym, ap, ◌∙◌, arith, add-one, eq-eqb, drop_of_length-le, drop-cons, get_or-drop}
 use Rattle.prelude.specs.Cases.{if_true, if_false, clash}
 use Rattle.fix_words.specs.Spelling.{Field}
 use Rattle.fix_words.specs.Rows.{Row, leads, rest, in_rows}
@@ -57,11 +56,23 @@ in_row (r ∷ rs) (suc j) h = or_right (r.bit == (slice_index_or rs j no_row).bi
 pub row_in : (k j : ℕ) → j < length (rows k) → in_rows (rows k) (row_at k j).bit ≡ true
 row_in k j h = in_row (rows k) j h
 
--- ---- one row
+-- ---- where it stands
+
+pub on_stopped : (fs : List Field) (k : ℕ) (rs : List Row) → walk_on fs k None rs ≡ None
+on_stopped fs k rs = refl
+
+pub on_goes : (fs : List Field) (k : ℕ) (t : Taken) (rs : List Row) → walk_on fs k (Some t) rs ≡ walk (asked_of fs k) t.seen rs (drop t.next fs)
+on_goes fs k t rs = refl
 
 pub walked_all : (fs : List Field) (k : ℕ) (t : Taken) → walk_on fs k (Some t) [] ≡ left_from fs (Some t.next)
 unfolding walk
 walked_all fs k t = refl
+
+-- behind the last row
+pub on_end : (fs : List Field) (k : ℕ) (t : Taken) → walk_on fs k (Some t) (drop (length (rows k)) (rows k)) ≡ Some (drop t.next fs)
+on_end fs k t = ap (walk_on fs k (Some t)) (drop_of_length-le (rows k) {i = length (rows k)} (omega arith)) ∙ walked_all fs k t
+
+-- ---- one row
 
 module _ (fs : List Field) (k : ℕ) (t : Taken) (r : Row) (more : List Row) where
   abbrev ask : Asked
@@ -91,6 +102,33 @@ module _ (fs : List Field) (k : ℕ) (t : Taken) (r : Row) (more : List Row) whe
   pub row_passed : leads r.tag gs ≡ false → r.must ≡ false → walk_on fs k (Some t) more ≡ walk_on fs k (Some t) (r ∷ more)
   unfolding walk
   row_passed l m = sym (if_false (leads r.tag gs) _ _ l ∙ if_false r.must _ _ m)
+
+-- the same of row j of the kind
+module _ (fs : List Field) (k j : ℕ) (h : j < length (rows k)) (t : Taken) where
+  abbrev r : Row
+  r = row_at k j
+
+  abbrev more : List Row
+  more = drop (j + 1) (rows k)
+
+  here : drop j (rows k) ≡ r ∷ more
+  here = drop-cons (rows k) j no_row h ∙ ap (λ (i : ℕ). r ∷ drop i (rows k)) (sym (add-one j))
+
+  opened : walk_on fs k (Some t) (drop j (rows k)) ≡ walk_on fs k (Some t) (r ∷ more)
+  opened = ap (walk_on fs k (Some t)) here
+
+  pub row_taken_at : leads r.tag (drop t.next fs) ≡ true → asked_of fs k t.seen r.bit (value_at fs t.next) ≡ true
+      → walk_on fs k (Some (record { next = t.next + 1; seen = t.seen || (r.bit == 20) })) more ≡ walk_on fs k (Some t) (drop j (rows k))
+  row_taken_at l a = row_taken fs k t r more l a ∙ sym opened
+
+  pub row_refused_at : leads r.tag (drop t.next fs) ≡ true → asked_of fs k t.seen r.bit (value_at fs t.next) ≡ false → walk_on fs k (Some t) (drop j (rows k)) ≡ None
+  row_refused_at l a = opened ∙ sym (row_refused fs k t r more l a)
+
+  pub row_missing_at : leads r.tag (drop t.next fs) ≡ false → r.must ≡ true → walk_on fs k (Some t) (drop j (rows k)) ≡ None
+  row_missing_at l m = opened ∙ sym (row_missing fs k t r more l m)
+
+  pub row_passed_at : leads r.tag (drop t.next fs) ≡ false → r.must ≡ false → walk_on fs k (Some t) more ≡ walk_on fs k (Some t) (drop j (rows k))
+  row_passed_at l m = row_passed fs k t r more l m ∙ sym opened
 
 -- a field that leads stands
 pub led_within : (fs : List Field) (i t : ℕ) → leads t (drop i fs) ≡ true → i < length fs

@@ -1,11 +1,11 @@
 -- The rows of a table walked over fields, as the reader does it: what it takes is what `body` writes, and it takes all that `body` writes.
 -- Rests on Rows.
-use Rattle.std.specs.Prelude.{◌≡◌, ℕ, Bool, true, false, not, ◌&&◌, ◌||◌, List, [], ◌∷◌, ◌==◌, nat_eq, slice_index_or, Option, None, Some}
-use Rattle.std.proofs.Math.Path.{refl, sym, ap, subst}
-use Rattle.std.proofs.Common.{◌∙◌, eqb-true, eq-eqb}
-use Rattle.std.proofs.Math.Logic.{⊎_elim}
-use Rattle.std.proofs.lemmas.Bool.{not-true}
-use Rattle.prelude.specs.Cases.{if◌then◌otherwise◌, if_true, if_false, is_some, clash, both_true, both_false, either_true, none_some, same_some}
+use Rattle.std.specs.Prelude.{◌≡◌, ℕ, Bool, true, false, not, ◌&&◌, ◌||◌, List, [], ◌∷◌, ◌==◌, nat_eq, slice_index_or, Option, None, Some, refl}
+use Rattle.std.proofs.Common.{sym, ap, subst, ◌∙◌, eqb-true, eq-eqb, ⊎_elim}
+use Rattle.std.proofs.Math.Bool.{and-false}
+use Rattle.std.proofs.lemmas.Bool.{not-true, and_parts, or_cases}
+use Rattle.std.specs.Option.{is_some}
+use Rattle.prelude.specs.Cases.{if◌then◌otherwise◌, if_true, if_false, clash, none_some, same_some}
 use Rattle.fix_words.specs.Spelling.{Field, field}
 use Rattle.fix_words.specs.Rows.{Row, Values, field_of, body, leads, first, rest, value_in, in_rows}
 use Rattle.fix_claims.specs.Reading.{no_field}
@@ -114,12 +114,12 @@ module _ (t : Asked) (seen : Bool) (r : Row) (rows : List Row) (gs out : List Fi
             ⊎_elim
             (λ e. (seen, subst (λ (b : ℕ). t seen b v ≡ true) (eqb-true r.bit b e) (subst (λ (v : List ℕ). t seen r.bit v ≡ true) (same_some (mine b e) z) q)))
             (λ e. k.asked b e v (sym (theirs b e) ∙ z))
-            (either_true (r.bit == b) (in_rows rows b) i);
+            (or_cases (r.bit == b) (in_rows rows b) i);
         stands = λ b m.
             ⊎_elim
-            (λ e. ap is_some (mine b (both_true (r.bit == b) r.must e).0))
+            (λ e. ap is_some (mine b (and_parts (r.bit == b) r.must e).0))
             (λ e. ap is_some (theirs b (must_row rows b e)) ∙ k.stands b e)
-            (either_true (r.bit == b && r.must) (must_in rows b) m);
+            (or_cases (r.bit == b && r.must) (must_in rows b) m);
       }
 
   passed_walked : leads r.tag gs ≡ false → r.must ≡ false → Walked t rows gs out → Walked t (r ∷ rows) gs out
@@ -135,12 +135,12 @@ module _ (t : Asked) (seen : Bool) (r : Row) (rows : List Row) (gs out : List Fi
             ⊎_elim
             (λ e. none_some (value_not r rows gs l b e) z)
             (λ e. k.asked b e v (sym (theirs b e) ∙ z))
-            (either_true (r.bit == b) (in_rows rows b) i);
+            (or_cases (r.bit == b) (in_rows rows b) i);
         stands = λ b e.
             ⊎_elim
-            (λ q. clash r.must (both_true (r.bit == b) r.must q).1 m)
+            (λ q. clash r.must (and_parts (r.bit == b) r.must q).1 m)
             (λ q. ap is_some (theirs b (must_row rows b q)) ∙ k.stands b q)
-            (either_true (r.bit == b && r.must) (must_in rows b) e);
+            (or_cases (r.bit == b && r.must) (must_in rows b) e);
       }
 
 pub walk_found : (t : Asked) (seen : Bool) (rows : List Row) (gs out : List Field) → distinct rows ≡ true → walk t seen rows gs ≡ Some out → Walked t rows gs out
@@ -151,7 +151,7 @@ walk_found t seen [] gs out d e = record {
   stands = λ b m. clash false m refl;
 }
 walk_found t seen (r ∷ rows) gs out d e =
-    let h = both_true (not (in_rows rows r.bit)) (distinct rows) d in
+    let h = and_parts (not (in_rows rows r.bit)) (distinct rows) d in
     go h.0 (λ x fs q. walk_found t x rows fs out h.1 q) (step t seen r rows gs out e)
   where
     go : not (in_rows rows r.bit) ≡ true → ((x : Bool) (fs : List Field) → walk t x rows fs ≡ Some out → Walked t rows fs out)
@@ -186,14 +186,14 @@ module _ (t : Asked) (stops : (v : List ℕ) → t true 27 v ≡ false) where
   unfolding value_in
   walk_pair seen [] gs out o e = refl
   walk_pair seen (r ∷ rows) gs out o e =
-      let h = both_true (not (r.bit == 27) || not (in_rows rows 20)) (ordered rows) o in
+      let h = and_parts (not (r.bit == 27) || not (in_rows rows 20)) (ordered rows) o in
       go h.0 (λ x fs w. walk_pair x rows fs out h.1 w) (step t seen r rows gs out e) (r.bit == 20) refl (r.bit == 27) refl
     where
       both : (x y : Option (List ℕ)) (u v : Option (List ℕ)) → x ≡ u → y ≡ v → (is_some u && is_some v) ≡ false → (is_some x && is_some y) ≡ false
       both x y u v p q e = rw (p, q) e
 
       no_second : (x y : Option (List ℕ)) → y ≡ None → (is_some x && is_some y) ≡ false
-      no_second x y q = rw q (both_false (is_some x))
+      no_second x y q = rw q (and-false (is_some x))
 
       no_first : (x y : Option (List ℕ)) → x ≡ None → (is_some x && is_some y) ≡ false
       no_first x y q = rw q refl
@@ -207,7 +207,7 @@ module _ (t : Asked) (stops : (v : List ℕ) → t true 27 v ≡ false) where
           no_second (value_in (r ∷ rows) gs 20) (value_in (r ∷ rows) gs 27) (value_later r rows gs l 27 y ∙ walk_text (seen || r.bit == 20) rows (rest gs) out (or_right seen (r.bit == 20) x) w)
       go k later (took l q w) false x true y =
           no_first (value_in (r ∷ rows) gs 20) (value_in (r ∷ rows) gs 27) (value_later r rows gs l 20 x
-          ∙ value_none rows (rest gs) 20 (⊎_elim (λ z. clash (r.bit == 27) y (not-true _ z)) (λ z. not-true _ z) (either_true (not (r.bit == 27)) _ k)))
+          ∙ value_none rows (rest gs) 20 (⊎_elim (λ z. clash (r.bit == 27) y (not-true _ z)) (λ z. not-true _ z) (or_cases (not (r.bit == 27)) _ k)))
       go k later (took l q w) false x false y =
           both (value_in (r ∷ rows) gs 20) (value_in (r ∷ rows) gs 27) (value_in rows (rest gs) 20) (value_in rows (rest gs) 27) (value_later r rows gs l 20 x) (value_later r rows gs l 27 y) (later (seen || r.bit == 20) (rest gs) w)
       go k later (passed l m w) true x y z = no_first (value_in (r ∷ rows) gs 20) (value_in (r ∷ rows) gs 27) (value_not r rows gs l 20 x)
@@ -229,12 +229,12 @@ module _ (t : Asked) (vs : Values) (last : ℕ) (w : List ℕ) (fs : List Field)
   unfolding body walk
   walk_body seen p [] ok a s = refl
   walk_body seen p (r ∷ rows) ok a s =
-      let h = both_true (r.must || apart r.tag rows last) (all_apart rows last) a in
-      let g = both_true (not r.must || is_some (vs r.bit)) (stand rows vs) s in
+      let h = and_parts (r.must || apart r.tag rows last) (all_apart rows last) a in
+      let g = and_parts (not r.must || is_some (vs r.bit)) (stand rows vs) s in
       go (vs r.bit) refl h.0 g.0 g.1 (λ x q. walk_body x q rows (λ y u b i. ok y u b (or_right (r.bit == b) (in_rows rows b) i)) h.1 g.1)
     where
       next : (v : List ℕ) → vs r.bit ≡ Some v → (seen || r.bit == 20) ≡ true → is_some (vs 20) ≡ true
-      next v z q = ⊎_elim p (λ e. ap is_some (ap vs (sym (eqb-true r.bit 20 e)) ∙ z)) (either_true seen (r.bit == 20) q)
+      next v z q = ⊎_elim p (λ e. ap is_some (ap vs (sym (eqb-true r.bit 20 e)) ∙ z)) (or_cases seen (r.bit == 20) q)
 
       go : (o : Option (List ℕ)) → vs r.bit ≡ o → (r.must || apart r.tag rows last) ≡ true → (not r.must || is_some o) ≡ true → stand rows vs ≡ true
           → ((x : Bool) → (x ≡ true → is_some (vs 20) ≡ true) → walk t x rows (body rows vs behind) ≡ Some behind)
@@ -245,7 +245,7 @@ module _ (t : Asked) (vs : Values) (last : ℕ) (w : List ℕ) (fs : List Field)
           ∙ later (seen || r.bit == 20) (next v z)
       go None z m q d later =
           let l : leads r.tag (body rows vs behind) ≡ false =
-          ⊎_elim (λ y. clash r.must y (missing r.must q)) (λ y. leads_apart vs last w fs r.tag rows y d) (either_true r.must (apart r.tag rows last) m) in
+          ⊎_elim (λ y. clash r.must y (missing r.must q)) (λ y. leads_apart vs last w fs r.tag rows y d) (or_cases r.must (apart r.tag rows last) m) in
           if_false (leads r.tag (body rows vs behind)) _ _ l
           ∙ if_false r.must _ _ (missing r.must q)
           ∙ later seen p

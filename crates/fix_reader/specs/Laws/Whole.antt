@@ -1,9 +1,9 @@
 -- Bytes that cannot be cut into fields are no message: a message has at most 29 fields, with tags of at most three digits. Rests on
 -- Checks and Split.
-use Rattle.std.specs.Prelude.{◌≡◌, ℕ, Bool, true, false, ◌&&◌, List, [], ◌∷◌, ◌++◌, nat_le, nat_lt, Option, None, Some}
-use Rattle.std.proofs.Math.Path.{refl}
+use Rattle.std.specs.Prelude.{◌≡◌, ℕ, Bool, true, false, ◌&&◌, List, [], ◌∷◌, ◌++◌, nat_le, nat_lt, Option, None, Some, refl}
 use Rattle.std.proofs.Common.{ltb-true}
-use Rattle.prelude.specs.Cases.{split_if, both_true, both_hold}
+use Rattle.std.proofs.lemmas.Bool.{and_parts, and_from}
+use Rattle.prelude.specs.Cases.{split_if}
 use Rattle.format.specs.Codes.{within}
 use Rattle.fix_words.specs.Lists.{every, is_print, same}
 use Rattle.fix_words.specs.Spelling.{Field, spellings, fields_in, printable}
@@ -31,23 +31,23 @@ rows_tagged (r ∷ rows) = tagged r.tag && rows_tagged rows
 
 tagged_append : (fs gs : List Field) → all_tagged fs ≡ true → all_tagged gs ≡ true → all_tagged (fs ++ gs) ≡ true
 tagged_append [] gs a b = b
-tagged_append (f ∷ fs) gs a b = let h = both_true (tagged f.tag) (all_tagged fs) a in both_hold _ _ h.0 (tagged_append fs gs h.1 b)
+tagged_append (f ∷ fs) gs a b = let h = and_parts (tagged f.tag) (all_tagged fs) a in and_from _ _ h.0 (tagged_append fs gs h.1 b)
 
 body_tagged : (vs : Values) (fs : List Field) (rows : List Row) → rows_tagged rows ≡ true → all_tagged fs ≡ true → all_tagged (body rows vs fs) ≡ true
 unfolding body
 body_tagged vs fs [] a b = b
-body_tagged vs fs (r ∷ rows) a b = let h = both_true (tagged r.tag) (rows_tagged rows) a in go (vs r.bit) h.0 (body_tagged vs fs rows h.1 b)
+body_tagged vs fs (r ∷ rows) a b = let h = and_parts (tagged r.tag) (rows_tagged rows) a in go (vs r.bit) h.0 (body_tagged vs fs rows h.1 b)
   where
     go : (o : Option (List ℕ)) → tagged r.tag ≡ true → all_tagged (body rows vs fs) ≡ true → all_tagged (field_of r.tag o (body rows vs fs)) ≡ true
     go None p q = q
-    go (Some v) p q = both_hold _ _ p q
+    go (Some v) p q = and_from _ _ p q
 
 plains_of : (fs : List Field) → all_tagged fs ≡ true → printable fs ≡ true → Plains fs
 plains_of [] a b = tt
 plains_of (f ∷ fs) a b =
-    let h = both_true (tagged f.tag) (all_tagged fs) a in
-    let t = both_true (nat_lt 0 f.tag) (nat_lt f.tag 1000) h.0 in
-    let p = both_true (every is_print f.value) (printable fs) b in
+    let h = and_parts (tagged f.tag) (all_tagged fs) a in
+    let t = and_parts (nat_lt 0 f.tag) (nat_lt f.tag 1000) h.0 in
+    let p = and_parts (every is_print f.value) (printable fs) b in
     (record { some = ltb-true 0 f.tag t.0; small = ltb-true f.tag 1000 t.1; prints = p.0 }, plains_of fs h.1 p.1)
 
 -- ---- the fields of a writing
@@ -59,7 +59,7 @@ rows_tagged_lem = by_kind_lem (λ k. rows_tagged (rows k) ≡ true) refl refl re
 module _ (w : Writing) (is : is_writing w ≡ true) where
   kind : within 16 20 w.kind ≡ true
   unfolding is_writing shaped
-  kind = (both_true (within 16 20 w.kind) _ (both_true (shaped w.kind w.at) _ (both_true (typed w) _ is).1).0).0
+  kind = (and_parts (within 16 20 w.kind) _ (and_parts (shaped w.kind w.at) _ (and_parts (typed w) _ is).1).0).0
 
   fields_tagged : all_tagged (fields_of w) ≡ true
   unfolding fields_of framed front inner
@@ -81,5 +81,5 @@ uncut s no_fields = go (is_message s) refl
     go false e = e
     go true e =
         let w : Writing = loose_of (fields_in s) in
-        let h = both_true (is_writing w) (same (bytes_for w) s) e in
+        let h = and_parts (is_writing w) (same (bytes_for w) s) e in
         absurd (no_fields (fields_of w) (fields_plain w h.0) (fields_few w h.0) (same_true (bytes_for w) s h.1))

@@ -2,8 +2,8 @@
 -- Numbers.
 use Rattle.std.specs.Prelude.{◌≡◌, ℕ, zero, suc, ◌+◌, ◌-◌, ◌*◌, ◌/◌, ◌%◌, ◌<◌, Bool, true, false, refl}
 use Rattle.std.proofs.Common.{sym, ap, ◌∙◌, arith, lit<}
-use Rattle.std.proofs.Math.Nat.{mod-add-mod, mod-mod, add-mul-div_right, mul-add-mod_self_right}
 use Rattle.std.proofs.Math.Arith.{digits_div, digits_mod}
+use Rattle.std.proofs.Math.Nat.{add-mod, mod-add-mod, mod-mod, add-mul-div_right, mul-add-mod_self_right}
 use Rattle.prelude.specs.Cases.{if◌then◌otherwise◌, if_true, if_false}
 use Rattle.prelude.specs.Number.{number, bytes_of, bound}
 use Rattle.decimal.specs.Decimal.{is_digit}
@@ -71,8 +71,19 @@ carry_ten n d =
     ap (λ (x : ℕ). x / word) s ∙ add-mul-div_right (n % word * 10 + d) (n / word * 10) (lit< tt)
 
 -- the same by steps that wrap
-pub ten_wraps : (n d : ℕ) → (n * 10 % word + d) % word ≡ (n * 10 + d) % word
-ten_wraps n d = mod-add-mod (n * 10) word d
+pub tenfold_wraps : (n d : ℕ) → (n * 10 % word + d) % word ≡ (n * 10 + d) % word
+tenfold_wraps n d = mod-add-mod (n * 10) word d
+
+-- and by sums that wrap
+pub ten_wraps : (n d two four five ten r : ℕ) → two ≡ (n + n) % word → four ≡ (two + two) % word → five ≡ (four + n) % word → ten ≡ (five + five) % word
+    → r ≡ (ten + d) % word → r ≡ (n * 10 + d) % word
+ten_wraps n d two four five ten r e2 e4 e5 e10 e =
+    let f4 : four ≡ ((n + n) + (n + n)) % word = e4 ∙ (λ i. (e2 i + e2 i) % word) ∙ sym (add-mod (n + n) (n + n) word) in
+    let f5 : five ≡ (((n + n) + (n + n)) + n) % word = e5 ∙ ap (λ (x : ℕ). (x + n) % word) f4 ∙ mod-add-mod ((n + n) + (n + n)) word n in
+    let a : ℕ = ((n + n) + (n + n)) + n in
+    let f10 : ten ≡ (a + a) % word = e10 ∙ (λ i. (f5 i + f5 i) % word) ∙ sym (add-mod a a word) in
+    let t : a + a + d ≡ n * 10 + d = omega arith in
+    e ∙ ap (λ (x : ℕ). (x + d) % word) f10 ∙ mod-add-mod (a + a) word d ∙ ap (λ (x : ℕ). x % word) t
 
 -- a word and what goes over
 pub over_word : (x low over : ℕ) → low + word * over ≡ x → low < word → (low ≡ x % word) × (over ≡ x / word)

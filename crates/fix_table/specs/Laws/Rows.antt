@@ -1,12 +1,15 @@
 -- The rows of a kind, as code has them. Rests on Table.
-use Rattle.std.specs.Prelude.{◌≡◌, ℕ, suc, ◌+◌, ◌-◌, ◌<◌, ◌≤◌, Bool, true, List, [], ◌∷◌, drop, length, get_or, map, nat_lt, slice_index, slice_index_or, refl}
-use Rattle.std.proofs.Common.{sym, ap, ◌∙◌, arith, add-one, ltb-true, drop-cons}
-use Rattle.std.proofs.lemmas.List.{get_or-map, length-map}
+use Rattle.std.specs.Prelude.{◌≡◌, ℕ, zero, suc, ◌+◌, ◌-◌, ◌<◌, ◌≤◌, ◌≢◌, Bool, true, leb, List, [], ◌∷◌, drop, length, get_or, map, nat_lt, slice_index, slice_index_or, refl}
+use Rattle.std.proofs.Common.{sym, ap, subst, ◌∙◌, arith, add-one, ltb-true, le-leb, drop-cons}
 use Rattle.std.proofs.Math.Decide.{dec_lt}
 use Rattle.std.proofs.Math.ListN.{get_or-eq_default}
+use Rattle.std.proofs.lemmas.Bool.{and_from}
+use Rattle.std.proofs.lemmas.List.{get_or-map, length-map}
 use Rattle.prelude.specs.Below.{all_below, all_elim}
-use Rattle.fix_words.specs.Rows.{Row}
+use Rattle.prelude.specs.Cases.{clash}
+use Rattle.fix_words.specs.Rows.{Row, in_rows}
 use Rattle.fix_words.specs.Values.{tables, rows, types, type_of}
+use Rattle.fix_words.proofs.Laws.Kinds.{row_small}
 use Rattle.fix_table.specs.Table.{no_row, row_at, as_row}
 use Rattle.fix_table.specs.declared.Row as code
 
@@ -29,6 +32,23 @@ rows_next rs k i d e h =
     ∙ sym (ap (λ (l : List Row). slice_index_or l i no_row ∷ drop (suc i) (rows k)) e)
     ∙ ap (λ (r : Row). r ∷ drop (suc i) (rows k)) (get_or-map as_row rs i d no_row h)
     ∙ ap (λ (n : ℕ). as_row (get_or rs i d) ∷ drop n (rows k)) (sym (add-one i))
+
+-- row j of a kind where j is i
+pub row_here : (k i j : ℕ) {r : code.Row} → j ≡ i → IsRow r (row_at k i) → IsRow r (row_at k j)
+row_here k i j {r} e w = subst (λ (x : ℕ). IsRow r (row_at k x)) (sym e) w
+
+-- a number that is none of the first n
+abbrev NoneOf : ℕ → ℕ → Type 0
+NoneOf zero j = Unit {0}
+NoneOf (suc n) j = NoneOf n j × (j ≢ n)
+
+pub none_below : (n j : ℕ) → NoneOf n j → n ≤ j
+none_below zero j w = omega arith
+none_below (suc n) j w = omega (arith, none_below n j w.0, w.1)
+
+-- behind the last
+pub row_behind : (k j : ℕ) {r : code.Row} → NoneOf (length (rows k)) j → IsRow r no_row → IsRow r (row_at k j)
+row_behind k j {r} w v = subst (IsRow r) (sym (get_or-eq_default (rows k) no_row {n = j} (none_below (length (rows k)) j w))) v
 
 -- below 16 the first table, past 20 none
 pub low : (k : ℕ) → k ≤ 16 → (rows k ≡ rows 16) × (type_of k ≡ 56)
@@ -54,6 +74,15 @@ all_small : all_below (λ p. all_below (small p) 20) 5 ≡ true
 unfolding tables all_below
 all_small = refl
 
+-- no kind has more than 20
+pub rows_short : (k : ℕ) → length (rows k) ≤ 20
+unfolding rows
+rows_short k = go (dec_lt 20 k)
+  where
+    go : Dec (20 < k) → length (rows k) ≤ 20
+    go (yes h) = omega (arith, ap length (past k h).0)
+    go (no h) = omega (arith, ltb-true (length (slice_index_or tables (k - 16) [])) 21 (all_elim short 5 all_short (k - 16) (omega arith)))
+
 pub bit_small : (k j : ℕ) → (row_at k j).bit < 32
 unfolding rows
 bit_small k j = go (dec_lt 20 k) (dec_lt j 20)
@@ -61,4 +90,13 @@ bit_small k j = go (dec_lt 20 k) (dec_lt j 20)
     go : Dec (20 < k) → Dec (j < 20) → (row_at k j).bit < 32
     go (yes h) d = omega (arith, ap (λ (l : List Row). (get_or l j no_row).bit) (past k h).0)
     go (no h) (yes l) = ltb-true _ _ (all_elim (small (k - 16)) 20 (all_elim (λ p. all_below (small p) 20) 5 all_small (k - 16) (omega arith)) j l)
-    go (no h) (no l) = omega (arith, ap (λ (r : Row). r.bit) (get_or-eq_default (rows k) no_row {n = j} (omega (arith, ltb-true (length (slice_index_or tables (k - 16) [])) 21 (all_elim short 5 all_short (k - 16) (omega arith))))))
+    go (no h) (no l) = omega (arith, ap (λ (r : Row). r.bit) (get_or-eq_default (rows k) no_row {n = j} (omega (arith, rows_short k))))
+
+-- so is each bit of a kind's rows, and a kind that is none has none
+pub bit_in_rows : (k b : ℕ) → in_rows (rows k) b ≡ true → b < 32
+bit_in_rows k b e = go (dec_lt 20 k) (dec_lt k 16)
+  where
+    go : Dec (20 < k) → Dec (k < 16) → b < 32
+    go (yes h) d = clash (in_rows [] b) (rw (past k h).0 at e) refl
+    go (no h) (yes l) = row_small 16 refl b (rw (low k (omega arith)).0 at e)
+    go (no h) (no l) = row_small k (and_from (leb 16 k) (leb k 20) (le-leb 16 k (omega arith)) (le-leb k 20 (omega arith))) b e

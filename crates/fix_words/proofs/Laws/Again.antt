@@ -1,11 +1,9 @@
 -- The record that is read from the values of a right one: it is right too, and has the same values. Rests on Held and Kinds.
-use Rattle.std.specs.Prelude.{ℕ, suc, ◌-◌, ◌<◌, ◌≡◌, List, [], ◌∷◌, Bool, not, ◌&&◌, ◌||◌, ◌⊎◌, eqb, leb, length, get_or, take, Option, None, Some}
-use Rattle.std.proofs.Math.Path.{refl, ap, subst}
-use Rattle.std.proofs.Common.{sym, ◌∙◌, ⊎_elim, arith, lit<}
-use Rattle.std.proofs.Math.Bool.{true, false}
+use Rattle.std.proofs.Common.{ℕ, suc, ◌-◌, ◌<◌, ◌≡◌, List, [], ◌∷◌, Bool, not, ◌&&◌, ◌||◌, ◌⊎◌, eqb, leb, length, get_or, take, Option, None, Some, refl, ap, subst, sym, ◌∙◌, ⊎_elim, arith, lit<, true, false, eqb-true, eq-eqb, ne_eqb, leb-true}
 use Rattle.std.proofs.Math.Decide.{ℕ_discrete}
-use borrow.Author.Tests.{eqb-true, eq-eqb, ne_eqb, leb-true, not-true}
-use Rattle.prelude.specs.Cases.{if◌then◌otherwise◌, split_if, if_true, if_false, is_some, clash, both_true, both_hold, either_true}
+use Rattle.std.proofs.lemmas.Bool.{not-true, and_parts, and_from, or_cases}
+use Rattle.std.specs.Option.{is_some}
+use Rattle.prelude.specs.Cases.{if◌then◌otherwise◌, split_if, if_true, if_false, clash}
 use Rattle.prelude.specs.Number.{number}
 use Rattle.bits.specs.Map.{bit}
 use Rattle.format.specs.Codes.{within}
@@ -74,7 +72,7 @@ either_some None w e = clash false e refl
 either_some (Some c) w e = refl
 
 right_some : (k b : ℕ) (o : Option (List ℕ)) → right k b o ≡ true → bit (required k) b ≡ true → is_some o ≡ true
-right_some k b None e h = clash (bit (required k) b) h (not-true _ (both_true (not (bit (required k) b)) _ e).0)
+right_some k b None e h = clash (bit (required k) b) h (not-true _ (and_parts (not (bit (required k) b)) _ e).0)
 right_some k b (Some c) e h = refl
 
 -- ---- the texts of a reject
@@ -83,10 +81,10 @@ right_some k b (Some c) e h = refl
 word_number : (k : ℕ) (c : List ℕ) → right k 27 (Some c) ≡ true → (n : ℕ) × (n < 18) × (get_or c 0 0 ≡ suc n)
 unfolding size range fields in_range value if◌then◌otherwise◌
 word_number k c e =
-    let h = both_true (shape_at k 27 (Some c)) (range_at 27 (Some c) && text_at 27 (Some c)) e in
+    let h = and_parts (shape_at k 27 (Some c)) (range_at 27 (Some c) && text_at 27 (Some c)) e in
     let l : length c ≡ 1 = shape_long k 27 c h.0 refl in
-    let r = (both_true (range_at 27 (Some c)) (text_at 27 (Some c)) h.1).0 in
-    let w = both_true (leb 1 (number (take 8 c))) (leb (number (take 8 c)) 18) (both_true (within 1 18 (number (take 8 c))) _ r).0 in
+    let r = (and_parts (range_at 27 (Some c)) (text_at 27 (Some c)) h.1).0 in
+    let w = and_parts (leb 1 (number (take 8 c))) (leb (number (take 8 c)) 18) (and_parts (within 1 18 (number (take 8 c))) _ r).0 in
     let o = number_one c l in
     let low = leb-true 1 (number (take 8 c)) w.0 in
     let high = leb-true (number (take 8 c)) 18 w.1 in
@@ -160,7 +158,7 @@ text_twenty = refl
 text_prints : (b : ℕ) (o : Option (List ℕ)) → is_text_bit b ≡ true → text_at b o ≡ true → prints o ≡ true
 text_prints b None t e = refl
 text_prints b (Some []) t e = refl
-text_prints b (Some (x ∷ c)) t e = ⊎_elim (λ q. clash (is_text_bit b) t (not-true _ q)) (λ q. q) (either_true (not (is_text_bit b)) (is_text (x ∷ c)) e)
+text_prints b (Some (x ∷ c)) t e = ⊎_elim (λ q. clash (is_text_bit b) t (not-true _ q)) (λ q. q) (or_cases (not (is_text_bit b)) (is_text (x ∷ c)) e)
 
 none_prints : (o : Option (List ℕ)) → prints o ≡ true → prints (Some (or_else none_word o)) ≡ true
 none_prints None e = refl
@@ -172,7 +170,7 @@ either_prints (Some c) w p q = p
 
 exec_prints : (name o : Option (List ℕ)) → prints name ≡ true → prints (over (exec_id name) o) ≡ true
 exec_prints name None p = refl
-exec_prints name (Some c) p = every_append is_print (or_else [] name) (46 ∷ digits (number c)) (or_prints name p) (both_hold _ _ refl (digits_print (number c)))
+exec_prints name (Some c) p = every_append is_print (or_else [] name) (46 ∷ digits (number c)) (or_prints name p) (and_from _ _ refl (digits_print (number c)))
   where
     or_prints : (o : Option (List ℕ)) → prints o ≡ true → every is_print (or_else [] o) ≡ true
     or_prints None e = refl
@@ -182,15 +180,15 @@ words_prints : (k : ℕ) (o : Option (List ℕ)) → right k 27 o ≡ true → p
 words_prints k None e = refl
 words_prints k (Some c) e =
     let w = word_number k c e in
-    let r = (both_true (shape_at 17 20 (Some (words_of (suc w.0)))) _ (words_right w.0 w.1)).1 in
-    rw w.2 (text_prints 20 (Some (words_of (suc w.0))) text_twenty (both_true (range_at 20 (Some (words_of (suc w.0)))) _ r).1)
+    let r = (and_parts (shape_at 17 20 (Some (words_of (suc w.0)))) _ (words_right w.0 w.1)).1 in
+    rw w.2 (text_prints 20 (Some (words_of (suc w.0))) text_twenty (and_parts (range_at 20 (Some (words_of (suc w.0)))) _ r).1)
 
 spelling_prints : (k b : ℕ) (o : Option (List ℕ)) → b < 32 → shape_at k b o ≡ true → range_at b o ≡ true → text_at b o ≡ true → prints (over (spelling b) o) ≡ true
 unfolding spelling is_plain
 spelling_prints k b None h s r t = refl
 spelling_prints k b (Some c) h s r t =
     split_if (λ (l : List ℕ). every is_print l ≡ true) (is_plain b)
-    (λ e. go (is_text_bit b) refl (either_true (is_text_bit b) (within side status (range b)) e))
+    (λ e. go (is_text_bit b) refl (or_cases (is_text_bit b) (within side status (range b)) e))
     (λ e. decimal_print (places b) (number c))
   where
     go : (x : Bool) → is_text_bit b ≡ x → (is_text_bit b ≡ true) ⊎ (within side status (range b) ≡ true) → every is_print c ≡ true
@@ -201,13 +199,13 @@ spelling_prints k b (Some c) h s r t =
 
 module _ (k : ℕ) (at : Values) (kind : within 16 20 k ≡ true) (ok : (b : ℕ) → b < 32 → right k b (at b) ≡ true) (pair : paired k at ≡ true) where
   shape : (b : ℕ) → b < 32 → shape_at k b (at b) ≡ true
-  shape b h = (both_true (shape_at k b (at b)) _ (ok b h)).0
+  shape b h = (and_parts (shape_at k b (at b)) _ (ok b h)).0
 
   ranges : (b : ℕ) → b < 32 → range_at b (at b) ≡ true
-  ranges b h = (both_true (range_at b (at b)) (text_at b (at b)) (both_true (shape_at k b (at b)) _ (ok b h)).1).0
+  ranges b h = (and_parts (range_at b (at b)) (text_at b (at b)) (and_parts (shape_at k b (at b)) _ (ok b h)).1).0
 
   text : (b : ℕ) → b < 32 → text_at b (at b) ≡ true
-  text b h = (both_true (range_at b (at b)) (text_at b (at b)) (both_true (shape_at k b (at b)) _ (ok b h)).1).1
+  text b h = (and_parts (range_at b (at b)) (text_at b (at b)) (and_parts (shape_at k b (at b)) _ (ok b h)).1).1
 
   -- a bit that is carried is as it was, but for a reject's text
   held_same : (b : ℕ) → b < 32 → (eqb b 20 ≡ true → eqb k 17 ≡ false) → held_in b (value_of k at b) ≡ at b
@@ -256,17 +254,17 @@ module _ (k : ℕ) (at : Values) (kind : within 16 20 k ≡ true) (ok : (b : ℕ
   value_stands : (b : ℕ) → b < 32 → must_in (rows k) b ≡ true → is_some (value_of k at b) ≡ true
   value_stands b h m =
       ⊎_elim (λ q. clash (must_in (rows k) b) m (not-true _ q))
-      (λ q. ⊎_elim (λ r. stands_if b (right_some k b (at b) (ok b h) r)) own (either_true (bit (required k) b) (eqb k 17 && (eqb b 2 || eqb b 20)) q))
-      (either_true (not (must_in (rows k) b)) _ (must_stand k kind b h))
+      (λ q. ⊎_elim (λ r. stands_if b (right_some k b (at b) (ok b h) r)) own (or_cases (bit (required k) b) (eqb k 17 && (eqb b 2 || eqb b 20)) q))
+      (or_cases (not (must_in (rows k) b)) _ (must_stand k kind b h))
     where
       own : (eqb k 17 && (eqb b 2 || eqb b 20)) ≡ true → is_some (value_of k at b) ≡ true
       own q =
-          let p = both_true (eqb k 17) (eqb b 2 || eqb b 20) q in
+          let p = and_parts (eqb k 17) (eqb b 2 || eqb b 20) q in
           let e : k ≡ 17 = eqb-true k 17 p.0 in
           ⊎_elim
           (λ r. subst (λ (b : ℕ). is_some (value_of k at b) ≡ true) (sym (eqb-true b 2 r)) (name_stands e))
           (λ r. subst (λ (b : ℕ). is_some (value_of k at b) ≡ true) (sym (eqb-true b 20 r)) (text_right_lem e).1)
-          (either_true (eqb b 2) (eqb b 20) p.1)
+          (or_cases (eqb b 2) (eqb b 20) p.1)
 
   pub values_stand : stand (rows k) (value_of k at) ≡ true
   values_stand = stand_all (value_of k at) (rows k) (λ b m. value_stands b (row_small k kind b (must_row (rows k) b m)) m)
@@ -321,7 +319,7 @@ module _ (k : ℕ) (at : Values) (kind : within 16 20 k ≡ true) (ok : (b : ℕ
         go : (x : Bool) → in_rows (rows k) b ≡ x → Dec (b ≡ 20) → Dec (k ≡ 17) → right k b (now b) ≡ true
         go false i p q =
             let e : now b ≡ unsaid k (us 19) b = if_false (in_rows (rows k) b) _ _ i in
-            rw e (⊎_elim (λ z. clash (in_rows (rows k) b) z i) (λ z. z) (either_true (in_rows (rows k) b) _ (unsaid_right k kind (us 19) reason b h)))
+            rw e (⊎_elim (λ z. clash (in_rows (rows k) b) z i) (λ z. z) (or_cases (in_rows (rows k) b) _ (unsaid_right k kind (us 19) reason b h)))
         go true i (no p) q = rw (kept b i (λ z. absurd (p (eqb-true b 20 z)))) (ok b h)
         go true i (yes p) (no q) = rw (kept b i (λ z. ne_eqb k 17 q)) (ok b h)
         go true i (yes p) (yes q) =
@@ -339,9 +337,9 @@ module _ (k : ℕ) (at : Values) (kind : within 16 20 k ≡ true) (ok : (b : ℕ
 
     report_again : k ≡ 16 → paired 16 now ≡ true
     report_again e =
-        let r = both_true (in_rows (rows 16) 19) _ report_rows in
-        let s = both_true (in_rows (rows 16) 20) _ r.1 in
-        let t = both_true (in_rows (rows 16) 27) _ s.1 in
+        let r = and_parts (in_rows (rows 16) 19) _ report_rows in
+        let s = and_parts (in_rows (rows 16) 20) _ r.1 in
+        let t = and_parts (in_rows (rows 16) 27) _ s.1 in
         let n : eqb k 17 ≡ false = ne_eqb k 17 (λ q. absurd (omega arith)) in
         let c19 : in_rows (rows k) 19 ≡ true = carried 16 19 e r.0 in
         let n19 : now 19 ≡ at 19 = kept 19 c19 (λ z. n) in
@@ -349,14 +347,14 @@ module _ (k : ℕ) (at : Values) (kind : within 16 20 k ≡ true) (ok : (b : ℕ
         let n27 : now 27 ≡ at 27 = kept 27 (carried 16 27 e t.0) (λ z. n) in
         let n28 : is_some (now 28) ≡ is_some (us 19) = ap is_some (unsaid_now 28 (silent 16 28 e (not-true _ t.1))) ∙ unsaid_origin k (us 19) in
         let u19 : is_some (us 19) ≡ is_some (at 19) = ap is_some (found 19 c19 ∙ value_plain k at 19 refl refl refl refl) ∙ some_over (spelling 19) (at 19) in
-        let old = both_true (if is_some (at 19) then is_some (at 28) otherwise not (is_some (at 28))) (not (is_some (at 20) && is_some (at 27))) (sym (paired_report at) ∙ subst (λ (j : ℕ). paired j at ≡ true) e pair) in
+        let old = and_parts (if is_some (at 19) then is_some (at 28) otherwise not (is_some (at 28))) (not (is_some (at 20) && is_some (at 27))) (sym (paired_report at) ∙ subst (λ (j : ℕ). paired j at ≡ true) e pair) in
         paired_report now
-        ∙ both_hold _ _ (if_same (is_some (now 19)) (is_some (now 28)) (ap is_some n19 ∙ sym u19 ∙ sym n28)) (rw (n20, n27) old.1)
+        ∙ and_from _ _ (if_same (is_some (now 19)) (is_some (now 28)) (ap is_some n19 ∙ sym u19 ∙ sym n28)) (rw (n20, n27) old.1)
 
     reject_again : k ≡ 17 → paired 17 now ≡ true
     unfolding if◌then◌otherwise◌
     reject_again e =
-        let r = both_true (in_rows (rows 17) 20) _ reject_rows in
+        let r = and_parts (in_rows (rows 17) 20) _ reject_rows in
         let n20 : is_some (now 20) ≡ true = ap is_some (now_text e (carried 17 20 e r.0)) ∙ (text_right_lem e).1 in
         let n27 : now 27 ≡ None = unsaid_now 27 (silent 17 27 e (not-true _ r.1)) ∙ ap (λ (j : ℕ). unsaid j (us 19) 27) e ∙ unsaid_fixed (us 19) in
         paired_reject now ∙ rw (n20, n27) refl

@@ -1,12 +1,9 @@
 -- What a message carries is the record's and the session's own: the rows are the bits of the kind, and each value holds what its field holds.
 -- Rests on Carried, Trip and Taken.
-use Rattle.std.specs.Prelude.{ℕ, zero, suc, ◌<◌, ◌≡◌, Bool, ◌&&◌, ◌||◌, eqb, length, Option, None, Some}
-use Rattle.std.proofs.Math.Path.{refl, sym, ap, subst}
-use Rattle.std.proofs.Common.{◌∙◌, ⊎_elim, arith, eqb-true, eq-eqb, lit<}
-use mathlib.Core.List.{List, [], ◌∷◌, ◌++◌, append_assoc}
-use Rattle.std.proofs.Math.Bool.{true, false, not}
-use Rattle.std.proofs.lemmas.Bool.{not-true}
-use Rattle.prelude.specs.Cases.{if◌then◌otherwise◌, if_true, if_false, is_some, clash, both_true, either_true}
+use Rattle.std.proofs.Common.{ℕ, zero, suc, ◌<◌, ◌≡◌, Bool, ◌&&◌, ◌||◌, eqb, length, Option, None, Some, refl, sym, ap, subst, ◌∙◌, ⊎_elim, arith, eqb-true, eq-eqb, lit<, List, [], ◌∷◌, ◌++◌, append_assoc, true, false, not}
+use Rattle.std.proofs.lemmas.Bool.{not-true, and_parts, or_cases}
+use Rattle.std.specs.Option.{is_some}
+use Rattle.prelude.specs.Cases.{if◌then◌otherwise◌, if_true, if_false, clash}
 use Rattle.prelude.specs.Below.{all_below, all_elim}
 use Rattle.prelude.specs.Number.{number, Bytes}
 use Rattle.format.specs.Codes.{within, listed}
@@ -74,7 +71,7 @@ body_turn k vs fs b (suc n) = go (is_told k b) refl (body_turn k vs fs (suc b) n
 -- ---- values by their form
 
 implied : (p q : ℕ → Bool) → all_below (λ b. not (p b) || q b) 32 ≡ true → (b : ℕ) → b < 32 → p b ≡ true → q b ≡ true
-implied p q a b h e = ⊎_elim (λ z. clash (p b) e (not-true _ z)) (λ z. z) (either_true (not (p b)) (q b) (all_elim (λ b. not (p b) || q b) 32 a b h))
+implied p q a b h e = ⊎_elim (λ z. clash (p b) e (not-true _ z)) (λ z. z) (or_cases (not (p b)) (q b) (all_elim (λ b. not (p b) || q b) 32 a b h))
 
 abbrev counts : ℕ → ℕ → Bool
 counts p b = not (is_plain b) && eqb (places b) p
@@ -106,7 +103,7 @@ spelled_plain b c p = if_true (is_plain b) _ _ p
 spelled_number : (p b : ℕ) (c : List ℕ) → counts p b ≡ true → IsNumber p (number c) (spelling b c)
 unfolding spelling
 spelled_number p b c e =
-    let h = both_true (not (is_plain b)) (eqb (places b) p) e in
+    let h = and_parts (not (is_plain b)) (eqb (places b) p) e in
     let z : spelling b c ≡ decimal p (number c) = if_false (is_plain b) _ _ (not-true _ h.0) ∙ ap (λ (p : ℕ). decimal p (number c)) (eqb-true (places b) p h.1) in
     subst (IsNumber p (number c)) (sym z) (is_number_lem p (number c))
 

@@ -1,10 +1,10 @@
 -- What holds of the five tables, computed once for each: what a message's kind is known by, which bits a row must have, what is left unsaid.
 -- Rests on Message.
-use Rattle.std.specs.Prelude.{ℕ, suc, ◌<◌, ◌≡◌, refl, List, [], ◌∷◌, Bool, true, false, not, ◌&&◌, ◌||◌, eqb, leb, ltb, length, get_or, take, Option, None, Some}
-use Rattle.std.proofs.Common.{sym, subst, ◌∙◌, ⊎_elim, arith, eqb-true, eq-eqb, leb-true, ltb-true}
+use Rattle.std.proofs.Common.{ℕ, suc, ◌<◌, ◌≡◌, refl, List, [], ◌∷◌, Bool, true, false, not, ◌&&◌, ◌||◌, eqb, leb, ltb, length, get_or, take, Option, None, Some, sym, subst, ◌∙◌, ⊎_elim, arith, eqb-true, eq-eqb, leb-true, ltb-true}
 use Rattle.std.proofs.Math.Decide.{ℕ_discrete}
-use Rattle.std.proofs.lemmas.Bool.{not-true}
-use Rattle.prelude.specs.Cases.{if◌then◌otherwise◌, if_false, is_some, clash, both_true, both_hold, either_true}
+use Rattle.std.proofs.lemmas.Bool.{not-true, and_parts, and_from, or_cases, or_right}
+use Rattle.std.specs.Option.{is_some}
+use Rattle.prelude.specs.Cases.{if◌then◌otherwise◌, if_false, clash}
 use Rattle.prelude.specs.Below.{all_below, all_elim}
 use Rattle.bits.specs.Map.{bit}
 use Rattle.prelude.specs.Number.{number}
@@ -29,7 +29,7 @@ by_kind_lem P p16 p17 p18 p19 p20 k e = go (ℕ_discrete k 16) (ℕ_discrete k 1
     go (no a) (no b) (no c) (yes d) f = subst P (sym d) p19
     go (no a) (no b) (no c) (no d) (yes f) = subst P (sym f) p20
     go (no a) (no b) (no c) (no d) (no f) =
-        let h = both_true (leb 16 k) (leb k 20) e in
+        let h = and_parts (leb 16 k) (leb k 20) e in
         absurd (omega (arith, leb-true 16 k h.0, leb-true k 20 h.1))
 
 pub kind_back : (k : ℕ) → within 16 20 k ≡ true → kind_of (type_of k) ≡ k
@@ -50,11 +50,11 @@ small (r ∷ rs) = ltb r.bit 32 && small rs
 small_row : (rs : List Row) → small rs ≡ true → (b : ℕ) → in_rows rs b ≡ true → b < 32
 small_row [] s b e = clash false e refl
 small_row (r ∷ rs) s b e =
-    let h = both_true (ltb r.bit 32) (small rs) s in
+    let h = and_parts (ltb r.bit 32) (small rs) s in
     ⊎_elim
     (λ q. let z : r.bit ≡ b = eqb-true r.bit b q in omega (arith, ltb-true r.bit 32 h.0))
     (λ q. small_row rs h.1 b q)
-    (either_true (eqb r.bit b) (in_rows rs b) e)
+    (or_cases (eqb r.bit b) (in_rows rs b) e)
 
 rows_small : (k : ℕ) → within 16 20 k ≡ true → small (rows k) ≡ true
 unfolding rows tables
@@ -74,14 +74,10 @@ abbrev pub must_in : List Row → ℕ → Bool
 must_in [] b = false
 must_in (r ∷ rs) b = (eqb r.bit b && r.must) || must_in rs b
 
-or_right : (x y : Bool) → y ≡ true → (x || y) ≡ true
-or_right true y q = refl
-or_right false y q = q
-
 pub stand_all : (vs : Values) (rs : List Row) → ((b : ℕ) → must_in rs b ≡ true → is_some (vs b) ≡ true) → stand rs vs ≡ true
 stand_all vs [] h = refl
 stand_all vs (r ∷ rs) h =
-    both_hold _ _ (go r.must refl) (stand_all vs rs (λ b q. h b (or_right (eqb r.bit b && r.must) (must_in rs b) q)))
+    and_from _ _ (go r.must refl) (stand_all vs rs (λ b q. h b (or_right (eqb r.bit b && r.must) (must_in rs b) q)))
   where
     go : (m : Bool) → r.must ≡ m → (not r.must || is_some (vs r.bit)) ≡ true
     go true e = or_right (not r.must) _ (h r.bit (rw (eq-eqb r.bit r.bit refl, e) refl))
@@ -91,9 +87,9 @@ pub must_row : (rs : List Row) (b : ℕ) → must_in rs b ≡ true → in_rows r
 must_row [] b e = e
 must_row (r ∷ rs) b e =
     ⊎_elim
-    (λ q. rw (both_true (eqb r.bit b) r.must q).0 refl)
+    (λ q. rw (and_parts (eqb r.bit b) r.must q).0 refl)
     (λ q. or_right (eqb r.bit b) (in_rows rs b) (must_row rs b q))
-    (either_true (eqb r.bit b && r.must) (must_in rs b) e)
+    (or_cases (eqb r.bit b && r.must) (must_in rs b) e)
 
 -- its bit must stand in the record, but for a reject's name and text
 pub must_stand : (k : ℕ) → within 16 20 k ≡ true → (b : ℕ) → b < 32
@@ -155,8 +151,8 @@ words_right = all_elim (λ n. right 17 20 (Some (words_of (suc n)))) 18 refl
 listed_print : (v : ℕ) (cs : List ℕ) → every is_print cs ≡ true → listed v cs ≡ true → is_print v ≡ true
 listed_print v [] p e = clash false e refl
 listed_print v (c ∷ cs) p e =
-    let h = both_true (is_print c) (every is_print cs) p in
-    ⊎_elim (λ q. rw (eqb-true v c q) h.0) (λ q. listed_print v cs h.1 q) (either_true (eqb v c) (listed v cs) e)
+    let h = and_parts (is_print c) (every is_print cs) p in
+    ⊎_elim (λ q. rw (eqb-true v c q) h.0) (λ q. listed_print v cs h.1 q) (or_cases (eqb v c) (listed v cs) e)
 
 range_print : (g v : ℕ) → within side status g ≡ true → in_range g v ≡ true → is_print v ≡ true
 unfolding in_range if◌then◌otherwise◌ is_side sides is_ordtype ordtypes is_timeinforce timesinforce is_exectype exectypes is_status statuses
@@ -172,7 +168,7 @@ range_print g v w e = go (ℕ_discrete g 3) (ℕ_discrete g 4) (ℕ_discrete g 5
     go (no a) (no b) (no c) (yes d) f = listed_print v exectypes refl (at 6 d)
     go (no a) (no b) (no c) (no d) (yes f) = listed_print v statuses refl (at 7 f)
     go (no a) (no b) (no c) (no d) (no f) =
-        let h = both_true (leb 3 g) (leb g 7) w in
+        let h = and_parts (leb 3 g) (leb g 7) w in
         absurd (omega (arith, leb-true 3 g h.0, leb-true g 7 h.1))
 
 -- a code is one byte
@@ -186,8 +182,8 @@ unfolding value
 code_print k b c h t w e r =
     let z : size b ≡ 1 =
     ⊎_elim (λ q. clash (within side status (range b)) w (not-true _ q)) (λ q. eqb-true (size b) 1 q)
-    (either_true (not (within side status (range b))) (eqb (size b) 1) (code_size b h)) in
+    (or_cases (not (within side status (range b))) (eqb (size b) 1) (code_size b h)) in
     let l : length c ≡ 1 = shape_long k b c e t ∙ z in
     let v : value b c ≡ get_or c 0 0 = if_false (is_text_bit b) (length c) (number (take 8 c)) t ∙ number_one c l in
-    let p : is_print (get_or c 0 0) ≡ true = range_print (range b) (get_or c 0 0) w (rw v at (both_true (in_range (range b) (value b c)) _ r).0) in
-    rw (one_byte c l) (both_hold _ _ p refl)
+    let p : is_print (get_or c 0 0) ≡ true = range_print (range b) (get_or c 0 0) w (rw v at (and_parts (in_range (range b) (value b c)) _ r).0) in
+    rw (one_byte c l) (and_from _ _ p refl)

@@ -1,16 +1,10 @@
 -- Every writing is one of some record. Rests on Taken.
-use Prim.Native.Nat.{ℕ, zero, suc, ◌+◌, ◌/◌, ◌%◌, ◌^◌, ◌≤◌, ◌<◌}
-use Rattle.std.specs.Prelude.{◌≡◌, Bool, not, ◌&&◌, ◌||◌, ◌↔◌, eqb, ltb, take, Option, None, Some}
-use Rattle.std.proofs.Math.Path.{refl, sym, ap}
-use Rattle.std.proofs.Common.{subst, ◌∙◌, ⊎_elim, arith, lit<}
-use mathlib.Core.List.{List, [], ◌∷◌, ◌++◌, append-nil}
-use Rattle.std.proofs.Math.Bool.{true, false}
+use Rattle.std.proofs.Common.{ℕ, zero, suc, ◌+◌, ◌/◌, ◌%◌, ◌^◌, ◌≤◌, ◌<◌, ◌≡◌, Bool, not, ◌&&◌, ◌||◌, ◌↔◌, eqb, ltb, take, Option, None, Some, refl, sym, ap, subst, ◌∙◌, ⊎_elim, arith, lit<, List, [], ◌∷◌, ◌++◌, append-nil, true, false, eqb-true, eq-eqb, leb-true, le-leb, lt-ltb, le-ltb, leb, length}
 use Rattle.std.proofs.Math.Decide.{dec_lt}
-use borrow.Author.Tests.{eqb-true, eq-eqb, leb-true, le-leb, lt-ltb, le-ltb, not-true}
-use Rattle.std.proofs.Math.Dec.{leb}
-use Rattle.std.proofs.Math.ListN.{length}
+use Rattle.std.proofs.lemmas.Bool.{not-true, and_parts, and_from, or_cases}
+use Rattle.std.specs.Option.{is_some}
 use Rattle.prelude.specs.Texts.{text_of}
-use Rattle.prelude.specs.Cases.{if◌then◌otherwise◌, split_if, if_true, if_false, is_some, clash, both_true, both_hold, either_true}
+use Rattle.prelude.specs.Cases.{if◌then◌otherwise◌, split_if, if_true, if_false, clash}
 use Rattle.prelude.specs.Below.{all_below, all_elim, all_intro}
 use Rattle.prelude.specs.Number.{Bytes, number, bytes_of}
 use Rattle.bits.specs.Map.{digit, bit, contains}
@@ -63,15 +57,15 @@ shape_some k b (Some c) e h = refl
 
 shape_may : (k b : ℕ) (o : Option (List ℕ)) → shape_at k b o ≡ true → is_some o ≡ true → (bit (required k) b || bit (allowed k) b) ≡ true
 shape_may k b None e h = clash false h refl
-shape_may k b (Some c) e h = (both_true (bit (required k) b || bit (allowed k) b) _ e).0
+shape_may k b (Some c) e h = (and_parts (bit (required k) b || bit (allowed k) b) _ e).0
 
 sum_bit : (k : ℕ) → within 16 20 k ≡ true → (b : ℕ) → b < 32 → (bit (required k) b || bit (allowed k) b) ≡ true → bit (required k + allowed k) b ≡ true
 sum_bit k i b h e =
     ⊎_elim
-    (λ q. let p = both_true (not (bit (required k) b)) (not (bit (allowed k) b)) q in
-    ⊎_elim (λ r. clash (bit (required k) b) r (not-true _ p.0)) (λ r. clash (bit (allowed k) b) r (not-true _ p.1)) (either_true (bit (required k) b) (bit (allowed k) b) e))
+    (λ q. let p = and_parts (not (bit (required k) b)) (not (bit (allowed k) b)) q in
+    ⊎_elim (λ r. clash (bit (required k) b) r (not-true _ p.0)) (λ r. clash (bit (allowed k) b) r (not-true _ p.1)) (or_cases (bit (required k) b) (bit (allowed k) b) e))
     (λ q. q)
-    (either_true (not (bit (required k) b) && not (bit (allowed k) b)) (bit (required k + allowed k) b) ((tables_small k i).1 b h))
+    (or_cases (not (bit (required k) b) && not (bit (allowed k) b)) (bit (required k + allowed k) b) ((tables_small k i).1 b h))
 
 name_range_lem : (c : List ℕ) → in_range (range 2) (value 2 c) ≡ true → within 1 20 (length c) ≡ true
 unfolding in_range range value size fields if◌then◌otherwise◌
@@ -82,7 +76,7 @@ is_byte x = ltb x 256
 
 number_bytes : (n v : ℕ) → every is_byte (bytes_of n v) ≡ true
 number_bytes zero v = refl
-number_bytes (suc n) v = both_hold (ltb (v % 256) 256) (every is_byte (bytes_of n (v / 256))) (lt-ltb (v % 256) 256 (omega arith)) (number_bytes n (v / 256))
+number_bytes (suc n) v = and_from (ltb (v % 256) 256) (every is_byte (bytes_of n (v / 256))) (lt-ltb (v % 256) 256 (omega arith)) (number_bytes n (v / 256))
 
 -- a text in range has a length of one byte
 text_small : (v b : ℕ) → b < 32 → is_text_bit b ≡ true → in_range (range b) v ≡ true → v < 256
@@ -109,8 +103,8 @@ module _ (k : ℕ) (at : Values) (fits : shaped k at ≡ true) where
   asked : (within 16 20 k ≡ true) × ((all_below (λ b. shape_at k b (at b)) 32 ≡ true) × (paired k at ≡ true))
   unfolding shaped
   asked =
-      let a = both_true (within 16 20 k) (all_below (λ b. shape_at k b (at b)) 32 && paired k at) fits in
-      (a.0, both_true (all_below (λ b. shape_at k b (at b)) 32) (paired k at) a.1)
+      let a = and_parts (within 16 20 k) (all_below (λ b. shape_at k b (at b)) 32 && paired k at) fits in
+      (a.0, and_parts (all_below (λ b. shape_at k b (at b)) 32) (paired k at) a.1)
 
   bit_is : (b : ℕ) → b < 32 → bit map b ≡ is_some (at b)
   bit_is = bit_one standing
@@ -118,10 +112,10 @@ module _ (k : ℕ) (at : Values) (fits : shaped k at ≡ true) where
   map_right : bits_right k map ≡ true
   unfolding bits_right
   map_right =
-      both_hold (is_kind k) _ (kind_is k asked.0)
-      (both_hold (contains map (required k)) _
+      and_from (is_kind k) _ (kind_is k asked.0)
+      (and_from (contains map (required k)) _
       (contains_all map (required k) (tables_small k asked.0).0 (λ j l e. bit_is j l ∙ shape_some k j (at j) (all_elim (λ b. shape_at k b (at b)) 32 asked.1.0 j l) e))
-      (both_hold (contains (required k + allowed k) map) _
+      (and_from (contains (required k + allowed k) map) _
       (contains_all (required k + allowed k) map (map_small standing 0 32) (λ j l e. sum_bit k asked.0 j l
       (shape_may k j (at j) (all_elim (λ b. shape_at k b (at b)) 32 asked.1.0 j l) (sym (bit_is j l) ∙ e))))
       (sym (paired_joined at map (λ b h. sym (bit_is b h)) k asked.0) ∙ asked.1.1)))
@@ -180,10 +174,10 @@ module _ (k : ℕ) (at : Values) (fits : shaped k at ≡ true) where
   unfolding whole_message message_shaped formShaped record_for bytes
   record_is =
       let five : leb 5 (length record_for) ≡ true = le-leb 5 (length record_for) (omega arith) in
-      both_hold (message_shaped record_for 0) _
-      (both_hold (formShaped record_for 0) (leb 16 k)
-      (both_hold _ _ five (both_hold _ _ (ap (bits_right k) map_there ∙ map_right) (le-leb (end_of record_for 0) (length record_for) (omega (arith, end_there)))))
-      (both_true (leb 16 k) (leb k 20) asked.0).0)
+      and_from (message_shaped record_for 0) _
+      (and_from (formShaped record_for 0) (leb 16 k)
+      (and_from _ _ five (and_from _ _ (ap (bits_right k) map_there ∙ map_right) (le-leb (end_of record_for 0) (length record_for) (omega (arith, end_there)))))
+      (and_parts (leb 16 k) (leb k 20) asked.0).0)
       (eq-eqb (end_of record_for 0) (length record_for) end_there)
 
   -- ---- in range, and made of bytes
@@ -196,7 +190,7 @@ module _ (k : ℕ) (at : Values) (fits : shaped k at ≡ true) where
     pub record_in_range : recordRanged record_for 0 ≡ true
     unfolding recordRanged right_at name_in
     record_in_range =
-        both_hold (all_below (right_at record_for 0 (map_at record_for 0)) 32) (name_in (map_at record_for 0) (text_of (content record_for 0 (map_at record_for 0) 2)))
+        and_from (all_below (right_at record_for 0 (map_at record_for 0)) 32) (name_in (map_at record_for 0) (text_of (content record_for 0 (map_at record_for 0) 2)))
         (ap (λ (m : ℕ). all_below (right_at record_for 0 m) 32) map_there ∙ all_intro (right_at record_for 0 map) 32 (λ b h. each b h (at b) refl (bit map b) refl))
         (ap (λ (m : ℕ). if bit m 2 then is_name (text_of (content record_for 0 m 2)) otherwise true) map_there ∙ named (at 2) refl (bit map 2) refl)
       where
@@ -207,13 +201,13 @@ module _ (k : ℕ) (at : Values) (fits : shaped k at ≡ true) where
         each b h (Some c) z true e =
             if_true (bit map b) _ _ e
             ∙ ap (λ (l : List ℕ). in_range (range b) (value b l)) (content_there b h e ∙ ap (or_else []) z)
-            ∙ (both_true (in_range (range b) (value b c)) (not (eqb b 2) || is_name_of c) (ap (range_at b) (sym z) ∙ range_of b h)).0
+            ∙ (and_parts (in_range (range b) (value b c)) (not (eqb b 2) || is_name_of c) (ap (range_at b) (sym z) ∙ range_of b h)).0
 
         named : (o : Option (List ℕ)) → at 2 ≡ o → (x : Bool) → bit map 2 ≡ x → (if bit map 2 then is_name (text_of (content record_for 0 map 2)) otherwise true) ≡ true
         named o z false e = if_false (bit map 2) _ _ e
         named None z true e = clash false (ap is_some (sym z) ∙ sym (bit_is 2 (lit< tt)) ∙ e) refl
         named (Some c) z true e =
-            let p = both_true (in_range (range 2) (value 2 c)) (not (eqb 2 2) || is_name_of c) (ap (range_at 2) (sym z) ∙ range_of 2 (lit< tt)) in
+            let p = and_parts (in_range (range 2) (value 2 c)) (not (eqb 2 2) || is_name_of c) (ap (range_at 2) (sym z) ∙ range_of 2 (lit< tt)) in
             if_true (bit map 2) _ _ e
             ∙ ap (λ (l : List ℕ). is_name (text_of l)) (content_there 2 (lit< tt) e ∙ ap (or_else []) z)
             ∙ name_is c (name_range_lem c p.0) p.1
@@ -231,10 +225,10 @@ module _ (k : ℕ) (at : Values) (fits : shaped k at ≡ true) where
         go : (o : Option (List ℕ)) → shape_at k b o ≡ true → range_at b o ≡ true → every is_byte (encode b (or_else [] o)) ≡ true
         go None e r = split_if (λ (l : List ℕ). every is_byte l ≡ true) (is_text_bit b) (λ t. refl) (λ t. refl)
         go (Some c) e r =
-            let p : every is_byte c ≡ true = (both_true (every is_byte c) (is_text_bit b || eqb (length c) (size b)) (both_true (bit (required k) b || bit (allowed k) b) _ e).1).0 in
-            let v = (both_true (in_range (range b) (value b c)) (not (eqb b 2) || is_name_of c) r).0 in
+            let p : every is_byte c ≡ true = (and_parts (every is_byte c) (is_text_bit b || eqb (length c) (size b)) (and_parts (bit (required k) b || bit (allowed k) b) _ e).1).0 in
+            let v = (and_parts (in_range (range b) (value b c)) (not (eqb b 2) || is_name_of c) r).0 in
             split_if (λ (l : List ℕ). every is_byte l ≡ true) (is_text_bit b)
-            (λ t. both_hold (ltb (length c) 256) (every is_byte c)
+            (λ t. and_from (ltb (length c) 256) (every is_byte c)
             (lt-ltb (length c) 256 (text_small (length c) b h t (ap (in_range (range b)) (sym (if_true (is_text_bit b) (length c) (number (take 8 c)) t)) ∙ v))) p)
             (λ t. p)
 
@@ -250,7 +244,7 @@ module _ (k : ℕ) (at : Values) (fits : shaped k at ≡ true) where
     pub record_bytes : Bytes record_for
     unfolding record_for bytes
     record_bytes = every_bytes (bytes k map holds)
-        (both_hold (ltb k 256) _ (lt-ltb k 256 (omega (arith, leb-true k 20 (both_true (leb 16 k) (leb k 20) asked.0).1)))
+        (and_from (ltb k 256) _ (lt-ltb k 256 (omega (arith, leb-true k 20 (and_parts (leb 16 k) (leb k 20) asked.0).1)))
         (every_append is_byte (bytes_of 4 map) (body map holds 32) (number_bytes 4 map) (body_bytes 32 (omega arith))))
 
 -- ---- the values ask only bits below 32
@@ -276,9 +270,9 @@ module _ (w : Writing) (is : is_writing w ≡ true) where
   each : (typed w ≡ true) × ((shaped w.kind w.at ≡ true) × ((ranged w.at ≡ true) × (texted w ≡ true)))
   unfolding is_writing
   each =
-      let a = both_true (typed w) (shaped w.kind w.at && (ranged w.at && texted w)) is in
-      let b = both_true (shaped w.kind w.at) (ranged w.at && texted w) a.1 in
-      (a.0, (b.0, both_true (ranged w.at) (texted w) b.1))
+      let a = and_parts (typed w) (shaped w.kind w.at && (ranged w.at && texted w)) is in
+      let b = and_parts (shaped w.kind w.at) (ranged w.at && texted w) a.1 in
+      (a.0, (b.0, and_parts (ranged w.at) (texted w) b.1))
 
   -- a record and a session of which it is the writing
   abbrev source : List ℕ
@@ -295,15 +289,15 @@ module _ (w : Writing) (is : is_writing w ≡ true) where
 
   kind_in_lem : within 16 20 w.kind ≡ true
   unfolding shaped
-  kind_in_lem = (both_true (within 16 20 w.kind) _ each.1.0).0
+  kind_in_lem = (and_parts (within 16 20 w.kind) _ each.1.0).0
 
   texts_same : texted (writing_of source session) ≡ true
   unfolding texted
   texts_same =
-      let a = both_true (is_text w.sender) _ each.1.1.1 in
-      let b = both_true (is_text w.target) _ a.1 in
-      let c = both_true (is_text w.time) (all_below (λ b. text_at b (w.at b)) 32) b.1 in
-      both_hold _ _ a.0 (both_hold _ _ b.0 (both_hold (is_text w.time) (all_below (λ b. text_at b (field_at source b)) 32) c.0
+      let a = and_parts (is_text w.sender) _ each.1.1.1 in
+      let b = and_parts (is_text w.target) _ a.1 in
+      let c = and_parts (is_text w.time) (all_below (λ b. text_at b (w.at b)) 32) b.1 in
+      and_from _ _ a.0 (and_from _ _ b.0 (and_from (is_text w.time) (all_below (λ b. text_at b (field_at source b)) 32) c.0
       (all_intro (λ b. text_at b (field_at source b)) 32 (λ b h. ap (text_at b) (source_at b h) ∙ all_elim (λ b. text_at b (w.at b)) 32 c.1 b h))))
 
   written_same : write_of source session ≡ bytes_for w
@@ -346,7 +340,7 @@ taken_yields x e = go (is_message x) refl
 
     go : (y : Bool) → is_message x ≡ y → (s : List ℕ) × (n : Session) × Yields x s n (length (write_of s n))
     go true q =
-        let h = both_true (is_writing w) (same (bytes_for w) x) q in
+        let h = and_parts (is_writing w) (same (bytes_for w) x) q in
         let n : ℕ = length (write_of (source w h.0) (session w h.0)) in
         (source w h.0, session w h.0, subst (λ (y : List ℕ). Yields y (source w h.0) (session w h.0) n) (same_true (bytes_for w) x h.1) (writing_yields w h.0))
     go false q =

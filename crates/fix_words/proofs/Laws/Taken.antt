@@ -1,15 +1,12 @@
 -- A record that the writer takes is a writing. Rests on Record and records' reading.
-use Rattle.std.specs.Prelude.{ℕ, suc, ◌+◌, ◌-◌, ◌≤◌, ◌<◌, ◌≡◌, Bool, not, ◌&&◌, ◌||◌, ◌⊎◌, leb, ltb, length, get_or, replicate, None, Some}
-use Rattle.std.proofs.Math.Path.{refl}
-use Rattle.std.proofs.Common.{sym, ap, ◌∙◌, inl, inr, ⊎_elim, arith, lit<, get_or-take}
-use mathlib.Core.List.{List, [], ◌∷◌, ◌++◌}
-use Rattle.std.proofs.Math.Bool.{true, false}
+use Rattle.std.proofs.Common.{ℕ, suc, ◌+◌, ◌-◌, ◌≤◌, ◌<◌, ◌≡◌, Bool, not, ◌&&◌, ◌||◌, ◌⊎◌, leb, ltb, length, get_or, replicate, None, Some, refl, sym, ap, ◌∙◌, inl, inr, ⊎_elim, arith, lit<, get_or-take, List, [], ◌∷◌, ◌++◌, true, false, eqb-true, eq-eqb, ne_eqb, leb-true, lt-ltb, eqb}
 use Rattle.std.proofs.Math.Decide.{ℕ_discrete}
-use borrow.Author.Tests.{eqb-true, eq-eqb, ne_eqb, leb-true, lt-ltb, not-true}
-use Rattle.std.proofs.Math.Dec.{eqb}
 use Rattle.std.proofs.Math.ListN.{get_or-append}
+use Rattle.std.proofs.lemmas.Bool.{not-true, and_parts, and_from, or_cases}
+use Rattle.std.specs.Option.{is_some}
+use Rattle.std.specs.Cmp.{both_ways}
 use Rattle.prelude.specs.Texts.{text_of}
-use Rattle.prelude.specs.Cases.{if◌then◌otherwise◌, split_if, if_true, if_false, is_some, clash, both_true, both_hold, either_true, test_same}
+use Rattle.prelude.specs.Cases.{if◌then◌otherwise◌, split_if, if_true, if_false, clash}
 use Rattle.prelude.specs.Below.{all_below, all_elim, all_intro}
 use Rattle.prelude.specs.Number.{Bytes}
 use Rattle.prelude.specs.Bytes.{bytes_span, bytes_drop}
@@ -45,11 +42,11 @@ either_bit =
 pub message_kind : (k : ℕ) → is_kind k ≡ true → leb 16 k ≡ true → within 16 20 k ≡ true
 unfolding is_kind
 message_kind k e h =
-    ⊎_elim (λ p. absurd (omega (arith, leb-true 16 k h, leb-true k 9 (both_true (leb 1 k) (leb k 9) p).1))) (λ p. p) (either_true (within 1 9 k) (within 16 20 k) e)
+    ⊎_elim (λ p. absurd (omega (arith, leb-true 16 k h, leb-true k 9 (and_parts (leb 1 k) (leb k 9) p).1))) (λ p. p) (or_cases (within 1 9 k) (within 16 20 k) e)
 
 bytes_every : (c : List ℕ) → Bytes c → every (λ x. ltb x 256) c ≡ true
 bytes_every [] h = refl
-bytes_every (x ∷ c) h = both_hold _ _ (lt-ltb x 256 (h 0)) (bytes_every c (λ k. h (suc k)))
+bytes_every (x ∷ c) h = and_from _ _ (lt-ltb x 256 (h 0)) (bytes_every c (λ k. h (suc k)))
 
 some_bit : (x : Bool) (c : List ℕ) → is_some (if x then Some c otherwise None) ≡ x
 unfolding if◌then◌otherwise◌
@@ -122,10 +119,10 @@ none_same : (c : List ℕ) → is_none (text_of c) ≡ true → same c none_word
 unfolding is_none
 none_same c e =
     let t = (text_of c).bytes in
-    let p = both_true (eqb (text_of c).len 4) (eqb (get_or t 0 0) 78 && (eqb (get_or t 1 0) 79 && (eqb (get_or t 2 0) 78 && eqb (get_or t 3 0) 69))) e in
-    let q = both_true (eqb (get_or t 0 0) 78) (eqb (get_or t 1 0) 79 && (eqb (get_or t 2 0) 78 && eqb (get_or t 3 0) 69)) p.1 in
-    let r = both_true (eqb (get_or t 1 0) 79) (eqb (get_or t 2 0) 78 && eqb (get_or t 3 0) 69) q.1 in
-    let u = both_true (eqb (get_or t 2 0) 78) (eqb (get_or t 3 0) 69) r.1 in
+    let p = and_parts (eqb (text_of c).len 4) (eqb (get_or t 0 0) 78 && (eqb (get_or t 1 0) 79 && (eqb (get_or t 2 0) 78 && eqb (get_or t 3 0) 69))) e in
+    let q = and_parts (eqb (get_or t 0 0) 78) (eqb (get_or t 1 0) 79 && (eqb (get_or t 2 0) 78 && eqb (get_or t 3 0) 69)) p.1 in
+    let r = and_parts (eqb (get_or t 1 0) 79) (eqb (get_or t 2 0) 78 && eqb (get_or t 3 0) 69) q.1 in
+    let u = and_parts (eqb (get_or t 2 0) 78) (eqb (get_or t 3 0) 69) r.1 in
     let l : length c ≡ 4 = sym (text_len c) ∙ eqb-true (text_of c).len 4 p.0 in
     let g0 : get_or c 0 0 ≡ 78 = sym (text_byte c 0 (omega arith) (omega arith)) ∙ eqb-true (get_or t 0 0) 78 q.0 in
     let g1 : get_or c 1 0 ≡ 79 = sym (text_byte c 1 (omega arith) (omega arith)) ∙ eqb-true (get_or t 1 0) 79 r.0 in
@@ -135,26 +132,26 @@ none_same c e =
     ap (λ (c : List ℕ). same c none_word) z
 
 is_none_lem : (c : List ℕ) → is_none (text_of c) ≡ same c none_word
-is_none_lem c = test_same (is_none (text_of c)) (same c none_word) (none_same c) (λ e. ap (λ (c : List ℕ). is_none (text_of c)) (same_true c none_word e) ∙ none_is)
+is_none_lem c = both_ways (is_none (text_of c)) (same c none_word) (none_same c) (λ e. ap (λ (c : List ℕ). is_none (text_of c)) (same_true c none_word e) ∙ none_is)
 
 name_of : (c : List ℕ) → is_name (text_of c) ≡ true → is_name_of c ≡ true
 unfolding is_name
 name_of c e =
-    let p = both_true (within 1 20 (text_of c).len) (all_below (alnum_at (text_of c)) (text_of c).len && not (is_none (text_of c))) e in
-    let q = both_true (all_below (alnum_at (text_of c)) (text_of c).len) (not (is_none (text_of c))) p.1 in
-    let l = leb-true (text_of c).len 20 (both_true (leb 1 (text_of c).len) (leb (text_of c).len 20) p.0).1 in
-    both_hold (every is_alnum c) (not (same c none_word))
+    let p = and_parts (within 1 20 (text_of c).len) (all_below (alnum_at (text_of c)) (text_of c).len && not (is_none (text_of c))) e in
+    let q = and_parts (all_below (alnum_at (text_of c)) (text_of c).len) (not (is_none (text_of c))) p.1 in
+    let l = leb-true (text_of c).len 20 (and_parts (leb 1 (text_of c).len) (leb (text_of c).len 20) p.0).1 in
+    and_from (every is_alnum c) (not (same c none_word))
     (below_every is_alnum c (λ i h. ap is_alnum (sym (text_byte c i (omega (arith, text_len c)) h)) ∙ all_elim (alnum_at (text_of c)) (text_of c).len q.0 i (omega (arith, text_len c))))
     (ap not (sym (is_none_lem c)) ∙ q.1)
 
 pub name_is : (c : List ℕ) → within 1 20 (length c) ≡ true → is_name_of c ≡ true → is_name (text_of c) ≡ true
 unfolding is_name
 name_is c l e =
-    let p = both_true (every is_alnum c) (not (same c none_word)) e in
-    let h = leb-true (length c) 20 (both_true (leb 1 (length c)) (leb (length c) 20) l).1 in
-    both_hold (within 1 20 (text_of c).len) (all_below (alnum_at (text_of c)) (text_of c).len && not (is_none (text_of c)))
+    let p = and_parts (every is_alnum c) (not (same c none_word)) e in
+    let h = leb-true (length c) 20 (and_parts (leb 1 (length c)) (leb (length c) 20) l).1 in
+    and_from (within 1 20 (text_of c).len) (all_below (alnum_at (text_of c)) (text_of c).len && not (is_none (text_of c)))
     (ap (within 1 20) (text_len c) ∙ l)
-    (both_hold (all_below (alnum_at (text_of c)) (text_of c).len) (not (is_none (text_of c)))
+    (and_from (all_below (alnum_at (text_of c)) (text_of c).len) (not (is_none (text_of c)))
     (all_intro (alnum_at (text_of c)) (text_of c).len
     (λ i u. ap is_alnum (text_byte c i (omega arith) (omega (arith, text_len c))) ∙ every_below is_alnum c p.0 i (omega (arith, text_len c))))
     (ap not (is_none_lem c) ∙ p.1))
@@ -168,22 +165,22 @@ module _ (s : List ℕ) (w : Bytes s) (is : whole_message s ≡ true) where
 
   halves : (message_shaped s 0 ≡ true) × (end_of s 0 ≡ length s)
   unfolding whole_message
-  halves = let h = both_true (message_shaped s 0) _ is in (h.0, eqb-true _ _ h.1)
+  halves = let h = and_parts (message_shaped s 0) _ is in (h.0, eqb-true _ _ h.1)
 
   whole : Whole s 0
   unfolding message_shaped
-  whole = whole_of s 0 (both_true (formShaped s 0) (leb 16 k) halves.0).0
+  whole = whole_of s 0 (and_parts (formShaped s 0) (leb 16 k) halves.0).0
 
   bits : (is_kind k ≡ true) × ((contains m (required k) ≡ true) × ((contains (required k + allowed k) m ≡ true) × (joined k m ≡ true)))
   unfolding bits_right
   bits =
-      let a = both_true (is_kind k) _ whole.right in
-      let b = both_true (contains m (required k)) _ a.1 in
-      (a.0, (b.0, both_true (contains (required k + allowed k) m) (joined k m) b.1))
+      let a = and_parts (is_kind k) _ whole.right in
+      let b = and_parts (contains m (required k)) _ a.1 in
+      (a.0, (b.0, and_parts (contains (required k + allowed k) m) (joined k m) b.1))
 
   kind : within 16 20 k ≡ true
   unfolding message_shaped
-  kind = message_kind k bits.0 (both_true (formShaped s 0) (leb 16 k) halves.0).1
+  kind = message_kind k bits.0 (and_parts (formShaped s 0) (leb 16 k) halves.0).1
 
   content_bytes : (b : ℕ) → Bytes (content s 0 m b)
   unfolding content strip part
@@ -195,7 +192,7 @@ module _ (s : List ℕ) (w : Bytes s) (is : whole_message s ≡ true) where
   may_stand : (b : ℕ) → b < 32 → bit m b ≡ true → (bit (required k) b || bit (allowed k) b) ≡ true
   may_stand b h e =
       ⊎_elim (λ q. clash (bit (required k + allowed k) b) (contains_bit (required k + allowed k) m b bits.1.1.0 e) (not-true _ q)) (λ q. q)
-      (either_true (not (bit (required k + allowed k) b)) (bit (required k) b || bit (allowed k) b) (either_bit k kind b h))
+      (or_cases (not (bit (required k + allowed k) b)) (bit (required k) b || bit (allowed k) b) (either_bit k kind b h))
 
   absent : (b : ℕ) → bit m b ≡ false → (y : Bool) → bit (required k) b ≡ y → not (bit (required k) b) ≡ true
   absent b e true q = clash (bit m b) (contains_bit m (required k) b bits.1.0 q) e
@@ -210,12 +207,12 @@ module _ (s : List ℕ) (w : Bytes s) (is : whole_message s ≡ true) where
       long e false t = rw t (eq-eqb _ _ (length_number s 0 m b (in_field s 0 m whole.inside b h) e t))
 
       fit : bit m b ≡ true → (every (λ x. ltb x 256) (content s 0 m b) && (is_text_bit b || eqb (length (content s 0 m b)) (size b))) ≡ true
-      fit e = both_hold (every (λ x. ltb x 256) (content s 0 m b)) (is_text_bit b || eqb (length (content s 0 m b)) (size b)) (bytes_every (content s 0 m b) (content_bytes b)) (long e (is_text_bit b) refl)
+      fit e = and_from (every (λ x. ltb x 256) (content s 0 m b)) (is_text_bit b || eqb (length (content s 0 m b)) (size b)) (bytes_every (content s 0 m b) (content_bytes b)) (long e (is_text_bit b) refl)
 
       go : (x : Bool) → bit m b ≡ x → shape_at k b (if bit m b then Some (content s 0 m b) otherwise None) ≡ true
       go true e =
           ap (shape_at k b) (if_true (bit m b) (Some (content s 0 m b)) None e)
-          ∙ both_hold (bit (required k) b || bit (allowed k) b) (every (λ x. ltb x 256) (content s 0 m b) && (is_text_bit b || eqb (length (content s 0 m b)) (size b))) (may_stand b h e) (fit e)
+          ∙ and_from (bit (required k) b || bit (allowed k) b) (every (λ x. ltb x 256) (content s 0 m b) && (is_text_bit b || eqb (length (content s 0 m b)) (size b))) (may_stand b h e) (fit e)
       go false e =
           ap (shape_at k b) (if_false (bit m b) (Some (content s 0 m b)) None e)
           ∙ absent b e (bit (required k) b) refl
@@ -227,15 +224,15 @@ module _ (s : List ℕ) (w : Bytes s) (is : whole_message s ≡ true) where
   pub record_shaped : shaped k (field_at s) ≡ true
   unfolding shaped
   record_shaped =
-      both_hold (within 16 20 k) _ kind
-      (both_hold _ _ (all_intro (λ b. shape_at k b (field_at s b)) 32 shape_at_lem)
+      and_from (within 16 20 k) _ kind
+      (and_from _ _ (all_intro (λ b. shape_at k b (field_at s b)) 32 shape_at_lem)
       (paired_joined (field_at s) m (λ b h. stands b) k kind ∙ bits.1.1.1))
 
   module _ (in_range_lem : recordRanged s 0 ≡ true) where
     range_at_lem : (b : ℕ) → b < 32 → range_at b (field_at s b) ≡ true
     unfolding field_at recordRanged right_at name_in
     range_at_lem b h =
-        let r = both_true (all_below (right_at s 0 m) 32) (name_in m (text_of (content s 0 m 2))) in_range_lem in
+        let r = and_parts (all_below (right_at s 0 m) 32) (name_in m (text_of (content s 0 m 2))) in_range_lem in
         go (bit m b) refl (all_elim (right_at s 0 m) 32 r.0 b h) r.1
       where
         named : bit m b ≡ true → Dec (b ≡ 2) → (if bit m 2 then is_name (text_of (content s 0 m 2)) otherwise true) ≡ true → (not (eqb b 2) || is_name_of (content s 0 m b)) ≡ true
@@ -248,7 +245,7 @@ module _ (s : List ℕ) (w : Bytes s) (is : whole_message s ≡ true) where
             → range_at b (if bit m b then Some (content s 0 m b) otherwise None) ≡ true
         go true e i n =
             ap (range_at b) (if_true (bit m b) (Some (content s 0 m b)) None e)
-            ∙ both_hold (in_range (range b) (value b (content s 0 m b))) (not (eqb b 2) || is_name_of (content s 0 m b))
+            ∙ and_from (in_range (range b) (value b (content s 0 m b))) (not (eqb b 2) || is_name_of (content s 0 m b))
             (sym (if_true (bit m b) (in_range (range b) (value b (content s 0 m b))) true e) ∙ i) (named e (ℕ_discrete b 2) n)
         go false e i n = ap (range_at b) (if_false (bit m b) (Some (content s 0 m b)) None e)
 
@@ -270,5 +267,5 @@ pub is_writing_lem : (s : List ℕ) (n : Session) (room : ℕ) → Bytes s → s
 unfolding write_refusal is_writing typed
 is_writing_lem s n room w t e =
     let p = zero_parts (whole_message s) (recordRanged s 0) (texted (writing_of s n)) (ltb room (length (bytes_for (writing_of s n)))) e in
-    both_hold (typed (writing_of s n)) _ t (both_hold (shaped (kind_at s 0) (field_at s)) _ (record_shaped s w p.0)
-    (both_hold (ranged (field_at s)) (texted (writing_of s n)) (record_ranged s w p.0 p.1.0) p.1.1.0))
+    and_from (typed (writing_of s n)) _ t (and_from (shaped (kind_at s 0) (field_at s)) _ (record_shaped s w p.0)
+    (and_from (ranged (field_at s)) (texted (writing_of s n)) (record_ranged s w p.0 p.1.0) p.1.1.0))

@@ -1,10 +1,8 @@
 -- The promises of the FIX messages: what is written is read as the fields it was written with; 3 is given exactly for bytes that no writing
 -- yields; 9 is the length of the body and 10 the sum modulo 256. Rests on Again.
-use Rattle.std.specs.Prelude.{ℕ, ◌%◌, ◌<◌, ◌≡◌, Bool, true, false, ◌↔◌, ◌⊎◌, leb, length, None}
-use Rattle.std.proofs.Math.Path.{refl, ap}
-use Rattle.std.proofs.Common.{sym, ◌∙◌, inl, inr, ⊎_elim, arith}
-use mathlib.Core.List.{List, [], ◌∷◌, ◌++◌, append_assoc}
-use Rattle.prelude.specs.Cases.{split_if, if_true, if_false, both_true, both_hold}
+use Rattle.std.proofs.Common.{ℕ, ◌%◌, ◌<◌, ◌≡◌, Bool, true, false, ◌↔◌, ◌⊎◌, leb, length, None, refl, ap, sym, ◌∙◌, inl, inr, ⊎_elim, arith, List, [], ◌∷◌, ◌++◌, append_assoc}
+use Rattle.std.proofs.lemmas.Bool.{and_parts, and_from}
+use Rattle.prelude.specs.Cases.{split_if, if_true, if_false}
 use Rattle.prelude.specs.Below.{all_below, all_elim, all_intro}
 use Rattle.format.specs.Codes.{within}
 use Rattle.fix_words.specs.Lists.{every, same, is_print}
@@ -48,15 +46,15 @@ module _ (w : Writing) (yes-it-is : is_writing w ≡ true) where
   parts : (typed w ≡ true) × ((shaped k w.at ≡ true) × ((ranged w.at ≡ true) × (texted w ≡ true)))
   unfolding is_writing
   parts =
-      let a = both_true (typed w) _ yes-it-is in
-      let b = both_true (shaped k w.at) _ a.1 in
-      (a.0, (b.0, both_true (ranged w.at) (texted w) b.1))
+      let a = and_parts (typed w) _ yes-it-is in
+      let b = and_parts (shaped k w.at) _ a.1 in
+      (a.0, (b.0, and_parts (ranged w.at) (texted w) b.1))
 
   pub shapes : (within 16 20 k ≡ true) × ((all_below (λ b. shape_at k b (w.at b)) 32 ≡ true) × (paired k w.at ≡ true))
   unfolding shaped
   shapes =
-      let a = both_true (within 16 20 k) _ parts.1.0 in
-      (a.0, both_true (all_below (λ b. shape_at k b (w.at b)) 32) (paired k w.at) a.1)
+      let a = and_parts (within 16 20 k) _ parts.1.0 in
+      (a.0, and_parts (all_below (λ b. shape_at k b (w.at b)) 32) (paired k w.at) a.1)
 
   pub kind : within 16 20 k ≡ true
   kind = shapes.0
@@ -64,35 +62,35 @@ module _ (w : Writing) (yes-it-is : is_writing w ≡ true) where
   texts : (is_text w.sender ≡ true) × ((is_text w.target ≡ true) × ((is_text w.time ≡ true) × (all_below (λ b. text_at b (w.at b)) 32 ≡ true)))
   unfolding texted
   texts =
-      let a = both_true (is_text w.sender) _ parts.1.1.1 in
-      let b = both_true (is_text w.target) _ a.1 in
-      (a.0, (b.0, both_true (is_text w.time) _ b.1))
+      let a = and_parts (is_text w.sender) _ parts.1.1.1 in
+      let b = and_parts (is_text w.target) _ a.1 in
+      (a.0, (b.0, and_parts (is_text w.time) _ b.1))
 
   ok : (b : ℕ) → b < 32 → right k b (w.at b) ≡ true
   unfolding ranged
   ok b h =
-      both_hold _ _ (all_elim (λ b. shape_at k b (w.at b)) 32 shapes.1.0 b h)
-      (both_hold _ _ (all_elim (λ b. range_at b (w.at b)) 32 parts.1.1.0 b h) (all_elim (λ b. text_at b (w.at b)) 32 texts.1.1.1 b h))
+      and_from _ _ (all_elim (λ b. shape_at k b (w.at b)) 32 shapes.1.0 b h)
+      (and_from _ _ (all_elim (λ b. range_at b (w.at b)) 32 parts.1.1.0 b h) (all_elim (λ b. text_at b (w.at b)) 32 texts.1.1.1 b h))
 
   -- ---- its fields print, so its bytes are read as its fields
 
   inner_print : printable (inner w) ≡ true
   unfolding inner
   inner_print =
-      both_hold _ _ (type_print k kind)
-      (both_hold _ _ (text_print w.sender texts.0)
-      (both_hold _ _ (text_print w.target texts.1.0)
-      (both_hold _ _ (digits_print w.sequence)
-      (both_hold _ _ (text_print w.time texts.1.1.0)
+      and_from _ _ (type_print k kind)
+      (and_from _ _ (text_print w.sender texts.0)
+      (and_from _ _ (text_print w.target texts.1.0)
+      (and_from _ _ (digits_print w.sequence)
+      (and_from _ _ (text_print w.time texts.1.1.0)
       (body_prints (value_of k w.at) (stamp k w.time []) (rows k)
       (values_print k w.at kind ok shapes.1.1)
-      (split_if (λ fs. printable fs ≡ true) (leb 18 k) (λ e. both_hold _ _ (text_print w.time texts.1.1.0) refl) (λ e. refl)))))))
+      (split_if (λ fs. printable fs ≡ true) (leb 18 k) (λ e. and_from _ _ (text_print w.time texts.1.1.0) refl) (λ e. refl)))))))
 
   pub fields_print : printable (fields_of w) ≡ true
   unfolding fields_of framed front
   fields_print =
-      printable_append (front (inner w)) _ (both_hold _ _ refl (both_hold _ _ (digits_print (length (spellings (inner w)))) inner_print))
-      (both_hold _ _ (low_print 3 (sum (spellings (front (inner w))) % 256)) refl)
+      printable_append (front (inner w)) _ (and_from _ _ refl (and_from _ _ (digits_print (length (spellings (inner w)))) inner_print))
+      (and_from _ _ (low_print 3 (sum (spellings (front (inner w))) % 256)) refl)
 
   read_fields : fields_in (bytes_for w) ≡ fields_of w
   unfolding bytes_for
@@ -123,7 +121,7 @@ module _ (w : Writing) (yes-it-is : is_writing w ≡ true) where
   us_same : (b : ℕ) → in_rows (rows k) b ≡ true → us b ≡ value_of k w.at b
   us_same b i =
       let t = stamped k w.time last refl in
-      let a = both_true (all_apart (rows k) 60) (all_apart (rows k) 10) (rows_apart k kind) in
+      let a = and_parts (all_apart (rows k) 60) (all_apart (rows k) 10) (rows_apart k kind) in
       let e : body (rows k) (value_of k w.at) (stamp k w.time []) ++ (last ∷ []) ≡ body (rows k) (value_of k w.at) (field t.0 t.1 ∷ t.2) =
       body_append (value_of k w.at) (stamp k w.time []) (last ∷ []) (rows k) ∙ ap (body (rows k) (value_of k w.at)) t.3 in
       ap (λ (fs : List Field). value_in (rows k) fs b) e
@@ -141,16 +139,16 @@ module _ (w : Writing) (yes-it-is : is_writing w ≡ true) where
   again_writing : is_writing again ≡ true
   unfolding is_writing shaped ranged texted typed
   again_writing =
-      both_hold _ _ parts.0
-      (both_hold _ _
-      (both_hold _ _ kind
-      (both_hold _ _ (all_intro (λ b. shape_at k b (contents k us b)) 32 (λ b h. (both_true (shape_at k b (contents k us b)) _ (now_right b h)).0))
+      and_from _ _ parts.0
+      (and_from _ _
+      (and_from _ _ kind
+      (and_from _ _ (all_intro (λ b. shape_at k b (contents k us b)) 32 (λ b h. (and_parts (shape_at k b (contents k us b)) _ (now_right b h)).0))
       (again_paired k w.at kind ok shapes.1.1 us us_same us_none)))
-      (both_hold _ _
-      (all_intro (λ b. range_at b (contents k us b)) 32 (λ b h. (both_true (range_at b (contents k us b)) _ (both_true (shape_at k b (contents k us b)) _ (now_right b h)).1).0))
-      (both_hold _ _ texts.0 (both_hold _ _ texts.1.0 (both_hold _ _ texts.1.1.0
+      (and_from _ _
+      (all_intro (λ b. range_at b (contents k us b)) 32 (λ b h. (and_parts (range_at b (contents k us b)) _ (and_parts (shape_at k b (contents k us b)) _ (now_right b h)).1).0))
+      (and_from _ _ texts.0 (and_from _ _ texts.1.0 (and_from _ _ texts.1.1.0
       (all_intro (λ b. text_at b (contents k us b)) 32
-      (λ b h. (both_true (range_at b (contents k us b)) _ (both_true (shape_at k b (contents k us b)) _ (now_right b h)).1).1)))))))
+      (λ b h. (and_parts (range_at b (contents k us b)) _ (and_parts (shape_at k b (contents k us b)) _ (now_right b h)).1).1)))))))
 
   again_bytes : bytes_for again ≡ bytes_for w
   unfolding bytes_for fields_of inner
@@ -165,7 +163,7 @@ module _ (w : Writing) (yes-it-is : is_writing w ≡ true) where
   pub written_message : is_message (bytes_for w) ≡ true
   unfolding is_message
   written_message =
-      both_hold _ _ (ap is_writing loose ∙ again_writing)
+      and_from _ _ (ap is_writing loose ∙ again_writing)
       (ap (λ (s : List ℕ). same s (bytes_for w)) (ap bytes_for loose ∙ again_bytes) ∙ same_self (bytes_for w))
 
   -- ---- WHAT IS WRITTEN IS READ AS THE FIELDS THAT IT WAS WRITTEN WITH
@@ -188,7 +186,7 @@ refused_exactly s = (none_yields, refuses)
     refuses : ((w : Writing) → is_writing w ≡ true → bytes_for w ≡ s → ⊥) → (read_of s).refusal ≡ 3
     refuses n =
         split_if (λ (r : Read). r.refusal ≡ 3) (is_message s)
-        (λ e. let h = both_true (is_writing (loose_of (fields_in s))) _ e in absurd (n (loose_of (fields_in s)) h.0 (same_true _ s h.1)))
+        (λ e. let h = and_parts (is_writing (loose_of (fields_in s))) _ e in absurd (n (loose_of (fields_in s)) h.0 (same_true _ s h.1)))
         (λ e. refl)
 
 -- otherwise 0

@@ -3,8 +3,8 @@
 use Rattle.std.specs.Prelude.{ℕ, zero, suc, ◌≤◌, ◌<◌, ◌≡◌, refl, List, [], ◌∷◌, Bool, true, false, ◌&&◌, ◌||◌, eqb, leb, ltb, length, get_or, take, Option, None, Some}
 use Rattle.std.proofs.Common.{sym, ap, ◌∙◌, ⊎_elim, arith, eqb-true, ne_eqb, leb-true, ltb-true}
 use Rattle.std.proofs.Math.Decide.{ℕ_discrete}
-use Rattle.std.proofs.lemmas.Bool.{not-true}
-use Rattle.prelude.specs.Cases.{if◌then◌otherwise◌, if_true, if_false, maybe, clash, both_true, either_true, either_false}
+use Rattle.std.proofs.lemmas.Bool.{not-true, and_parts, or_cases, or_parts}
+use Rattle.prelude.specs.Cases.{if◌then◌otherwise◌, if_true, if_false, maybe, clash}
 use Rattle.prelude.specs.Below.{all_below, first_below, all_elim}
 use Rattle.prelude.specs.Number.{number, bytes_of, Bytes, bytes_number}
 use Rattle.bits.specs.Map.{bit}
@@ -22,21 +22,21 @@ use Rattle.fix_words.specs.Laws.Lists.{every_map, after_cut}
 
 pub every_bytes : (c : List ℕ) → every (λ x. ltb x 256) c ≡ true → Bytes c
 every_bytes [] e k = omega arith
-every_bytes (x ∷ c) e zero = ltb-true x 256 (both_true (ltb x 256) (every (λ y. ltb y 256) c) e).0
-every_bytes (x ∷ c) e (suc k) = every_bytes c (both_true (ltb x 256) (every (λ y. ltb y 256) c) e).1 k
+every_bytes (x ∷ c) e zero = ltb-true x 256 (and_parts (ltb x 256) (every (λ y. ltb y 256) c) e).0
+every_bytes (x ∷ c) e (suc k) = every_bytes c (and_parts (ltb x 256) (every (λ y. ltb y 256) c) e).1 k
 
 -- what the shape of a field says
 module _ (k b : ℕ) (c : List ℕ) (e : shape_at k b (Some c) ≡ true) where
   fit : (every (λ x. ltb x 256) c && (is_text_bit b || eqb (length c) (size b))) ≡ true
-  fit = (both_true (bit (required k) b || bit (allowed k) b) _ e).1
+  fit = (and_parts (bit (required k) b || bit (allowed k) b) _ e).1
 
   pub shape_bytes : Bytes c
-  shape_bytes = every_bytes c (both_true (every (λ x. ltb x 256) c) (is_text_bit b || eqb (length c) (size b)) fit).0
+  shape_bytes = every_bytes c (and_parts (every (λ x. ltb x 256) c) (is_text_bit b || eqb (length c) (size b)) fit).0
 
   pub shape_long : is_text_bit b ≡ false → length c ≡ size b
   shape_long t =
       ⊎_elim (λ q. clash (is_text_bit b) q t) (λ q. eqb-true (length c) (size b) q)
-      (either_true (is_text_bit b) (eqb (length c) (size b)) (both_true (every (λ x. ltb x 256) c) (is_text_bit b || eqb (length c) (size b)) fit).1)
+      (or_cases (is_text_bit b) (eqb (length c) (size b)) (and_parts (every (λ x. ltb x 256) c) (is_text_bit b || eqb (length c) (size b)) fit).1)
 
   -- the bytes of the number that it is
   pub shape_number : is_text_bit b ≡ false → bytes_of (size b) (number c) ≡ c
@@ -46,7 +46,7 @@ module _ (k b : ℕ) (c : List ℕ) (e : shape_at k b (Some c) ≡ true) where
 
 not_text : (b : ℕ) → is_plain b ≡ false → is_text_bit b ≡ false
 unfolding is_plain
-not_text b f = (either_false (is_text_bit b) _ f).0
+not_text b f = (or_parts (is_text_bit b) _ f).0
 
 unspelled_back : (k b : ℕ) (c : List ℕ) → shape_at k b (Some c) ≡ true → unspelled b (spelling b c) ≡ c
 unfolding unspelled spelling
@@ -70,7 +70,7 @@ held_plain k b (Some c) x y z e = rw (x, y, z) (ap {B = Option (List ℕ)} Some 
 
 pub held_name : (o : Option (List ℕ)) → range_at 2 o ≡ true → unless_none o ≡ o
 held_name None e = refl
-held_name (Some c) e = if_false (same c none_word) _ _ (not-true _ (both_true (every is_alnum c) _ (both_true (in_range (range 2) (value 2 c)) _ e).1).1)
+held_name (Some c) e = if_false (same c none_word) _ _ (not-true _ (and_parts (every is_alnum c) _ (and_parts (in_range (range 2) (value 2 c)) _ e).1).1)
 
 pub held_none : (o : Option (List ℕ)) → range_at 2 o ≡ true → unless_none (Some (or_else none_word o)) ≡ o
 unfolding if◌then◌otherwise◌
@@ -89,7 +89,7 @@ alnum_point c e = go (ℕ_discrete c 46)
 
 name_point : (o : Option (List ℕ)) → range_at 2 o ≡ true → every (is_not 46) (or_else [] o) ≡ true
 name_point None e = refl
-name_point (Some c) e = every_map is_alnum (is_not 46) alnum_point c (both_true (every is_alnum c) _ (both_true (in_range (range 2) (value 2 c)) _ e).1).0
+name_point (Some c) e = every_map is_alnum (is_not 46) alnum_point c (and_parts (every is_alnum c) _ (and_parts (in_range (range 2) (value 2 c)) _ e).1).0
 
 pub held_exec : (k : ℕ) (name o : Option (List ℕ)) → range_at 2 name ≡ true → shape_at k 25 o ≡ true → held_in 25 (over (exec_id name) o) ≡ o
 unfolding held_in if◌then◌otherwise◌ size fields
@@ -119,7 +119,7 @@ unfolding held_in if◌then◌otherwise◌ size range fields in_range value
 held_words k None e r = refl
 held_words k (Some c) e r =
     let l : length c ≡ 1 = shape_long k 27 c e refl in
-    let w : within 1 18 (number (take 8 c)) ≡ true = (both_true (within 1 18 (number (take 8 c))) _ r).0 in
-    let m : number (take 8 c) ≤ 18 = leb-true _ 18 (both_true (leb 1 (number (take 8 c))) (leb (number (take 8 c)) 18) w).1 in
+    let w : within 1 18 (number (take 8 c)) ≡ true = (and_parts (within 1 18 (number (take 8 c))) _ r).0 in
+    let m : number (take 8 c) ≤ 18 = leb-true _ 18 (and_parts (leb 1 (number (take 8 c))) (leb (number (take 8 c)) 18) w).1 in
     ap {B = Option (List ℕ)} Some
     (ap (λ (n : ℕ). n ∷ []) (word_back (get_or c 0 0) (omega (arith, number_one c l))) ∙ sym (one_byte c l))

@@ -1,14 +1,10 @@
 -- One law for every table: what a row wrote is found again, if no row that may be missing shares its tag with what can follow it.
 -- Rests on Rows.
-use Rattle.std.specs.Prelude.{ℕ, ◌≡◌, Bool, ◌&&◌, ◌||◌, Option, None, Some}
-use Rattle.std.proofs.Math.Path.{refl, sym, ap}
-use Rattle.std.proofs.Common.{◌∙◌}
-use mathlib.Core.List.{List, [], ◌∷◌, ◌++◌}
-use Rattle.std.proofs.Math.Bool.{true, false, not}
-use Rattle.std.proofs.Math.Logic.{⊎_elim}
-use borrow.Author.Tests.{eqb-true, eq-eqb, not-true}
-use Rattle.std.proofs.Math.Dec.{eqb}
-use Rattle.prelude.specs.Cases.{if◌then◌otherwise◌, split_if, if_true, if_false, is_some, clash, both_true, both_hold, either_true, either_false}
+use Rattle.std.specs.Prelude.{ℕ, ◌≡◌, Bool, ◌&&◌, ◌||◌, Option, None, Some, refl, List, [], ◌∷◌, ◌++◌, true, false, not, eqb}
+use Rattle.std.proofs.Common.{sym, ap, ◌∙◌, ⊎_elim, eqb-true, eq-eqb}
+use Rattle.std.proofs.lemmas.Bool.{not-true, and_parts, and_from, or_cases, or_parts}
+use Rattle.std.specs.Option.{is_some}
+use Rattle.prelude.specs.Cases.{if◌then◌otherwise◌, split_if, if_true, if_false, clash}
 use Rattle.fix_words.specs.Lists.{every, is_print}
 use Rattle.fix_words.specs.Spelling.{Field, field, printable}
 use Rattle.fix_words.specs.Rows.{Row, Values, field_of, body, leads, first, rest, value_in, in_rows}
@@ -48,22 +44,22 @@ module _ (vs : Values) (last : ℕ) (w : List ℕ) (fs : List Field) where
   unfolding body
   leads_apart t [] a s = not-true (eqb t last) a
   leads_apart t (r ∷ rows) a s =
-      let h = both_true (not (eqb t r.tag)) (r.must || apart t rows last) a in
-      let g = both_true (not r.must || is_some (vs r.bit)) (stand rows vs) s in
+      let h = and_parts (not (eqb t r.tag)) (r.must || apart t rows last) a in
+      let g = and_parts (not r.must || is_some (vs r.bit)) (stand rows vs) s in
       go (vs r.bit) h.0 g.0 h.1 (λ m. leads_apart t rows m g.1)
     where
       go : (o : Option (List ℕ)) → not (eqb t r.tag) ≡ true → (not r.must || is_some o) ≡ true → (r.must || apart t rows last) ≡ true
           → (apart t rows last ≡ true → leads t (body rows vs behind) ≡ false) → leads t (field_of r.tag o (body rows vs behind)) ≡ false
       go (Some v) p q c later = not-true (eqb t r.tag) p
-      go None p q c later = ⊎_elim (λ m. clash r.must m (missing r.must q)) later (either_true r.must (apart t rows last) c)
+      go None p q c later = ⊎_elim (λ m. clash r.must m (missing r.must q)) later (or_cases r.must (apart t rows last) c)
 
   pub value_back : (rows : List Row) → all_apart rows last ≡ true → stand rows vs ≡ true → (b : ℕ) → in_rows rows b ≡ true
       → value_in rows (body rows vs behind) b ≡ vs b
   unfolding body value_in
   value_back [] a s b i = clash false i refl
   value_back (r ∷ rows) a s b i =
-      let h = both_true (r.must || apart r.tag rows last) (all_apart rows last) a in
-      let g = both_true (not r.must || is_some (vs r.bit)) (stand rows vs) s in
+      let h = and_parts (r.must || apart r.tag rows last) (all_apart rows last) a in
+      let g = and_parts (not r.must || is_some (vs r.bit)) (stand rows vs) s in
       go (vs r.bit) refl h.0 g.0 g.1 (value_back rows h.1 g.1 b)
     where
       at : (o : Option (List ℕ)) → vs r.bit ≡ o → (in_rows rows b ≡ true → value_in rows (body rows vs behind) b ≡ vs b)
@@ -71,14 +67,14 @@ module _ (vs : Values) (last : ℕ) (w : List ℕ) (fs : List Field) where
       at o z later true e = if_true (eqb r.bit b) _ _ e ∙ sym z ∙ ap vs (eqb-true r.bit b e)
       at o z later false e =
           if_false (eqb r.bit b) _ _ e
-          ∙ later (⊎_elim (λ q. clash (eqb r.bit b) q e) (λ q. q) (either_true (eqb r.bit b) (in_rows rows b) i))
+          ∙ later (⊎_elim (λ q. clash (eqb r.bit b) q e) (λ q. q) (or_cases (eqb r.bit b) (in_rows rows b) i))
 
       go : (o : Option (List ℕ)) → vs r.bit ≡ o → (r.must || apart r.tag rows last) ≡ true → (not r.must || is_some o) ≡ true → stand rows vs ≡ true
           → (in_rows rows b ≡ true → value_in rows (body rows vs behind) b ≡ vs b) → value_in (r ∷ rows) (field_of r.tag o (body rows vs behind)) b ≡ vs b
       go (Some v) z p q d later = if_true (eqb r.tag r.tag) _ _ (eq-eqb r.tag r.tag refl) ∙ at (Some v) z later (eqb r.bit b) refl
       go None z p q d later =
           let l : leads r.tag (body rows vs behind) ≡ false =
-          ⊎_elim (λ m. clash r.must m (missing r.must q)) (λ m. leads_apart r.tag rows m d) (either_true r.must (apart r.tag rows last) p) in
+          ⊎_elim (λ m. clash r.must m (missing r.must q)) (λ m. leads_apart r.tag rows m d) (or_cases r.must (apart r.tag rows last) p) in
           if_false (leads r.tag (body rows vs behind)) _ _ l ∙ at None z later (eqb r.bit b) refl
 
 -- the body asks only the bits of its rows
@@ -104,7 +100,7 @@ body_prints vs fs (r ∷ rows) h p =
   where
     go : (o : Option (List ℕ)) → prints o ≡ true → printable (body rows vs fs) ≡ true → printable (field_of r.tag o (body rows vs fs)) ≡ true
     go None q i = i
-    go (Some v) q i = both_hold _ _ q i
+    go (Some v) q i = and_from _ _ q i
 
 pub body_append : (vs : Values) (fs gs : List Field) (rows : List Row) → body rows vs fs ++ gs ≡ body rows vs (fs ++ gs)
 unfolding body
@@ -121,7 +117,7 @@ pub value_none : (rows : List Row) (fs : List Field) (b : ℕ) → in_rows rows 
 unfolding value_in
 value_none [] fs b e = refl
 value_none (r ∷ rows) fs b e =
-    let h = either_false (eqb r.bit b) (in_rows rows b) e in
+    let h = or_parts (eqb r.bit b) (in_rows rows b) e in
     split_if (λ (o : Option (List ℕ)). o ≡ None) (leads r.tag fs)
     (λ l. if_false (eqb r.bit b) (first fs) (value_in rows (rest fs) b) h.0 ∙ value_none rows (rest fs) b h.1)
     (λ l. if_false (eqb r.bit b) None (value_in rows fs b) h.0 ∙ value_none rows fs b h.1)

@@ -1,6 +1,5 @@
 -- `format::name_ok`: the length, then the bytes, then NONE. Rests on Laws.Codes.
-use Rattle.std.specs.Prelude.{◌≡◌, ℕ, take}
-use Rattle.std.proofs.Common.{rules, sym, ap, ◌∙◌, arith, le-leb}
+use Rattle.std.proofs.Common.{◌≡◌, ℕ, take, rules, sym, ap, ◌∙◌, arith, le-leb}
 use Rattle.std.proofs.lemmas.Bool.Decides.{nat_tests}
 use Rattle.std.proofs.lemmas.Iterator.{YieldsList-from_slice}
 use Rattle.std.proofs.lemmas.Iterator.Search.{all_from_yields_List}

@@ -1,6 +1,5 @@
 -- `format::required_of` is the table, computed for each byte. Assumes nothing.
-use Rattle.std.specs.Prelude.{ℕ, List, [], ◌∷◌}
-use Rattle.std.proofs.Common.{rules, refl, ◌∙◌}
+use Rattle.std.proofs.Common.{ℕ, List, [], ◌∷◌, rules, refl, ◌∙◌}
 use Rattle.prelude.specs.Below.{all_below}
 use Rattle.format.specs.Format.{required, required_bits}
 use Rattle.format.specs.Laws.Format.{at_each}

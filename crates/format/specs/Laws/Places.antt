@@ -1,10 +1,7 @@
 -- Laws of the places of fields. Rests on Places.
-use Rattle.std.specs.Prelude.{ℕ, suc, ◌+◌, ◌-◌, ◌≤◌, ◌≡◌, refl, true, false, take}
-use Rattle.std.proofs.Math.Path.{ap}
-use Rattle.std.proofs.Common.{◌∙◌, le_refl, arith, length-drop}
-use mathlib.Core.List.{List, []}
+use Rattle.std.specs.Prelude.{ℕ, suc, ◌+◌, ◌-◌, ◌≤◌, ◌≡◌, refl, true, false, take, List, [], length}
+use Rattle.std.proofs.Common.{ap, ◌∙◌, le_refl, arith, length-drop}
 use Rattle.std.proofs.Math.Decide.{le_ind}
-use Rattle.std.proofs.Math.ListN.{length}
 use Rattle.prelude.specs.Cases.{if◌then◌otherwise◌, split_if, if_true, if_false}
 use Rattle.prelude.specs.Span.{span_none, length_span}
 use Rattle.prelude.specs.Number.{number}

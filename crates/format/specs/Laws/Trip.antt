@@ -1,15 +1,9 @@
 -- What is written is read as it was, field by field, whatever the table says; and fields that were read are what stands there.
 -- Rests on Wire and Laws.
-use Prim.Native.Nat.{ℕ, zero, suc, ◌≤◌, ◌<◌, ◌+◌, ◌-◌}
-use Rattle.std.specs.Prelude.{◌≡◌, Bool}
-use Rattle.std.proofs.Math.Path.{refl}
-use Rattle.std.proofs.Common.{ap, sym, ◌∙◌}
-use mathlib.Core.List.{List, [], ◌++◌, append_assoc, append-nil}
-use Rattle.std.proofs.Math.Bool.{true, false}
-use Rattle.std.proofs.Math.ListN.{length, length-append}
-use Rattle.std.proofs.Math.Seq.{get_or-append_seam, drop-append_seam, take-append_seam}
-use native.Mathlib.Omega.{arith}
+use Rattle.std.specs.Prelude.{ℕ, zero, suc, ◌≤◌, ◌<◌, ◌+◌, ◌-◌, ◌≡◌, Bool, refl, List, [], ◌++◌, true, false, length}
+use Rattle.std.proofs.Common.{ap, sym, ◌∙◌, append_assoc, append-nil, length-append, arith}
 use Rattle.std.proofs.Math.Decide.{le_ind}
+use Rattle.std.proofs.Math.Seq.{get_or-append_seam, drop-append_seam, take-append_seam}
 use Rattle.prelude.specs.Cases.{if◌then◌otherwise◌}
 use Rattle.prelude.specs.Span.{span, span_none, span_join}
 use Rattle.bits.specs.Map.{bit}

@@ -1,20 +1,18 @@
 -- The entries case by case, as the code comes to them. Rests on step's Entries.
-use Prim.Native.Nat.{ℕ}
-use Rattle.std.specs.Prelude.{◌≡◌, Bool, ◌&&◌, leb, length}
-use Rattle.std.proofs.Math.Path.{refl, sym, ap, ap₂}
-use Rattle.std.proofs.Common.{subst, ◌∙◌, eqb-true, eq-eqb, ne_eqb}
-use Rattle.std.proofs.Math.Bool.{true, false}
-use mathlib.Core.List.{List}
-use Rattle.std.proofs.Math.Dec.{eqb}
+use Rattle.std.specs.Prelude.{ℕ, ◌≡◌, Bool, ◌&&◌, leb, length, refl, true, false, List, eqb}
+use Rattle.std.proofs.Common.{sym, ap, ap₂, subst, ◌∙◌, eqb-true, eq-eqb, ne_eqb}
 use Rattle.std.proofs.lemmas.Bool.{eqb-false}
 use Rattle.prelude.specs.Cases.{if◌then◌otherwise◌, if_true, if_false}
 use Rattle.prelude.specs.Span.{splice}
+use Rattle.prelude.specs.declared.Refusal.{Refusal}
+use Rattle.prelude.specs.Refusal.{number_of}
 use Rattle.records.specs.Record.{event_in}
 use Rattle.records.specs.Answer.{answer_bytes, chosen}
 use Rattle.store.specs.Layout.{book_size}
 use Rattle.store.specs.Book.{book_of, store_open, clear_book}
 use Rattle.machine.specs.declared.Requests.{Requests}
 use Rattle.machine.specs.declared.Change.{Change}
+use Rattle.machine.specs.Changes.{refusing}
 use Rattle.machine.specs.Orders.{leaves_qty}
 use Rattle.machine.specs.Machine.{after, step_of}
 use Rattle.machine.specs.History.{messages_of}
@@ -26,6 +24,7 @@ use Rattle.opens.specs.Laws.Keeps.{keeps_held}
 use Rattle.opens.specs.Laws.Moved.{SameClients, step_clients, opening_is}
 use Rattle.step.specs.Entries.{place_order, mark_link, place_requests, place_open, tables_with, book_with, call_of, outcome, event_of, start_of, start_refusal}
 use Rattle.step.specs.Laws.Asked.{room_enough, taken_step}
+use Rattle.step.specs.Laws.Taken.{numbered}
 
 -- ---- event
 
@@ -102,6 +101,11 @@ module _ (b r a : List ℕ) where
         q ∙ placed_by placed (outcome_in r) origin settles from c.requests s f ∙ ap (λ (y : List ℕ). place_requests y (outcome_in r) origin c.requests) p in
         let whole : book ≡ place_open tables (after (book_of b) c) c.place c.order.client = o ∙ opened_is e w is tables in
         ap₂ (outcome 0) (whole ∙ ap (λ (y : List ℕ). place_open y (after (book_of b) c) c.place c.order.client) placing) (u ∙ if_true _ _ _ (long e)) ∙ left_taken e
+
+  -- a refusal as the code has it, by its number
+  pub left_err : (q : Refusal) (n : ℕ) → refusing (number_of q) ≡ call_of b r (length a) → n ≡ number_of q → Leaves n b a
+  unfolding refusing
+  left_err q n h e = rw e (left_refused (refusing (number_of q)) h (numbered q))
 
 -- ---- start
 

@@ -1,8 +1,5 @@
 -- Demand 3 of a book in some other form, as bytes are: what the machine does, the form does. Rests on Start and Net.
-use Prim.Native.Nat.{ℕ}
-use mathlib.Core.Path.{◌≡◌, refl, sym, ap, ◌∙◌, subst}
-use mathlib.Core.Bool.{true}
-use mathlib.Core.List.{List, [], ◌∷◌, ◌++◌}
+use Rattle.std.proofs.Common.{ℕ, ◌≡◌, refl, sym, ap, ◌∙◌, subst, true, List, [], ◌∷◌, ◌++◌}
 use Rattle.store.specs.Book.{Book}
 use Rattle.machine.specs.Rules.{rules}
 use Rattle.machine.specs.History.{Decoded, Entry, State, start, next, run, Kinds, start_from}

@@ -1,14 +1,8 @@
 -- The shape of each of the nine events. Rests on Steps.
-use Prim.Native.Nat.{ℕ, ◌+◌, ◌≤◌, ◌<◌}
-use native.Mathlib.Omega.{arith}
-use mathlib.Core.Path.{◌≡◌, refl, sym, ap, ◌∙◌}
-use mathlib.Core.Logic.{◌⊎◌, inl, inr}
-use mathlib.Core.Bool.{Bool, true, false, not, ◌&&◌}
-use Rattle.std.specs.Prelude.{Some}
-use lib.Dec.{eqb}
-use lib.ListN.{length}
-use borrow.Author.Tests.{eq-eqb, ne_eqb}
-use Rattle.prelude.specs.Cases.{if◌then◌otherwise◌, maybe, clash, both_hold, both_false, maybe_some, true_or_false}
+use Rattle.std.proofs.Common.{ℕ, ◌+◌, ◌≤◌, ◌<◌, arith, ◌≡◌, refl, sym, ap, ◌∙◌, ◌⊎◌, inl, inr, Bool, true, false, not, ◌&&◌, Some, eqb, length, eq-eqb, ne_eqb}
+use Rattle.std.proofs.Math.Bool.{and-false}
+use Rattle.std.proofs.lemmas.Bool.{and_from, cases_Bool}
+use Rattle.prelude.specs.Cases.{if◌then◌otherwise◌, maybe, clash, maybe_some}
 use Rattle.store.specs.declared.GatewayCancel.{GatewayCancel}
 use Rattle.store.specs.declared.Order.{Order}
 use Rattle.store.specs.Book.{Book, order_in, request_in}
@@ -93,7 +87,7 @@ module _ (b : Book) (r : Ruled b) (e : Event) (above : 0 < e.kind) (below : e.ki
     stays_shaped z {y} {j} {s} n (s₀, a) g = record {
       alone = λ j n. asks_none b e n₉ j;
       spares = λ y. (s₀, λ x p. ap (λ (n : ℕ). (request_in b n).order) (sym (only x p a)));
-      shape = idle (asks_none b e n₉ _) n.1.silent (inl refl) (λ hg. let (x, t, u) = n.0.gate hg in (x, t, λ y x p. calm_one x p hg (true_or_false (is_gateway (request_in b k)))));
+      shape = idle (asks_none b e n₉ _) n.1.silent (inl refl) (λ hg. let (x, t, u) = n.0.gate hg in (x, t, λ y x p. calm_one x p hg (cases_Bool (is_gateway (request_in b k)))));
     }
       where
         only : (x : ℕ) → j ≡ x + 1 → (j ≡ 0) ⊎ (j ≡ k + 1) → k ≡ x
@@ -137,10 +131,7 @@ module _ (b : Book) (r : Ruled b) (e : Event) (above : 0 < e.kind) (below : e.ki
         clash _ h (done_none (requests_order b k) (order_ruled b r (request_in b k).order (request_ruled b r k (found_request b e.ids.downstream k w)).placed).done y)
       where
         done! : (x y v : Bool) → x ≡ false → v ≡ true → not x && not y && v && true ≡ false → y ≡ true
-        done! false true v p q h = refl
-        done! false false true p q h = clash true refl h
-        done! false false false p q h = clash false q refl
-        done! true y v p q h = clash true refl p
+        done! x y v p q h = grind arith
 
     made_shaped : {c c' : Change} → MadeBy (findings_of b (order_link b k)) (k + 1) (request_in b k) (requests_order b k) e c c' → Shaped b e (request_in b k).order c
     made_shaped (stays (fails z l)) = failed_shaped z l
@@ -161,11 +152,11 @@ module _ (b : Book) (r : Ruled b) (e : Event) (above : 0 < e.kind) (below : e.ki
   not_started : (i : ℕ) → (is_done (order_in b i).state.status ≡ true) ⊎ (gateway_cancel_in_flight (findings_of b (i + 1)) (order_in b i) ≡ true) → starts b i ≡ false
   unfolding starts
   not_started i (inl d) = ap (λ (x : Bool). not x && not (gateway_cancel_in_flight (findings_of b (i + 1)) (order_in b i))) d
-  not_started i (inr g) = ap (λ (x : Bool). not (is_done (order_in b i).state.status) && not x) g ∙ both_false (not (is_done (order_in b i).state.status))
+  not_started i (inr g) = ap (λ (x : Bool). not (is_done (order_in b i).state.status) && not x) g ∙ and-false (not (is_done (order_in b i).state.status))
 
   started : (i : ℕ) → is_done (order_in b i).state.status ≡ false → gateway_cancel_in_flight (findings_of b (i + 1)) (order_in b i) ≡ false → starts b i ≡ true
   unfolding starts
-  started i d g = both_hold _ _ (ap not d) (ap not g)
+  started i d g = and_from _ _ (ap not d) (ap not g)
 
   asked_shaped : e.kind ≡ 9 → (i : ℕ) (w : find_name b e.ids.name ≡ Some i) {c c' : Change} → AskedBy (findings_of b (i + 1)) (order_in b i) c c' → Shaped b e i c
   asked_shaped z i w s = record {

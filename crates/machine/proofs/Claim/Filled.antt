@@ -1,18 +1,11 @@
 -- The first three parts of demand 3, call by call: what was told and filled, the quantity ordered, and a done status. Rests on Walk and Moves.
-use Prim.Native.Nat.{ℕ, ◌+◌, ◌-◌, ◌≤◌, ◌<◌}
-use native.Mathlib.Decide.{ℕ_discrete, dec_lt}
-use native.Mathlib.Omega.{arith}
-use mathlib.Core.Path.{◌≡◌, refl, sym, ap, ◌∙◌, subst}
-use mathlib.Core.Logic.{◌⊎◌, inl, inr}
-use mathlib.Core.Bool.{Bool, true, false}
-use Rattle.std.specs.Prelude.{Option, None, Some}
-use mathlib.Core.List.{List, [], ◌∷◌, ◌++◌}
-use lib.Dec.{eqb}
-use lib.ListN.{length, get_or, set, length-append, length-set, get_or-append}
-use lib.Seq.{get_or_at, get_or-set_same, get_or-set_other}
-use borrow.Author.Tests.{leb-true, eqb-true, eq-eqb, ne_eqb, le-leb, lt-leb}
+use Rattle.std.proofs.Common.{ℕ, ◌+◌, ◌-◌, ◌≤◌, ◌<◌, arith, ◌≡◌, refl, sym, ap, ◌∙◌, subst, ◌⊎◌, inl, inr, Bool, true, false, Option, None, Some, List, [], ◌∷◌, ◌++◌, eqb, length, get_or, set, length-append, length-set, get_or-set_same, get_or-set_other, leb-true, eqb-true, eq-eqb, ne_eqb, le-leb}
+use Rattle.std.proofs.Math.Decide.{ℕ_discrete, dec_lt}
+use Rattle.std.proofs.Math.ListN.{get_or-append}
+use Rattle.std.proofs.Math.Seq.{get_or_at}
+use Rattle.std.proofs.lemmas.Bool.{lt-leb, cases_Bool}
 use Rattle.prelude.specs.Below.{first_some, first_hit, first_ext, First}
-use Rattle.prelude.specs.Cases.{if◌then◌otherwise◌, maybe, split_if, if_true, if_false, true_or_false, none_some}
+use Rattle.prelude.specs.Cases.{if◌then◌otherwise◌, maybe, split_if, if_true, if_false, none_some}
 use Rattle.prelude.specs.Texts.{same_text}
 use Rattle.prelude.specs.Totals.{total_of, Every, every[], every∷, total_append, total_set, every_map}
 use Rattle.prelude.specs.declared.Text.{Text}
@@ -35,13 +28,13 @@ use Rattle.machine.proofs.Claim.Walk.{booking, Did, Roomy, turned_away, no_order
 
 -- ---- every handler moves its order
 
+pub findings_place : (b : Book) (p : ℕ) → (findings_of b p).place ≡ p
+unfolding findings_of
+findings_place b p = refl
+
 module _ (b : Book) (e : Event) where
   unfoldable pub Moved : ℕ → Change → Type 0
   Moved i c = Moves 2 (i + 1) (order_in b i) c
-
-  findings_place : (p : ℕ) → (findings_of b p).place ≡ p
-  unfolding findings_of
-  findings_place p = refl
 
   moved : (i : ℕ) (c : Change) → (eqb c.refusal 0 ≡ false) ⊎ Moves 2 (findings_of b (i + 1)).place (order_in b i) c → Either (Moved i c) c
   unfolding Either Moved findings_of
@@ -254,7 +247,7 @@ module _ (b : Book) (e : Event) where
       (booked_none b e)))
 
 refusing_advances : (b : Book) (i : Decoded) (n : ℕ) → Advances b (line_of b i (refusing n)).messages (line_of b i (refusing n)).left
-refusing_advances b i n = go (true_or_false (eqb n 0))
+refusing_advances b i n = go (cases_Bool (eqb n 0))
   where
     go : (eqb n 0 ≡ true) ⊎ (eqb n 0 ≡ false) → Advances b (line_of b i (refusing n)).messages (line_of b i (refusing n)).left
     go (inl z) =

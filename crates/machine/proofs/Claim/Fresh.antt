@@ -1,16 +1,8 @@
 -- An order's next downstream ClOrdID is no request's yet. Rests on Ruled and the laws of numbered texts.
-use Prim.Native.Nat.{ℕ, zero, suc, ◌+◌, ◌≤◌, ◌<◌}
-use native.Mathlib.Nat.{eq-or-lt_of_le, le_of_suc-le-suc}
-use native.Mathlib.Omega.{arith}
-use mathlib.Core.Path.{◌≡◌, refl, ap, subst}
-use mathlib.Core.Logic.{◌⊎◌, inl, inr, ⊎_elim}
-use mathlib.Core.Bool.{Bool, true, false}
-use Rattle.std.specs.Prelude.{Option, None, Some}
-use lib.Dec.{eqb}
-use lib.ListN.{length}
-use borrow.Author.Tests.{eqb-true, eqb-false, eq-eqb}
+use Rattle.std.proofs.Common.{ℕ, zero, suc, ◌+◌, ◌≤◌, ◌<◌, eq-or-lt_of_le, le_of_suc-le-suc, arith, ◌≡◌, refl, ap, subst, ◌⊎◌, inl, inr, ⊎_elim, Bool, true, false, Option, None, Some, eqb, length, eqb-true, eq-eqb}
+use Rattle.std.proofs.lemmas.Bool.{eqb-false, cases_Bool}
 use Rattle.prelude.specs.Below.{count_below, count_hit, count_le}
-use Rattle.prelude.specs.Cases.{clash, if_true, if_false, true_or_false}
+use Rattle.prelude.specs.Cases.{clash, if_true, if_false}
 use Rattle.prelude.specs.Texts.{same_text, same_back, same_trans}
 use Rattle.prelude.specs.declared.Text.{Text}
 use Rattle.text.specs.Numbered.{numbered_text}
@@ -84,7 +76,7 @@ module _ (laws : NumberedLaws) (b : Book) (r : Ruled b) (i : ℕ) (h : i < lengt
       let same : same_text (name_number (order_in b (request_in b k).order).names.name n) (numbered_text (order_in b i).names.name (a + 1)) ≡ true =
       same_trans _ (request_in b k).downstream _ (same_back _ _ q.numbered)
       (subst (λ (t : Text). same_text (request_in b k).downstream t ≡ true) (next_text b i (omega arith)) (found_text b (next_downstream (order_in b i)) k w)) in
-      go o.named o'.named (numbered_below b k _ l o'.amendments) q.placed small least same (true_or_false (eqb n 0))
+      go o.named o'.named (numbered_below b k _ l o'.amendments) q.placed small least same (cases_Bool (eqb n 0))
     where
       go : name_range (order_in b i).names.name ≡ true → name_range (order_in b (request_in b k).order).names.name ≡ true
           → number_in b.requests k ≤ (order_in b (request_in b k).order).links.amendments → (request_in b k).order < length b.orders

@@ -1,15 +1,7 @@
 -- The image, as the history since it begins: each gateway cancel that it holds has its record, and each once. Rests on Turn and the book's rules.
-use Prim.Native.Nat.{ℕ, zero, suc, ◌<◌}
-use native.Mathlib.Nat.{not-suc-le-zero, le_of_suc-le-suc}
-use native.Mathlib.Omega.{arith}
-use mathlib.Core.Path.{◌≡◌, refl, ap, ◌∙◌}
-use mathlib.Core.Logic.{◌⊎◌, inl, inr}
-use mathlib.Core.Bool.{Bool, true, false, ◌||◌}
-use Rattle.std.specs.Prelude.{Option, None, Some}
-use mathlib.Core.List.{List, [], ◌∷◌}
-use lib.ListN.{length, get_or}
-use borrow.Author.Tests.{eqb-true, eq-eqb}
-use Rattle.prelude.specs.Cases.{if◌then◌otherwise◌, maybe, split_if, clash, both_true, both_hold, either_true, if_true, if_false, maybe_some}
+use Rattle.std.proofs.Common.{ℕ, zero, suc, ◌<◌, not-suc-le-zero, le_of_suc-le-suc, arith, ◌≡◌, refl, ap, ◌∙◌, ◌⊎◌, inl, inr, Bool, true, false, ◌||◌, Option, None, Some, List, [], ◌∷◌, length, get_or, eqb-true, eq-eqb}
+use Rattle.std.proofs.lemmas.Bool.{and_parts, and_from, or_cases, or_right, false_from_ne_true}
+use Rattle.prelude.specs.Cases.{if◌then◌otherwise◌, maybe, split_if, clash, if_true, if_false, maybe_some}
 use Rattle.prelude.specs.Texts.{same_text, same_back}
 use Rattle.prelude.specs.Totals.{how_many}
 use Rattle.prelude.specs.declared.Text.{Text}
@@ -19,7 +11,6 @@ use Rattle.store.specs.Requests.{no_request}
 use Rattle.store.specs.Finds.{find_downstream}
 use Rattle.machine.specs.Claim.{holds, failed}
 use Rattle.machine.specs.Since.{is_held, downstreams}
-use Rattle.machine.proofs.Kept.Laws.{or_right, untrue}
 use Rattle.machine.proofs.Kept.Lift.{BookKept}
 use Rattle.machine.proofs.Kept.Consequences.{downstreams_apart, found_downstream}
 use Rattle.machine.proofs.Claim.Walk.{found_request, found_text}
@@ -46,7 +37,7 @@ module _ (p : Request → Bool) where
 
       go : (x : Bool) → p q ≡ x → holds d (if x then q.downstream ∷ downstreams p qs otherwise downstreams p qs) ≡ true → (holds d (downstreams p qs) ≡ true → Place d qs) → Place d (q ∷ qs)
       go false e h r = later (r (unfold if◌then◌otherwise◌ in h))
-      go true e h r = first (either_true (same_text d q.downstream) (holds d (downstreams p qs)) (unfold if◌then◌otherwise◌ in h))
+      go true e h r = first (or_cases (same_text d q.downstream) (holds d (downstreams p qs)) (unfold if◌then◌otherwise◌ in h))
         where
           first : (same_text d q.downstream ≡ true) ⊎ (holds d (downstreams p qs) ≡ true) → Place d (q ∷ qs)
           first (inl s) = record { at = 0; below = omega arith; passes = e; same = s }
@@ -58,7 +49,7 @@ module _ (p : Request → Bool) where
   in_place d (q ∷ qs) zero l a s = ap (holds d) (if_true _ _ _ a) ∙ holds_self d q.downstream (downstreams p qs) s
   in_place d (q ∷ qs) (suc k) l a s =
       let r : holds d (downstreams p qs) ≡ true = in_place d qs k (le_of_suc-le-suc l) a s in
-      split_if (λ (x : List Text). holds d x ≡ true) (p q) (λ e. or_right (same_text d q.downstream) r) (λ e. r)
+      split_if (λ (x : List Text). holds d x ≡ true) (p q) (λ e. or_right (same_text d q.downstream) _ r) (λ e. r)
 
   distinct_places : (qs : List Request)
       → ((i j : ℕ) → i < j → j < length qs → same_text (get_or qs i no_request).downstream (get_or qs j no_request).downstream ≡ false) → Distinct (downstreams p qs)
@@ -66,7 +57,7 @@ module _ (p : Request → Bool) where
   distinct_places [] f = tt
   distinct_places (q ∷ qs) f =
       let r : Distinct (downstreams p qs) = distinct_places qs (λ i j l m. f (suc i) (suc j) (omega arith) (omega arith)) in
-      split_if Distinct (p q) (λ e. (untrue _ (λ h. let x = place_of q.downstream qs h in let l = x.below in clash _ x.same (f 0 (suc x.at) (omega arith) (omega arith))), r)) (λ e. r)
+      split_if Distinct (p q) (λ e. (false_from_ne_true _ (λ h. let x = place_of q.downstream qs h in let l = x.below in clash _ x.same (f 0 (suc x.at) (omega arith) (omega arith))), r)) (λ e. r)
 
 pub downstreams_same : (p r : Request → Bool) (qs : List Request) → ((k : ℕ) → k < length qs → p (get_or qs k no_request) ≡ r (get_or qs k no_request)) → downstreams p qs ≡ downstreams r qs
 unfolding downstreams
@@ -93,7 +84,7 @@ none_failed (d ∷ l) = omega (arith, none_failed l)
 module _ (laws : NumberedLaws) (image : Book) (good : BookKept image) where
   pub start_base : Base image image []
   start_base = record {
-    sent_has = λ d h. has d (either_true (is_held image d) false h);
+    sent_has = λ d h. has d (or_cases (is_held image d) false h);
     cancel_sent = λ d k h c. ap (λ (x : Bool). x || false) (maybe_some _ k false (λ (j : ℕ). true) h);
     fail_answered = λ d h. clash false h refl;
   }
@@ -106,11 +97,11 @@ module _ (laws : NumberedLaws) (image : Book) (good : BookKept image) where
   start_at j = record {
     own = λ d h.
         let x = place_of (mine j) d image.requests h in
-        let (g, o) = both_true _ _ x.passes in
+        let (g, o) = and_parts _ _ x.passes in
         record { at = x.at; found = find_cong image d _ x.same ∙ found_downstream image good laws x.at x.below; by_gateway = g; of_order = eqb-true _ _ o };
     one = distinct_places (mine j) image.requests (λ i k l m. downstreams_apart image good laws i k (omega arith) m (λ z. omega arith));
     unanswered = λ hg d w a.
-        in_place (mine j) d image.requests w.at (found_request image d w.at w.found) (both_hold _ _ w.by_gateway (eq-eqb _ j w.of_order))
+        in_place (mine j) d image.requests w.at (found_request image d w.at w.found) (and_from _ _ w.by_gateway (eq-eqb _ j w.of_order))
         (same_back _ _ (found_text image d w.at w.found));
     tries = λ hg.
         let z : (n : ℕ) → (if false then 0 otherwise n) ≡ n = (λ n. if_false false 0 n refl) in

@@ -1,14 +1,8 @@
 -- What a change does to its order: the LastQty told, the cumulative quantity, the quantity ordered and a done status. Rests on Laws and Stepped.
-use Prim.Native.Nat.{ℕ, ◌+◌, ◌-◌, ◌≤◌}
-use native.Mathlib.Omega.{arith}
-use mathlib.Core.Path.{◌≡◌, refl, sym, ap, ◌∙◌}
-use mathlib.Core.Logic.{◌⊎◌, inl, inr}
-use mathlib.Core.Bool.{Bool, true, false, ◌&&◌}
-use mathlib.Core.List.{List}
-use lib.Dec.{eqb}
-use borrow.Author.Tests.{eqb-true}
+use Rattle.std.proofs.Common.{ℕ, ◌+◌, ◌-◌, ◌≤◌, arith, ◌≡◌, refl, sym, ap, ◌∙◌, ◌⊎◌, inl, inr, Bool, true, false, ◌&&◌, List, eqb, eqb-true}
+use Rattle.std.proofs.Math.Bool.{and-false}
 use Rattle.wide.specs.declared.Priced.{Priced}
-use Rattle.prelude.specs.Cases.{if◌then◌otherwise◌, split_if, clash, both_false, if_false}
+use Rattle.prelude.specs.Cases.{if◌then◌otherwise◌, split_if, clash, if_false}
 use Rattle.prelude.specs.Texts.{same_text}
 use Rattle.prelude.specs.Totals.{total_of, total_append}
 use Rattle.prelude.specs.declared.Text.{Text}
@@ -111,7 +105,7 @@ pub record Moves (n p : ℕ) (o : Order) (c : Change) : Type 0 where
 module _ {n p : ℕ} {o : Order} {c : Change} (m : Moves n p o c) where
   pub told_others : (client : ℕ) (name : Text) → same_text o.names.name name ≡ false → total_of (last_qty client name) (tells c) ≡ 0
   told_others client name h =
-      let other : bears client name (whose o) ≡ false = ap (λ (x : Bool). eqb o.client client && x) h ∙ both_false (eqb o.client client) in
+      let other : bears client name (whose o) ≡ false = ap (λ (x : Bool). eqb o.client client && x) h ∙ and-false (eqb o.client client) in
       omega (
         arith,
         m.told (bears client name),

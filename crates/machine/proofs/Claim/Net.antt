@@ -1,10 +1,5 @@
 -- The net position: of any orders, chosen by what never changes of them, what was told since the image is what was filled. Rests on Filled.
-use Prim.Native.Nat.{◌+◌}
-use native.Mathlib.Omega.{arith}
-use mathlib.Core.Path.{◌≡◌}
-use mathlib.Core.Bool.{Bool, ◌&&◌}
-use mathlib.Core.List.{List, [], ◌∷◌}
-use lib.Dec.{eqb}
+use Rattle.std.proofs.Common.{◌+◌, arith, ◌≡◌, Bool, ◌&&◌, List, [], ◌∷◌, eqb}
 use Rattle.prelude.specs.Texts.{same_text}
 use Rattle.prelude.specs.Totals.{total_of}
 use Rattle.store.specs.Book.{Book}

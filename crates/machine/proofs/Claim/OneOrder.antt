@@ -1,24 +1,14 @@
 -- One order stays one order: whatever ClOrdID of an order a venue uses, the event changes that order and no other. Rests on Filled and the laws of
 -- numbered texts.
-use Prim.Native.Nat.{ℕ, ◌+◌, ◌-◌, ◌≤◌, ◌<◌}
-use native.Mathlib.Decide.{ℕ_discrete}
-use native.Mathlib.Omega.{arith}
-use mathlib.Core.Path.{◌≡◌, refl, sym, ap, ◌∙◌, subst}
-use mathlib.Core.Logic.{◌⊎◌, inl, inr}
-use mathlib.Core.Bool.{true, false}
-use Rattle.std.specs.Prelude.{Option, None, Some}
-use mathlib.Core.List.{List, []}
-use lib.Dec.{eqb}
-use lib.ListN.{length, set}
-use borrow.Author.Tests.{eqb-true}
+use Rattle.std.proofs.Common.{ℕ, ◌+◌, ◌-◌, ◌≤◌, ◌<◌, arith, ◌≡◌, refl, sym, ap, ◌∙◌, subst, ◌⊎◌, inl, inr, true, false, Option, None, Some, List, [], eqb, length, set, eqb-true, ⊎_elim}
+use Rattle.std.proofs.lemmas.Bool.{cases_Bool}
 use Rattle.prelude.specs.Below.{first_elim}
-use Rattle.prelude.specs.Cases.{split_if, clash, true_or_false, same_some}
+use Rattle.prelude.specs.Cases.{split_if, clash, same_some}
 use Rattle.prelude.specs.Texts.{same_text, same_back, same_trans}
 use Rattle.prelude.specs.Totals.{total_of}
 use Rattle.prelude.specs.declared.Text.{Text}
 use Rattle.text.specs.Numbered.{numbered_text}
 use Rattle.store.specs.declared.Order.{Order}
-use Rattle.store.specs.declared.Request.{Request}
 use Rattle.store.specs.Book.{Book, order_in, request_in}
 use Rattle.machine.specs.Changes.{Event, Message, refusing}
 use Rattle.store.specs.Finds.{find_downstream}
@@ -33,7 +23,7 @@ use Rattle.machine.proofs.Claim.Moves.{told_others}
 use Rattle.machine.proofs.Claim.Ruled.{Ruled, ruled, one_name, order_ruled, request_ruled}
 use Rattle.machine.proofs.Claim.Walk.{Did, Roomy, turned_away, no_order_lem, on_order, new_order, found_request, found_text, Either, Handles, step_walk, refusing_away}
 use Rattle.machine.proofs.Claim.Filled.{Moved, handles_moved, orders_set, after_orders, at, beside, long, line_of_lem, refused_of}
-use Rattle.machine.proofs.Claim.Records.{there_other, added_long, added_at, none_kept}
+use Rattle.machine.proofs.Claim.Records.{there_other, added_own}
 use Rattle.machine.proofs.Claim.Touches.{Touches, made_touches}
 use Rattle.machine.proofs.Claim.Steps.{findings_index}
 use Rattle.machine.proofs.Claim.Whole.{after_same}
@@ -44,7 +34,7 @@ use Rattle.machine.proofs.Numbered.{NumberedLaws, numbered_laws}
 
 module _ (laws : NumberedLaws) (x y : Text) (m n : ℕ) (nx : name_range x ≡ true) (ny : name_range y ≡ true) (lm : m ≤ 255) (ln : n ≤ 255) where
   same_names : same_text (name_number x m) (name_number y n) ≡ true → same_text x y ≡ true
-  same_names e = go (true_or_false (eqb m 0)) (true_or_false (eqb n 0))
+  same_names e = go (cases_Bool (eqb m 0)) (cases_Bool (eqb n 0))
     where
       go : (eqb m 0 ≡ true) ⊎ (eqb m 0 ≡ false) → (eqb n 0 ≡ true) ⊎ (eqb n 0 ≡ false) → same_text x y ≡ true
       go (inl p) (inl q) = sym (ap (λ (t : Text). same_text x t) (named_zero y n q)) ∙ sym (ap (λ (t : Text). same_text t (name_number y n)) (named_zero x m p)) ∙ e
@@ -134,14 +124,7 @@ module _ (b : Book) (r : Ruled b) (e : Event) (low : 4 ≤ e.kind) (high : e.kin
             n (sym (ap (λ (m : ℕ). (request_in b m).order) y) ∙ (order_ruled b r i h).current)
 
     own_added : (j : ℕ) → length b.requests ≤ j → j < length (after b c).requests → (request_in (after b c) j).order ≡ i
-    own_added j l u = go (ℕ_discrete c.requests.added 0) t.adds
-      where
-        go : Dec (c.requests.added ≡ 0) → (c.requests.added ≡ 0) ⊎ (c.requests.request.order ≡ (findings_of b (i + 1)).place - 1) → (request_in (after b c) j).order ≡ i
-        go (yes x) d = absurd (omega (arith, none_kept b c x))
-        go (no x) (inl y) = absurd (x y)
-        go (no x) (inr y) =
-            let at_end : j ≡ length b.requests = omega (arith, added_long b c x) in
-            ap (λ (m : ℕ). (request_in (after b c) m).order) at_end ∙ ap (λ (q : Request). q.order) (added_at b c x) ∙ y ∙ findings_index b i
+    own_added = added_own b c i (⊎_elim inl (λ y. inr (y ∙ findings_index b i)) t.adds)
 
   did_alone : (c : Change) → Did (Roomy Alike b) b e c → Alone b (request_in b k).order (line_of b (read_as e) c).messages (line_of b (read_as e) c).left
   unfolding Alike Moved Roomy

@@ -1,15 +1,9 @@
 -- The requests after a change: those that were there, some of them answered now, and perhaps one more. Rests on Machine.
-use Prim.Native.Nat.{ℕ, ◌+◌, ◌-◌, ◌≤◌, ◌<◌}
-use native.Mathlib.Decide.{ℕ_discrete, dec_lt}
-use native.Mathlib.Omega.{arith}
-use mathlib.Core.Path.{◌≡◌, refl, sym, ap, ◌∙◌, subst}
-use mathlib.Core.Bool.{true}
-use Rattle.std.specs.Prelude.{None, Some}
-use mathlib.Core.List.{List, [], ◌∷◌, ◌++◌}
-use lib.Dec.{eqb}
-use lib.ListN.{length, get_or, set, length-append, length-set, get_or-append}
-use lib.Seq.{get_or_at, get_or-set_same, get_or-set_other}
-use borrow.Author.Tests.{eqb-false, eq-eqb, ne_eqb}
+use Rattle.std.proofs.Common.{ℕ, ◌+◌, ◌-◌, ◌≤◌, ◌<◌, arith, ◌≡◌, refl, sym, ap, ◌∙◌, subst, true, None, Some, List, [], ◌∷◌, ◌++◌, eqb, length, get_or, set, length-append, length-set, get_or-set_same, get_or-set_other, eq-eqb, ne_eqb, ◌⊎◌, inl, inr}
+use Rattle.std.proofs.Math.Decide.{ℕ_discrete, dec_lt}
+use Rattle.std.proofs.Math.ListN.{get_or-append}
+use Rattle.std.proofs.Math.Seq.{get_or_at}
+use Rattle.std.proofs.lemmas.Bool.{eqb-false}
 use Rattle.prelude.specs.Below.{first_some, first_elim, first_hit, first_ext, First}
 use Rattle.prelude.specs.Cases.{split_if, clash, if_true, if_false}
 use Rattle.prelude.specs.Texts.{same_text}
@@ -138,6 +132,17 @@ module _ (b : Book) (c : Change) where
 
   pub added_at : (c.requests.added ≡ 0 → ⊥) → request_in (after b c) (length b.requests) ≡ c.requests.request
   added_at e = ap (λ (x : List Request). get_or x (length b.requests) no_request) (one_added e) ∙ get_or_at settled c.requests.request [] no_request (length b.requests) settled_length
+
+  -- what is added is the order's that the change names
+  pub added_own : (i : ℕ) → (c.requests.added ≡ 0) ⊎ (c.requests.request.order ≡ i) → (k : ℕ) → length b.requests ≤ k → k < length (after b c).requests → (request_in (after b c) k).order ≡ i
+  added_own i w k l u = go (ℕ_discrete c.requests.added 0) w
+    where
+      go : Dec (c.requests.added ≡ 0) → (c.requests.added ≡ 0) ⊎ (c.requests.request.order ≡ i) → (request_in (after b c) k).order ≡ i
+      go (yes x) d = absurd (omega (arith, none_kept x))
+      go (no x) (inl y) = absurd (x y)
+      go (no x) (inr y) =
+          let at_end : k ≡ length b.requests = omega (arith, added_long x) in
+          ap (λ (m : ℕ). (request_in (after b c) m).order) at_end ∙ ap (λ (q : Request). q.order) (added_at x) ∙ y
 
   text_at : (k : ℕ) (d : Text) → k < length b.requests → same_text (request_in (after b c) k).downstream d ≡ same_text (request_in b k).downstream d
   text_at k d l = ap (λ (t : Text). same_text t d) (there_like k l).text

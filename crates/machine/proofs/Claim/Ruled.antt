@@ -1,16 +1,9 @@
 -- What the book's rules give, as facts. Rests on Rules and Laws.
-use Prim.Native.Nat.{ℕ, ◌+◌, ◌-◌, ◌≤◌, ◌<◌}
-use native.Mathlib.Omega.{arith}
-use native.Mathlib.Decide.{dec_lt}
-use mathlib.Core.Path.{◌≡◌, refl}
-use mathlib.Core.Logic.{◌⊎◌, inl, inr}
-use mathlib.Core.Bool.{Bool, true, false, not, ◌&&◌, ◌||◌}
-use mathlib.Core.List.{List}
-use lib.Dec.{eqb, leb, ltb}
-use lib.ListN.{length, get_or}
-use borrow.Author.Tests.{ltb-true, leb-true, eqb-true, not-true}
+use Rattle.std.proofs.Common.{ℕ, ◌+◌, ◌-◌, ◌≤◌, ◌<◌, arith, ◌≡◌, ◌⊎◌, inl, inr, Bool, true, false, not, ◌&&◌, ◌||◌, List, eqb, leb, ltb, length, get_or, ltb-true, leb-true, eqb-true}
+use Rattle.std.proofs.Math.Decide.{dec_lt}
+use Rattle.std.proofs.lemmas.Bool.{not-true, and_parts, or_cases}
 use Rattle.prelude.specs.Below.{all_below, all_elim}
-use Rattle.prelude.specs.Cases.{clash, both_true, either_true}
+use Rattle.prelude.specs.Cases.{clash}
 use Rattle.prelude.specs.Texts.{same_text, same_back}
 use Rattle.prelude.specs.declared.Text.{Text}
 use Rattle.store.specs.declared.Names.{Names}
@@ -25,10 +18,10 @@ use Rattle.machine.specs.Rules.{rules, linked, order_rule, request_rule, name_ru
 
 -- of a chain of tests that hold
 front : (a b : Bool) → a && b ≡ true → a ≡ true
-front a b e = (both_true a b e).0
+front a b e = (and_parts a b e).0
 
 back : (a b : Bool) → a && b ≡ true → b ≡ true
-back a b e = (both_true a b e).1
+back a b e = (and_parts a b e).1
 
 pub record Ruled (b : Book) : Type 0 where
   pub few_requests : length b.requests ≤ 256
@@ -42,9 +35,9 @@ ruled b r =
     let n : ℕ = length b.orders in
     let m : ℕ = length b.requests in
     let k = front (leb n 64 && leb m 256 && all_below (order_rule b) n && all_below (request_rule b) m && all_below (name_rule b) n) (all_below (key_rule b) m) r in
-    let nm = both_true (leb n 64 && leb m 256 && all_below (order_rule b) n && all_below (request_rule b) m) (all_below (name_rule b) n) k in
-    let rq = both_true (leb n 64 && leb m 256 && all_below (order_rule b) n) (all_below (request_rule b) m) nm.0 in
-    let od = both_true (leb n 64 && leb m 256) (all_below (order_rule b) n) rq.0 in
+    let nm = and_parts (leb n 64 && leb m 256 && all_below (order_rule b) n && all_below (request_rule b) m) (all_below (name_rule b) n) k in
+    let rq = and_parts (leb n 64 && leb m 256 && all_below (order_rule b) n) (all_below (request_rule b) m) nm.0 in
+    let od = and_parts (leb n 64 && leb m 256) (all_below (order_rule b) n) rq.0 in
     record {
       few_requests = leb-true m 256 (back (leb n 64) (leb m 256) od.0);
       orders = all_elim (order_rule b) n od.1;
@@ -107,11 +100,11 @@ order_rules b i e =
     let w : Bool = filled_rule o in
     let x : Bool = status_rule o.state.cumqty o.state.status in
     let y : Bool = done_rule o in
-    let e₈ = both_true (a && s && t && u && v && w && x && y) (tries_rule o.gateway) e in
-    let e₇ = both_true (a && s && t && u && v && w && x) y e₈.0 in
+    let e₈ = and_parts (a && s && t && u && v && w && x && y) (tries_rule o.gateway) e in
+    let e₇ = and_parts (a && s && t && u && v && w && x) y e₈.0 in
     let e₅ = front (a && s && t && u && v) w (front (a && s && t && u && v && w) x e₇.0) in
-    let e₄ = both_true (a && s && t && u) v e₅ in
-    let e₁ = both_true a s (front (a && s) t (front (a && s && t) u e₄.0)) in
+    let e₄ = and_parts (a && s && t && u) v e₅ in
+    let e₁ = and_parts a s (front (a && s) t (front (a && s && t) u e₄.0)) in
     record {
       named = name_range_lem o.names (range_names (length qs) o e₁.0);
       current = current_own i o qs e₁.1;
@@ -123,7 +116,7 @@ order_rules b i e =
 -- a done order has no gateway cancel
 pub done_none : (o : Order) → done_rule o ≡ true → is_done o.state.status ≡ true → has_gateway o ≡ false
 unfolding done_rule
-done_none o e d = go (either_true (not (is_done o.state.status)) _ e)
+done_none o e d = go (or_cases (not (is_done o.state.status)) _ e)
   where
     go : (not (is_done o.state.status) ≡ true) ⊎ (not (has_pending o) && not (has_gateway o) ≡ true) → has_gateway o ≡ false
     go (inl h) = clash _ d (not-true _ h)
@@ -148,8 +141,8 @@ request_rules b k e =
     let x : Bool = request_range q in
     let y : Bool = ltb q.order (length b.orders) in
     let z : Bool = number_rule o.names.name (number_in b.requests k) q in
-    let e₃ = both_true (x && y && z) (in_flight_rule (k + 1) q o) e in
-    let e₂ = both_true (x && y) z e₃.0 in
+    let e₃ = and_parts (x && y && z) (in_flight_rule (k + 1) q o) e in
+    let e₂ = and_parts (x && y) z e₃.0 in
     record {
       placed = ltb-true q.order (length b.orders) (back x y e₂.0);
       numbered = number_text o.names.name (number_in b.requests k) q e₂.1;
@@ -170,11 +163,8 @@ unfolding in_flight_rule
 latest_cancel_lem link q o e g a d =
     let x : Bool = eqb o.links.cancel link in
     let y : Bool = ltb 0 o.gateway.tries in
-    let z = both_true x y (front (x && y) _ (front (x && y && _) _ (last (is_gateway q) (is_answered q) (is_done o.state.status) g a d e))) in
+    let z = and_parts x y (front (x && y) _ (front (x && y && _) _ (last (is_gateway q) (is_answered q) (is_done o.state.status) g a d e))) in
     (eqb-true _ _ z.0, ltb-true 0 _ z.1)
   where
     last : {z : Bool} (x y w : Bool) → x ≡ true → y ≡ false → w ≡ false → not x || y || w || z ≡ true → z ≡ true
-    last true false false p q r h = h
-    last false y w p q r h = clash false p refl
-    last true true w p q r h = clash true refl q
-    last true false true p q r h = clash true refl r
+    last x y w p q r h = grind arith

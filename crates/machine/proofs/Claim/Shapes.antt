@@ -1,11 +1,5 @@
 -- What a change does to the gateway's cancel of its order: the cancel requests in the answer, the request added, and the tries. Rests on Laws and Made.
-use Prim.Native.Nat.{ℕ, ◌+◌, ◌-◌, ◌≤◌, ◌<◌}
-use native.Mathlib.Omega.{arith}
-use mathlib.Core.Path.{◌≡◌, refl, sym, ap, ◌∙◌}
-use mathlib.Core.Logic.{◌⊎◌, inl, inr}
-use mathlib.Core.Bool.{Bool, true, false, not}
-use mathlib.Core.List.{List, [], ◌∷◌, ◌++◌}
-use lib.Dec.{eqb}
+use Rattle.std.proofs.Common.{ℕ, ◌+◌, ◌-◌, ◌≤◌, ◌<◌, arith, ◌≡◌, refl, sym, ap, ◌∙◌, ◌⊎◌, inl, inr, Bool, true, false, not, List, [], ◌∷◌, ◌++◌, eqb}
 use Rattle.wide.specs.declared.Priced.{Priced}
 use Rattle.prelude.specs.Cases.{if◌then◌otherwise◌, split_if, clash}
 use Rattle.prelude.specs.declared.Text.{Text}

@@ -1,11 +1,5 @@
 -- No event leaves an order Filled and short where none was; so after start a Filled order is filled whole. And the alarm goes by the order as it is left. Rests on Moves, Start and Stepped.
-use Prim.Native.Nat.{ℕ, ◌≤◌}
-use native.Mathlib.Omega.{arith}
-use mathlib.Core.Path.{◌≡◌, refl}
-use mathlib.Core.Bool.{Bool, false}
-use mathlib.Core.List.{List, [], ◌∷◌}
-use lib.ListN.{get_or}
-use borrow.Author.Tests.{ltb-false, eq-eqb}
+use Rattle.std.proofs.Common.{ℕ, ◌≤◌, arith, ◌≡◌, refl, Bool, false, List, [], ◌∷◌, get_or, ltb-false, eq-eqb}
 use Rattle.prelude.specs.Cases.{split_if}
 use Rattle.format.specs.Codes.{new, filled, rejected}
 use Rattle.store.specs.declared.Order.{Order}

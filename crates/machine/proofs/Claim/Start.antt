@@ -1,10 +1,5 @@
 -- Demand 3, whole: the claim from an image, where the image is the empty book. Rests on Whole.
-use Prim.Native.Nat.{ℕ, ◌+◌}
-use native.Mathlib.Omega.{arith}
-use mathlib.Core.Path.{◌≡◌, refl, ap, ◌∙◌, subst}
-use mathlib.Core.Bool.{Bool, false, not, ◌&&◌, ◌||◌}
-use mathlib.Core.List.{List, [], ◌∷◌, ◌++◌}
-use lib.ListN.{length}
+use Rattle.std.proofs.Common.{ℕ, ◌+◌, arith, ◌≡◌, refl, ap, ◌∙◌, subst, Bool, false, not, ◌&&◌, ◌||◌, List, [], ◌∷◌, ◌++◌, length}
 use Rattle.prelude.specs.Below.{first_below}
 use Rattle.prelude.specs.Cases.{if◌then◌otherwise◌, maybe, split_if}
 use Rattle.prelude.specs.Totals.{how_many, those_ext}

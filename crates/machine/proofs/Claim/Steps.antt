@@ -1,16 +1,9 @@
 -- Every change is a turn: the six shapes of a change, and the shape of each event. Rests on Turn, Shapes, Records and Fresh.
-use Prim.Native.Nat.{ℕ, ◌+◌, ◌-◌, ◌≤◌, ◌<◌}
-use native.Mathlib.Decide.{ℕ_discrete}
-use native.Mathlib.Omega.{arith}
-use mathlib.Core.Path.{◌≡◌, refl, sym, ap, ◌∙◌, subst}
-use mathlib.Core.Logic.{◌⊎◌, inl, inr}
-use mathlib.Core.Bool.{Bool, true, false, not, ◌&&◌, ◌||◌}
-use Rattle.std.specs.Prelude.{Option, None, Some}
-use mathlib.Core.List.{[], ◌∷◌}
-use lib.Dec.{eqb, leb, ltb}
-use lib.ListN.{length, set}
-use borrow.Author.Tests.{eqb-true, eq-eqb, ne_eqb, ltb-true, not-true}
-use Rattle.prelude.specs.Cases.{if◌then◌otherwise◌, maybe, clash, both_true, both_hold, both_false, either_true, if_true, if_false, true_or_false}
+use Rattle.std.proofs.Common.{ℕ, ◌+◌, ◌-◌, ◌≤◌, ◌<◌, arith, ◌≡◌, refl, sym, ap, ◌∙◌, subst, ◌⊎◌, inl, inr, Bool, true, false, not, ◌&&◌, ◌||◌, Option, None, Some, [], ◌∷◌, eqb, leb, ltb, length, set, eqb-true, eq-eqb, ne_eqb, ltb-true}
+use Rattle.std.proofs.Math.Bool.{and-false, not-and_self}
+use Rattle.std.proofs.Math.Decide.{ℕ_discrete}
+use Rattle.std.proofs.lemmas.Bool.{not-true, and_parts, and_from, or_cases, cases_Bool, false_from_ne_true}
+use Rattle.prelude.specs.Cases.{if◌then◌otherwise◌, maybe, clash, if_true, if_false}
 use Rattle.prelude.specs.Texts.{same_text, same_self, same_back, same_trans}
 use Rattle.prelude.specs.declared.Text.{Text}
 use Rattle.store.specs.declared.GatewayCancel.{GatewayCancel}
@@ -29,7 +22,6 @@ use Rattle.machine.specs.declared.Findings.{Findings}
 use Rattle.machine.specs.declared.Change.{Change}
 use Rattle.machine.proofs.Claim.Laws.{tells}
 use Rattle.machine.proofs.Claim.Moves.{Moves}
-use Rattle.machine.proofs.Kept.Laws.{untrue}
 use Rattle.machine.proofs.Claim.Ruled.{Ruled, order_ruled, request_ruled, done_none, latest_cancel_lem}
 use Rattle.machine.proofs.Claim.Walk.{found_request, found_text}
 use Rattle.machine.proofs.Claim.Filled.{orders_set, after_orders, at, beside}
@@ -76,7 +68,7 @@ module _ (b : Book) (i : Decoded) (c : Change) where
     pub new_other : (f.place - 1 ≡ j → ⊥) → new_of (goes_fresh f o u w g) j ≡ []
     unfolding new_of goes_fresh
     new_other n =
-        if_false _ _ _ (ap (λ (x : Bool). not (of_kind 2 i) && x) (ne_eqb _ j (λ z. n (sym of_added ∙ z))) ∙ both_false (not (of_kind 2 i)))
+        if_false _ _ _ (ap (λ (x : Bool). not (of_kind 2 i) && x) (ne_eqb _ j (λ z. n (sym of_added ∙ z))) ∙ and-false (not (of_kind 2 i)))
 
     pub new_client : of_kind 2 i ≡ true → new_of (goes_fresh f o u w g) j ≡ []
     unfolding new_of goes_fresh
@@ -84,7 +76,7 @@ module _ (b : Book) (i : Decoded) (c : Change) where
 
     pub new_own : of_kind 2 i ≡ false → f.place - 1 ≡ j → new_of (goes_fresh f o u w g) j ≡ next_downstream o ∷ []
     unfolding new_of goes_fresh
-    new_own e z = if_true _ _ _ (both_hold _ _ (ap not e) (eq-eqb _ j (of_added ∙ z)))
+    new_own e z = if_true _ _ _ (and_from _ _ (ap not e) (eq-eqb _ j (of_added ∙ z)))
 
 -- ---- failing
 
@@ -96,35 +88,31 @@ module _ (b : Book) (e : Event) (c : Change) where
   still_fails d k h s =
       ap (λ (x : Bool). eqb e.kind 7 && (not x && answered_in (after b c) d)) (answered_at b d k h)
       ∙ ap (λ (x : Bool). eqb e.kind 7 && (not (is_answered (request_in b k)) && x)) (answered_at (after b c) d k (find_stays b c d k h) ∙ s)
-      ∙ ap (λ (x : Bool). eqb e.kind 7 && x) (never (is_answered (request_in b k))) ∙ both_false (eqb e.kind 7)
-    where
-      never : (x : Bool) → not x && x ≡ false
-      never true = refl
-      never false = refl
+      ∙ ap (λ (x : Bool). eqb e.kind 7 && x) (not-and_self (is_answered (request_in b k))) ∙ and-false (eqb e.kind 7)
 
   none_fails : (d : Text) → find_downstream b d ≡ None → answered_in (after b c) d ≡ false → fails (line b (read_as e) c) d ≡ false
   none_fails d h a =
       ap (λ (x : Bool). eqb e.kind 7 && (not (answered_in b d) && x)) a
-      ∙ ap (λ (x : Bool). eqb e.kind 7 && x) (both_false (not (answered_in b d))) ∙ both_false (eqb e.kind 7)
+      ∙ ap (λ (x : Bool). eqb e.kind 7 && x) (and-false (not (answered_in b d))) ∙ and-false (eqb e.kind 7)
 
   now_fails : (d : Text) (k : ℕ) → find_downstream b d ≡ Some k → eqb e.kind 7 ≡ true → is_answered (request_in b k) ≡ false → is_answered (request_in (after b c) k) ≡ true
       → fails (line b (read_as e) c) d ≡ true
   now_fails d k h s u a =
-      both_hold _ _ s (both_hold _ _ (ap not (answered_at b d k h ∙ u)) (answered_at (after b c) d k (find_stays b c d k h) ∙ a))
+      and_from _ _ s (and_from _ _ (ap not (answered_at b d k h ∙ u)) (answered_at (after b c) d k (find_stays b c d k h) ∙ a))
 
 -- ---- a gateway cancel begins: every gateway request of the order is answered
 
 asks_starts : (i : ℕ) (b : Book) (e : Event) → asks_at i b (read_as e) ≡ true → starts b i ≡ true
 unfolding maybe
-asks_starts i b e h = go (find_name b e.ids.name) (both_true (eqb e.kind 9) _ h).1
+asks_starts i b e h = go (find_name b e.ids.name) (and_parts (eqb e.kind 9) _ h).1
   where
     go : (x : Option ℕ) → maybe false (λ j. eqb j i && starts b j) x ≡ true → starts b i ≡ true
     go None z = clash false z refl
-    go (Some j) z = let (p, q) = both_true (eqb j i) (starts b j) z in sym (ap (starts b) (eqb-true j i p)) ∙ q
+    go (Some j) z = let (p, q) = and_parts (eqb j i) (starts b j) z in sym (ap (starts b) (eqb-true j i p)) ∙ q
 
 starts_parts : (b : Book) (i : ℕ) → starts b i ≡ true → (is_done (order_in b i).state.status ≡ false) × (gateway_cancel_in_flight (findings_of b (i + 1)) (order_in b i) ≡ false)
 unfolding starts
-starts_parts b i h = let (p, q) = both_true (not (is_done (order_in b i).state.status)) _ h in (not-true _ p, not-true _ q)
+starts_parts b i h = let (p, q) = and_parts (not (is_done (order_in b i).state.status)) _ h in (not-true _ p, not-true _ q)
 
 pub findings_cancel : (b : Book) (i k : ℕ) → (order_in b i).links.cancel ≡ k + 1 → (findings_of b (i + 1)).cancel ≡ request_in b k
 unfolding findings_of latest_cancel
@@ -136,10 +124,10 @@ findings_cancel b i k e =
 flies : (f : Findings) (o : Order) (q : Request) → f.cancel ≡ q → (o.links.cancel ≡ 0 → ⊥) → is_gateway q ≡ true → is_answered q ≡ false → gateway_cancel_in_flight f o ≡ true
 unfolding gateway_cancel_in_flight outstanding_cancel
 flies f o q e n g a =
-    both_hold _ _ (both_hold _ _ (ap not (ne_eqb o.links.cancel 0 n)) (ap not (ap is_answered e ∙ a))) (ap is_gateway e ∙ g)
+    and_from _ _ (and_from _ _ (ap not (ne_eqb o.links.cancel 0 n)) (ap not (ap is_answered e ∙ a))) (ap is_gateway e ∙ g)
 
 begins_answered : (b : Book) (r : Ruled b) (e : Event) (i : ℕ) → asks_at i b (read_as e) ≡ true → (d : Text) (w : Own i b d) → is_answered (request_in b w.at) ≡ true
-begins_answered b r e i h d w = go (true_or_false (is_answered (request_in b w.at)))
+begins_answered b r e i h d w = go (cases_Bool (is_answered (request_in b w.at)))
   where
     go : (is_answered (request_in b w.at) ≡ true) ⊎ (is_answered (request_in b w.at) ≡ false) → is_answered (request_in b w.at) ≡ true
     go (inl a) = a
@@ -190,8 +178,8 @@ findings_index b i = omega arith
 
 has_room_lem : (b : Book) (c : Change) → has_room b c ≡ true → (c.requests.added ≡ 0 → ⊥) → length b.requests < 256
 unfolding has_room
-has_room_lem b c h n = go (either_true (eqb c.requests.added 0) (ltb (length b.requests) 256)
-    (both_true (leb c.place (length b.orders) || ltb (length b.orders) 64) _ h).1)
+has_room_lem b c h n = go (or_cases (eqb c.requests.added 0) (ltb (length b.requests) 256)
+    (and_parts (leb c.place (length b.orders) || ltb (length b.orders) 64) _ h).1)
   where
     go : (eqb c.requests.added 0 ≡ true) ⊎ (ltb (length b.requests) 256 ≡ true) → length b.requests < 256
     go (inl z) = absurd (n (eqb-true c.requests.added 0 z))
@@ -210,7 +198,7 @@ module _ (laws : NumberedLaws) (b : Book) (r : Ruled b) (e : Event) (i : ℕ) (h
 
   -- a request that the event does not answer
   kept_fails : (j : ℕ) (d : Text) (w : Own j b d) → (eqb e.kind 7 ≡ true → c.requests.answered ≡ w.at + 1 → ⊥) → fails (line b (read_as e) c) d ≡ false
-  kept_fails j d w n = go (true_or_false (eqb e.kind 7))
+  kept_fails j d w n = go (cases_Bool (eqb e.kind 7))
     where
       go : (eqb e.kind 7 ≡ true) ⊎ (eqb e.kind 7 ≡ false) → fails (line b (read_as e) c) d ≡ false
       go (inl z) =
@@ -284,7 +272,7 @@ module _ (laws : NumberedLaws) (b : Book) (r : Ruled b) (e : Event) (i : ℕ) (h
       (now_fails b e c d k w z u (there_answered b c k (found_request b d k w) x)) others (tries_now ∙ t))
     where
       live : has_gateway (order_in b i) ≡ true → is_done (order_in b i).state.status ≡ false
-      live hg = untrue _ (λ y. clash _ hg (done_none (order_in b i) (order_ruled b r i h).done y))
+      live hg = false_from_ne_true _ (λ y. clash _ hg (done_none (order_in b i) (order_ruled b r i h).done y))
 
       tried_yet : has_gateway (order_in b i) ≡ true → 0 < (order_in b i).gateway.tries
       tried_yet hg =

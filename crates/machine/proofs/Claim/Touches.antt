@@ -1,8 +1,5 @@
 -- Which requests an event touches: the one that it names, the order's current one, and one that is added for the order. Rests on Made.
-use Prim.Native.Nat.{ℕ, ◌-◌}
-use mathlib.Core.Path.{◌≡◌, refl}
-use mathlib.Core.Logic.{◌⊎◌, inl, inr}
-use mathlib.Core.Bool.{Bool}
+use Rattle.std.proofs.Common.{ℕ, ◌-◌, ◌≡◌, refl, ◌⊎◌, inl, inr, Bool}
 use Rattle.store.specs.declared.Order.{Order}
 use Rattle.store.specs.declared.Request.{Request}
 use Rattle.machine.specs.Changes.{Event, unchanged, refusing, adding, telling, next_request}

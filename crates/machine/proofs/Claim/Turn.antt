@@ -1,19 +1,13 @@
 -- The tries of a gateway cancel: what holds of a book's requests and of one order, and how one call keeps it. Rests on Laws.
 -- Here an order is known by its index; Whole goes over to its name.
-use Prim.Native.Nat.{ℕ, ◌+◌, ◌-◌, ◌<◌}
-use native.Mathlib.Omega.{arith}
-use mathlib.Core.Path.{◌≡◌, refl, sym, ap, ◌∙◌, subst}
-use mathlib.Core.Logic.{◌⊎◌, inl, inr}
-use mathlib.Core.Bool.{Bool, true, false, not, ◌&&◌, ◌||◌}
-use Rattle.std.specs.Prelude.{Option, None, Some}
-use mathlib.Core.List.{List, [], ◌∷◌, ◌++◌, append-nil}
-use lib.Dec.{eqb}
-use lib.ListN.{length, length-append}
-use borrow.Author.Tests.{eqb-true, eq-eqb}
+use Rattle.std.proofs.Common.{ℕ, ◌+◌, ◌-◌, ◌<◌, arith, ◌≡◌, refl, sym, ap, ◌∙◌, subst, ◌⊎◌, inl, inr, Bool, true, false, not, ◌&&◌, ◌||◌, Option, None, Some, List, [], ◌∷◌, ◌++◌, append-nil, eqb, length, length-append, eqb-true, eq-eqb}
+use Rattle.std.proofs.Math.Bool.{and-false, and-true}
+use Rattle.std.proofs.lemmas.Bool.{and_parts, and_from, or_cases, cases_Bool, or_from, or_left, or_right}
+use Rattle.std.specs.List.{list_any}
 use Rattle.prelude.specs.Below.{first_ext}
-use Rattle.prelude.specs.Cases.{if◌then◌otherwise◌, maybe, split_if, clash, both_true, both_hold, both_false, either_true, if_true, if_false, maybe_none, maybe_some, true_or_false, none_some, same_some, or_both}
+use Rattle.prelude.specs.Cases.{if◌then◌otherwise◌, maybe, split_if, clash, if_true, if_false, maybe_none, maybe_some, none_some, same_some}
 use Rattle.prelude.specs.Texts.{same_text, same_self, same_back, same_trans, same_right, same_left}
-use Rattle.prelude.specs.Totals.{some_of, how_many, those, many_append}
+use Rattle.prelude.specs.Totals.{how_many, those, many_append}
 use Rattle.prelude.specs.declared.Text.{Text}
 use Rattle.store.specs.declared.Request.{Request}
 use Rattle.store.specs.Book.{Book, order_in, request_in}
@@ -24,7 +18,7 @@ use Rattle.store.specs.Finds.{find_name, find_downstream}
 use Rattle.machine.specs.History.{Decoded, unread, read_as, Entry}
 use Rattle.machine.specs.Claim.{holds, of_kind, starts, cancels_in, once, sent, answered_in, fails, failed}
 use Rattle.machine.specs.Since.{is_held, known, downstreams}
-use Rattle.machine.proofs.Kept.Laws.{or_left, or_right, or_map}
+use Rattle.machine.proofs.Kept.Laws.{or_map}
 
 -- ---- the claim's words for the order at an index
 
@@ -55,7 +49,7 @@ out_at image j (e ∷ earlier) = new_by_at image j e earlier ++ (if begins_at j 
 
 -- a number of the image's, until then
 abbrev pub still_at : ℕ → List Entry → ℕ → ℕ
-still_at j past n = if some_of (begins_at j) past then 0 otherwise n
+still_at j past n = if list_any (begins_at j) past then 0 otherwise n
 
 -- ---- lists of texts
 
@@ -68,10 +62,10 @@ holds_cong d d' [] s = refl
 holds_cong d d' (x ∷ l) s = rw (same_left d d' x s, holds_cong d d' l s)
 
 pub holds_self : (d d' : Text) (l : List Text) → same_text d d' ≡ true → holds d (d' ∷ l) ≡ true
-holds_self d d' l s = or_left (holds d l) s
+holds_self d d' l s = or_left _ (holds d l) s
 
 pub holds_one : (d d' : Text) → holds d (d' ∷ []) ≡ true → same_text d d' ≡ true
-holds_one d d' h = go (either_true (same_text d d') false h)
+holds_one d d' h = go (or_cases (same_text d d') false h)
   where
     go : (same_text d d' ≡ true) ⊎ (false ≡ true) → same_text d d' ≡ true
     go (inl e) = e
@@ -82,7 +76,7 @@ many_same : (f g : Text → Bool) (l : List Text) → ((x : Text) → holds x l 
 many_same f g [] h = refl
 many_same f g (d ∷ ds) h =
     ap (λ (b : Bool). (if b then 1 otherwise 0) + how_many f ds) (h d (holds_self d d ds (same_self d)))
-    ∙ ap (λ (c : ℕ). (if g d then 1 otherwise 0) + c) (many_same f g ds (λ x m. h x (or_right (same_text x d) m)))
+    ∙ ap (λ (c : ℕ). (if g d then 1 otherwise 0) + c) (many_same f g ds (λ x m. h x (or_right (same_text x d) _ m)))
 
 -- a test that passes one text more counts one more
 many_one : (f g : Text → Bool) (d : Text) (l : List Text) → Distinct l → holds d l ≡ true
@@ -94,7 +88,7 @@ many_one f g d (j ∷ js) u h p r = go (same_text d j) refl h (λ m. many_one f 
     go : (b : Bool) → same_text d j ≡ b → b || holds d js ≡ true → (holds d js ≡ true → how_many g js ≡ how_many f js + 1)
         → (if g j then 1 otherwise 0) + how_many g js ≡ (if f j then 1 otherwise 0) + how_many f js + 1
     go true e m ih =
-        let c : how_many f js ≡ how_many g js = many_same f g js (λ x w. r x (off x w (true_or_false (same_text d x)))) in
+        let c : how_many f js ≡ how_many g js = many_same f g js (λ x w. r x (off x w (cases_Bool (same_text d x)))) in
         rw ((p j e).0, (p j e).1) (omega (arith, c))
       where
         off : (x : Text) → holds x js ≡ true → (same_text d x ≡ true) ⊎ (same_text d x ≡ false) → same_text d x ≡ false
@@ -221,21 +215,21 @@ once_none = refl
 module _ (image : Book) (e : Entry) (past : List Entry) (s : Base image e.before past) where
   -- a request that has no record has not gone out, and has not failed
   unsent : (d : Text) → find_downstream e.before d ≡ None → known image d past ≡ false
-  unsent d h = go (true_or_false (known image d past))
+  unsent d h = go (cases_Bool (known image d past))
     where
       go : (known image d past ≡ true) ⊎ (known image d past ≡ false) → known image d past ≡ false
       go (inl w) = none_some h (s.sent_has d w).1
       go (inr w) = w
 
   unfailed : (d : Text) → find_downstream e.before d ≡ None → failed past d ≡ false
-  unfailed d h = go (true_or_false (failed past d))
+  unfailed d h = go (cases_Bool (failed past d))
     where
       go : (failed past d ≡ true) ⊎ (failed past d ≡ false) → failed past d ≡ false
       go (inl w) = none_some h (s.fail_answered d w).1
       go (inr w) = w
 
   unfailed_yet : (d : Text) (k : ℕ) → find_downstream e.before d ≡ Some k → is_answered (request_in e.before k) ≡ false → failed past d ≡ false
-  unfailed_yet d k h a = go (true_or_false (failed past d))
+  unfailed_yet d k h a = go (cases_Bool (failed past d))
     where
       go : (failed past d ≡ true) ⊎ (failed past d ≡ false) → failed past d ≡ false
       go (inl w) = let (k', x, y) = s.fail_answered d w in clash _ (ap (λ (n : ℕ). is_answered (request_in e.before n)) (same_some h x) ∙ y) a
@@ -255,15 +249,11 @@ module _ (image : Book) (e : Entry) (past : List Entry) (s : Base image e.before
       split_if (λ (l : List Text). l ≡ []) (of_kind 2 e.input) (λ c. refl)
       (λ c'. ap (λ (l : List Text). those (λ d. is_for_at j e.left d && not (known image d past)) (once l)) m
       ∙ ap (those (λ d. is_for_at j e.left d && not (known image d past))) (once_one d)
-      ∙ if_false _ (d ∷ []) [] (ap (λ (x : Bool). is_for_at j e.left d && not x) (s.cancel_sent d k w c) ∙ both_false (is_for_at j e.left d)))
+      ∙ if_false _ (d ∷ []) [] (ap (λ (x : Bool). is_for_at j e.left d && not x) (s.cancel_sent d k w c) ∙ and-false (is_for_at j e.left d)))
   news (fresh d k m w v g a n) j = go (of_kind 2 e.input)
     where
       held : (if is_for_at j e.left d && not (known image d past) then d ∷ [] otherwise []) ≡ (if eqb (request_in e.left k).order j then d ∷ [] otherwise [])
-      held = ap (λ (x : Bool). if is_for_at j e.left d && not x then d ∷ [] otherwise []) (unsent d w) ∙ ap (λ (x : Bool). if x then d ∷ [] otherwise []) (and_true (is_for_at j e.left d) ∙ for_at j d k v)
-        where
-          and_true : (x : Bool) → x && true ≡ x
-          and_true true = refl
-          and_true false = refl
+      held = ap (λ (x : Bool). if is_for_at j e.left d && not x then d ∷ [] otherwise []) (unsent d w) ∙ ap (λ (x : Bool). if x then d ∷ [] otherwise []) (and-true (is_for_at j e.left d) ∙ for_at j d k v)
 
       go : (x : Bool) → (if x then [] otherwise those (λ d. is_for_at j e.left d && not (known image d past)) (once (cancels_in e.messages))) ≡ (if not x && eqb (request_in e.left k).order j then d ∷ [] otherwise [])
       go true = refl
@@ -294,9 +284,9 @@ module _ (image : Book) (e : Entry) (past : List Entry) (s : Base image e.before
 
     pub base_kept : Base image e.left (e ∷ past)
     base_kept = record {
-      sent_has = λ d h. has d (either_true (is_held image d) (sent d (e ∷ past)) h);
+      sent_has = λ d h. has d (or_cases (is_held image d) (sent d (e ∷ past)) h);
       cancel_sent = λ d k h c. was d k h c (comes d k h);
-      fail_answered = λ d h. answered d (either_true (fails e d) (failed past d) h);
+      fail_answered = λ d h. answered d (or_cases (fails e d) (failed past d) h);
     }
       where
         had : (d : Text) → known image d past ≡ true → (k : ℕ) × (find_downstream e.left d ≡ Some k)
@@ -304,20 +294,20 @@ module _ (image : Book) (e : Entry) (past : List Entry) (s : Base image e.before
 
         sends : (d : Text) → (holds d (cancels_in e.messages) ≡ true) ⊎ (sent d past ≡ true) → (k : ℕ) × (find_downstream e.left d ≡ Some k)
         sends d (inl p) = gone t.goes d p
-        sends d (inr p) = had d (or_right (is_held image d) p)
+        sends d (inr p) = had d (or_right (is_held image d) _ p)
 
         has : (d : Text) → (is_held image d ≡ true) ⊎ (sent d (e ∷ past) ≡ true) → (k : ℕ) × (find_downstream e.left d ≡ Some k)
-        has d (inl p) = had d (or_left (sent d past) p)
-        has d (inr p) = sends d (either_true (holds d (cancels_in e.messages)) (sent d past) p)
+        has d (inl p) = had d (or_left _ (sent d past) p)
+        has d (inr p) = sends d (or_cases (holds d (cancels_in e.messages)) (sent d past) p)
 
         was : (d : Text) (k : ℕ) → find_downstream e.left d ≡ Some k → is_cancel (request_in e.left k) ≡ true
             → (find_downstream e.before d ≡ Some k) ⊎ (find_downstream e.before d ≡ None) → known image d (e ∷ past) ≡ true
         was d k h c (inl w) =
-            or_map (is_held image d) (sent d past) (λ p. p) (λ p. or_right (holds d (cancels_in e.messages)) p) (s.cancel_sent d k w (sym (cancel_same _ _ (t.grows d k w).1) ∙ c))
-        was d k h c (inr w) = or_right (is_held image d) (or_left (sent d past) (new_cancel t.goes d k h w c))
+            or_map (is_held image d) (sent d past) (λ p. p) (λ p. or_right (holds d (cancels_in e.messages)) _ p) (s.cancel_sent d k w (sym (cancel_same _ _ (t.grows d k w).1) ∙ c))
+        was d k h c (inr w) = or_right (is_held image d) _ (or_left _ (sent d past) (new_cancel t.goes d k h w c))
 
         answered : (d : Text) → (fails e d ≡ true) ⊎ (failed past d ≡ true) → (k : ℕ) × (find_downstream e.left d ≡ Some k) × (is_answered (request_in e.left k) ≡ true)
-        answered d (inl p) = answered_some e.left d (both_true (not (answered_in e.before d)) (answered_in e.left d) (both_true (of_kind 7 e.input) _ p).1).1
+        answered d (inl p) = answered_some e.left d (and_parts (not (answered_in e.before d)) (answered_in e.left d) (and_parts (of_kind 7 e.input) _ p).1).1
         answered d (inr p) = let (k, w, a) = s.fail_answered d p in let (v, m) = t.grows d k w in (k, v, m.answered a)
 
     module _ (j : ℕ) (a : At image j e.before past) where
@@ -342,12 +332,12 @@ module _ (image : Book) (e : Entry) (past : List Entry) (s : Base image e.before
         where
           mine : not (of_kind 2 e.input) && eqb (request_in e.left k).order j ≡ true → (same_text d d₀ ≡ true) ⊎ (holds d l ≡ true) → Own j e.left d
           mine z (inl p) =
-              let (x, y) = both_true (not (of_kind 2 e.input)) (eqb (request_in e.left k).order j) z in
+              let (x, y) = and_parts (not (of_kind 2 e.input)) (eqb (request_in e.left k).order j) z in
               record { at = k; found = find_cong e.left d d₀ p ∙ v; by_gateway = g ∙ x; of_order = eqb-true _ _ y }
           mine z (inr p) = f d p
 
           go : (x : Bool) → not (of_kind 2 e.input) && eqb (request_in e.left k).order j ≡ x → holds d ((if x then d₀ ∷ [] otherwise []) ++ l) ≡ true → Own j e.left d
-          go true z p = mine z (either_true (same_text d d₀) (holds d l) (unfold if◌then◌otherwise◌ in p))
+          go true z p = mine z (or_cases (same_text d d₀) (holds d l) (unfold if◌then◌otherwise◌ in p))
           go false z p = f d (unfold if◌then◌otherwise◌ in p)
 
       distinct_new : (g : Goes e) (l : List Text) → Distinct l → ((d : Text) → find_downstream e.before d ≡ None → holds d l ≡ false) → Distinct (new_of g j ++ l)
@@ -357,7 +347,7 @@ module _ (image : Book) (e : Entry) (past : List Entry) (s : Base image e.before
       distinct_new (fresh d₀ k m w v g a n) l u f = split_if (λ (x : List Text). Distinct (x ++ l)) _ (λ z. (f d₀ w, u)) (λ z. u)
 
       unheld : (d : Text) → find_downstream e.before d ≡ None → holds d (out_at image j past) ≡ false
-      unheld d w = go (true_or_false (holds d (out_at image j past)))
+      unheld d w = go (cases_Bool (holds d (out_at image j past)))
         where
           go : (holds d (out_at image j past) ≡ true) ⊎ (holds d (out_at image j past) ≡ false) → holds d (out_at image j past) ≡ false
           go (inl h) = none_some w (a.own d h).found
@@ -365,15 +355,15 @@ module _ (image : Book) (e : Entry) (past : List Entry) (s : Base image e.before
 
       still_held : (l m : List Text) (d : Text) → holds d m ≡ true → holds d (l ++ m) ≡ true
       still_held [] m d h = h
-      still_held (x ∷ l) m d h = or_right (same_text d x) (still_held l m d h)
+      still_held (x ∷ l) m d h = or_right (same_text d x) _ (still_held l m d h)
 
       new_held : (l m : List Text) (d : Text) → holds d l ≡ true → holds d (l ++ m) ≡ true
       new_held [] m d h = clash false h refl
-      new_held (x ∷ l) m d h = go (either_true (same_text d x) (holds d l) h) (new_held l m d)
+      new_held (x ∷ l) m d h = go (or_cases (same_text d x) (holds d l) h) (new_held l m d)
         where
           go : (same_text d x ≡ true) ⊎ (holds d l ≡ true) → (holds d l ≡ true → holds d (l ++ m) ≡ true) → holds d (x ∷ (l ++ m)) ≡ true
-          go (inl p) r = or_left (holds d (l ++ m)) p
-          go (inr p) r = or_right (same_text d x) (r p)
+          go (inl p) r = or_left _ (holds d (l ++ m)) p
+          go (inr p) r = or_right (same_text d x) _ (r p)
 
       -- a new gateway request is put out
       new_put : (g : Goes e) (d : Text) (w : Own j e.left d) → find_downstream e.before d ≡ None → holds d (new_of g j) ≡ true
@@ -383,7 +373,7 @@ module _ (image : Book) (e : Entry) (past : List Entry) (s : Base image e.before
       new_put (fresh d₀ k m v x g a n) d w h =
           let p : same_text d d₀ ≡ true = same_back d₀ d (n d w.at w.found h) in
           let z : k ≡ w.at = same_some x (sym (find_cong e.left d d₀ p) ∙ w.found) in
-          ap (holds d) (if_true _ (d₀ ∷ []) [] (both_hold (not (of_kind 2 e.input)) (eqb (request_in e.left k).order j)
+          ap (holds d) (if_true _ (d₀ ∷ []) [] (and_from (not (of_kind 2 e.input)) (eqb (request_in e.left k).order j)
           (sym g ∙ ap (λ (i : ℕ). is_gateway (request_in e.left i)) z ∙ w.by_gateway)
           (eq-eqb _ _ (ap (λ (i : ℕ). (request_in e.left i).order) z ∙ w.of_order))))
           ∙ holds_self d d₀ [] p
@@ -400,7 +390,7 @@ module _ (image : Book) (e : Entry) (past : List Entry) (s : Base image e.before
           go (inl h) =
               let m = (t.grows d w.at h).1 in
               old (record { at = w.at; found = h; by_gateway = sym (gateway_same _ _ m) ∙ w.by_gateway; of_order = sym m.order ∙ w.of_order })
-              (before (true_or_false (is_answered (request_in e.before w.at))) m.answered) (t.tried j hg)
+              (before (cases_Bool (is_answered (request_in e.before w.at))) m.answered) (t.tried j hg)
             where
               before : (is_answered (request_in e.before w.at) ≡ true) ⊎ (is_answered (request_in e.before w.at) ≡ false)
                   → (is_answered (request_in e.before w.at) ≡ true → is_answered (request_in e.left w.at) ≡ true) → is_answered (request_in e.before w.at) ≡ false
@@ -416,20 +406,20 @@ module _ (image : Book) (e : Entry) (past : List Entry) (s : Base image e.before
       new_failed (silent m n) = refl
       new_failed (repeated d k m w c n) = refl
       new_failed (fresh d k m w v g u n) =
-          split_if (λ (l : List Text). how_many (failed (e ∷ past)) l ≡ 0) _ (λ z. ap (λ (x : ℕ). x + 0) (if_false (failed (e ∷ past) d) 1 0 (or_both _ _ no! (unfailed d w)))) (λ z. refl)
+          split_if (λ (l : List Text). how_many (failed (e ∷ past)) l ≡ 0) _ (λ z. ap (λ (x : ℕ). x + 0) (if_false (failed (e ∷ past) d) 1 0 (or_from _ _ no! (unfailed d w)))) (λ z. refl)
         where
           no! : fails e d ≡ false
           no! =
               ap (λ (x : Bool). of_kind 7 e.input && (not (answered_in e.before d) && x)) (answered_at e.left d k v ∙ u)
-              ∙ ap (λ (x : Bool). of_kind 7 e.input && x) (both_false (not (answered_in e.before d)))
-              ∙ both_false (of_kind 7 e.input)
+              ∙ ap (λ (x : Bool). of_kind 7 e.input && x) (and-false (not (answered_in e.before d)))
+              ∙ and-false (of_kind 7 e.input)
 
       -- what is left of the image's number after the call
       dropped : begins_at j e ≡ true → (n : ℕ) → still_at j (e ∷ past) n ≡ 0
-      dropped b n = if_true _ _ _ (or_left (some_of (begins_at j) past) b)
+      dropped b n = if_true _ _ _ (or_left _ (list_any (begins_at j) past) b)
 
       left : begins_at j e ≡ false → (n : ℕ) → still_at j (e ∷ past) n ≡ still_at j past n
-      left b n = ap (λ (x : Bool). if x || some_of (begins_at j) past then 0 otherwise n) b
+      left b n = ap (λ (x : Bool). if x || list_any (begins_at j) past then 0 otherwise n) b
 
       tries_kept : has_gateway (order_in e.left j) ≡ true → Tries image j (e ∷ past) (order_in e.left j).gateway.tries
       tries_kept hg = go (t.tried j hg)
@@ -447,20 +437,20 @@ module _ (image : Book) (e : Entry) (past : List Entry) (s : Base image e.before
           go (fell b g z l d w u f fs m) =
               let c : how_many (failed (e ∷ past)) (out_at image j past) ≡ how_many (failed past) (out_at image j past) + 1 =
               many_one (failed past) (failed (e ∷ past)) d (out_at image j past) a.one (a.unanswered g d w u)
-              (λ x q. (unfailed_yet x w.at (sym (find_cong e.before d x q) ∙ w.found) u, or_left (failed past x) (sym (fails_cong e d x q) ∙ f)))
+              (λ x q. (unfailed_yet x w.at (sym (find_cong e.before d x q) ∙ w.found) u, or_left _ (failed past x) (sym (fails_cong e d x q) ∙ f)))
               (λ x q. sym (ap (λ (y : Bool). y || failed past x) (fs x q))) in
               subst T (sym (counted b ∙ ap (λ (l : List Text). l ++ out_at image j past) l))
               (omega (arith, m, z, c, a.tries g, left b (length (held_at image j)), left b (order_in image j).gateway.tries))
 
       own_kept : (d : Text) → holds d (out_at image j (e ∷ past)) ≡ true → Own j e.left d
-      own_kept d h = go (true_or_false (begins_at j e))
+      own_kept d h = go (cases_Bool (begins_at j e))
         where
           go : (begins_at j e ≡ true) ⊎ (begins_at j e ≡ false) → Own j e.left d
           go (inl b) = own_new t.goes [] (λ x z. clash false z refl) d (ap (holds d) (sym (recounted b)) ∙ h)
           go (inr b) = own_new t.goes (out_at image j past) (λ x z. older x (a.own x z)) d (ap (holds d) (sym (counted b)) ∙ h)
 
       one_kept : Distinct (out_at image j (e ∷ past))
-      one_kept = go (true_or_false (begins_at j e))
+      one_kept = go (cases_Bool (begins_at j e))
         where
           go : (begins_at j e ≡ true) ⊎ (begins_at j e ≡ false) → Distinct (out_at image j (e ∷ past))
           go (inl b) = subst Distinct (sym (recounted b)) (distinct_new t.goes [] (unfold Distinct in tt) (λ d w. refl))

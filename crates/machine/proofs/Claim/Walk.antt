@@ -1,17 +1,9 @@
 -- What an event does, by cases: it is turned away, finds no order, changes one order, or books a new one. Rests on Ruled and Stepped.
 -- `P i c` stands for what is to be shown of a change `c` of the order at index i; each handler shows it, and `walk` finds the handler.
-use Prim.Native.Nat.{ℕ, ◌+◌, ◌≤◌, ◌<◌}
-use native.Mathlib.Omega.{arith}
-use mathlib.Core.Path.{◌≡◌, refl, ap, ◌∙◌}
-use mathlib.Core.Logic.{◌⊎◌, inl, inr}
-use mathlib.Core.Bool.{Bool, true, false, not, ◌&&◌}
-use Rattle.std.specs.Prelude.{Option, None, Some}
-use mathlib.Core.List.{[]}
-use lib.Dec.{eqb}
-use lib.ListN.{length}
-use borrow.Author.Tests.{eq-eqb, ne_eqb, not-true, not-false}
+use Rattle.std.proofs.Common.{ℕ, ◌+◌, ◌≤◌, ◌<◌, arith, ◌≡◌, refl, ap, ◌∙◌, ◌⊎◌, inl, inr, Bool, true, false, not, ◌&&◌, Option, None, Some, [], eqb, length, eq-eqb, ne_eqb}
+use Rattle.std.proofs.lemmas.Bool.{not-true, not-false, and_parts}
 use Rattle.prelude.specs.Below.{first_some}
-use Rattle.prelude.specs.Cases.{if◌then◌otherwise◌, maybe, split_if, clash, both_true}
+use Rattle.prelude.specs.Cases.{if◌then◌otherwise◌, maybe, split_if, clash}
 use Rattle.prelude.specs.Texts.{same_text}
 use Rattle.prelude.specs.Totals.{total_of}
 use Rattle.prelude.specs.declared.Text.{Text}
@@ -84,9 +76,7 @@ unfolding already_taken
 none_taken f order e p = ap (λ (n : ℕ). has e 21 && not (eqb order 0) && eqb order n) p ∙ go (has e 21) (eqb order 0)
   where
     go : (x y : Bool) → x && not y && y ≡ false
-    go true true = refl
-    go true false = refl
-    go false y = refl
+    go x y = grind arith
 
 pub none_refused : (f : Findings) (order : ℕ) (full : Bool) (o : Order) (e : Event) (own : Reject) → f.place ≡ 0
     → eqb (amend_refusal f order full o e own).fixedtext 0 ≡ false
@@ -141,7 +131,7 @@ findings_none b = refl
 
 name_unused : (b : Book) (e : Event) → unused b e ≡ true → find_name b e.ids.name ≡ None
 unfolding unused maybe
-name_unused b e h = go (find_name b e.ids.name) (both_true _ _ h).0
+name_unused b e h = go (find_name b e.ids.name) (and_parts _ _ h).0
   where
     go : (x : Option ℕ) → maybe true (λ k. false) x ≡ true → x ≡ None
     go None z = refl

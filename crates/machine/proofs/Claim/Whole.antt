@@ -1,19 +1,15 @@
 -- Demand 3 from any image, whole: the rounds, the list, and from an order's index to its name. Rests on Net, Turn, Image and Events.
-use Prim.Native.Nat.{ℕ, ◌+◌, ◌≤◌, ◌<◌}
-use native.Mathlib.Decide.{ℕ_discrete, dec_lt}
-use native.Mathlib.Omega.{arith}
-use mathlib.Core.Path.{◌≡◌, refl, sym, ap, ◌∙◌, subst}
-use mathlib.Core.Logic.{◌⊎◌, inl, inr}
-use mathlib.Core.Bool.{Bool, true, false, not, ◌&&◌, ◌||◌}
-use Rattle.std.specs.Prelude.{Option, None, Some}
-use mathlib.Core.List.{List, [], ◌∷◌, ◌++◌, append-nil, append_assoc}
-use lib.Dec.{eqb}
-use lib.ListN.{length, length-append, set, get_or-eq_default}
-use borrow.Author.Tests.{eqb-true, eq-eqb, ne_eqb}
+use Rattle.std.proofs.Common.{ℕ, ◌+◌, ◌≤◌, ◌<◌, arith, ◌≡◌, refl, sym, ap, ◌∙◌, subst, ◌⊎◌, inl, inr, Bool, true, false, not, ◌&&◌, ◌||◌, Option, None, Some, List, [], ◌∷◌, ◌++◌, append-nil, append_assoc, eqb, length, length-append, set, eqb-true, eq-eqb, ne_eqb}
+use Rattle.std.proofs.Math.Bool.{and-false}
+use Rattle.std.proofs.Math.Decide.{ℕ_discrete, dec_lt}
+use Rattle.std.proofs.Math.ListN.{get_or-eq_default}
+use Rattle.std.proofs.lemmas.Bool.{and_from, cases_Bool}
+use Rattle.std.specs.Cmp.{both_ways}
+use Rattle.std.specs.List.{list_any}
 use Rattle.prelude.specs.Below.{first_elim}
-use Rattle.prelude.specs.Cases.{if◌then◌otherwise◌, maybe, split_if, clash, both_hold, both_false, if_true, if_false, maybe_none, test_same, true_or_false, none_some}
+use Rattle.prelude.specs.Cases.{if◌then◌otherwise◌, maybe, split_if, clash, if_true, if_false, maybe_none, none_some}
 use Rattle.prelude.specs.Texts.{same_text, same_self, same_back}
-use Rattle.prelude.specs.Totals.{total_of, some_of, how_many, Every, every[], every∷, many_append, every_map, those_ext, total_one}
+use Rattle.prelude.specs.Totals.{total_of, how_many, Every, every[], every∷, many_append, every_map, those_ext, total_one}
 use Rattle.prelude.specs.declared.Text.{Text}
 use Rattle.store.specs.declared.Order.{Order}
 use Rattle.store.specs.declared.Request.{Request}
@@ -80,9 +76,7 @@ still_round b i n ms m beg = record {
 }
   where
     never : (x y : Bool) → x && (not y && y) ≡ false
-    never true true = refl
-    never true false = refl
-    never false y = refl
+    never x y = grind arith
 
 refused_path : (b : Book) (i : Decoded) (c : Change) → eqb c.refusal 0 ≡ false → line_of b i c ≡ record { before = b; input = i; refusal = c.refusal; messages = []; left = b }
 refused_path b i c h = let s = refused_line b i c h in λ x. record { before = b; input = i; refusal = c.refusal; messages = s.0 x; left = s.1 x }
@@ -119,11 +113,11 @@ bystands_round : (b : Book) (i : Decoded) (c : Change) → Bystands c → ((j : 
 bystands_round b i c s a =
     subst Round (sym (taken_path b i c s.taken))
     (subst (λ (x : Book). Round (record { before = b; input = i; refusal = c.refusal; messages = tells c; left = x })) (sym (after_same b c s))
-    (still_round b i c.refusal (tells c) s.no_cancel (λ j. unfold begins_at in ap (λ (x : Bool). eqb c.refusal 0 && x) (a j) ∙ both_false (eqb c.refusal 0))))
+    (still_round b i c.refusal (tells c) s.no_cancel (λ j. unfold begins_at in ap (λ (x : Bool). eqb c.refusal 0 && x) (a j) ∙ and-false (eqb c.refusal 0))))
 
 unknown_asks : (b : Book) (e : Event) → (eqb e.kind 9 ≡ false) ⊎ (find_name b e.ids.name ≡ None) → (j : ℕ) → asks_at j b (read_as e) ≡ false
 unknown_asks b e (inl z) j = asks_none b e z j
-unknown_asks b e (inr z) j = ap (λ (x : Bool). eqb e.kind 9 && x) (maybe_none _ _ _ z) ∙ both_false (eqb e.kind 9)
+unknown_asks b e (inr z) j = ap (λ (x : Bool). eqb e.kind 9 && x) (maybe_none _ _ _ z) ∙ and-false (eqb e.kind 9)
 
 -- one order is changed
 module _ (laws : NumberedLaws) (b : Book) (r : Ruled b) (e : Event) (i : ℕ) (h : i < length b.orders) (c : Change) (m : Moves 2 (i + 1) (order_in b i) c) (room : has_room b c ≡ true) (s : Shaped b e i c) where
@@ -219,7 +213,7 @@ module _ (b : Book) (r : Ruled b) (e : Event) (k : eqb e.kind 1 ≡ true) (u : f
   })
     where
       not_begun : (j : ℕ) → begins_at j (line b (read_as e) (booking b e)) ≡ false
-      not_begun j = unfold begins_at in ap (λ (x : Bool). eqb (booking b e).refusal 0 && x) (asks_none b e (not_kind e 1 9 k refl) j) ∙ both_false (eqb (booking b e).refusal 0)
+      not_begun j = unfold begins_at in ap (λ (x : Bool). eqb (booking b e).refusal 0 && x) (asks_none b e (not_kind e 1 9 k refl) j) ∙ and-false (eqb (booking b e).refusal 0)
 
       not_failed : (d : Text) → fails (line b (read_as e) (booking b e)) d ≡ false
       not_failed d = ap (λ (x : Bool). x && (not (answered_in b d) && answered_in (after b (booking b e)) d)) (not_kind e 1 7 k refl)
@@ -265,7 +259,7 @@ module _ (laws : NumberedLaws) (b : Book) where
   did_round r e l h c (new_order k u) = booked_round b r e k u
 
   unread_round : (n m : ℕ) → Round (line_of b (unread n) (refusing m))
-  unread_round n m = go (true_or_false (eqb m 0))
+  unread_round n m = go (cases_Bool (eqb m 0))
     where
       go : (eqb m 0 ≡ true) ⊎ (eqb m 0 ≡ false) → Round (line_of b (unread n) (refusing m))
       go (inl z) = subst (λ (x : ℕ). Round (line_of b (unread n) (refusing x))) (sym (eqb-true m 0 z)) (bystands_round b (unread n) (refusing 0) refusing_bystands (λ j. refl))
@@ -342,7 +336,7 @@ module _ (b : Book) (a : Apart b) (j : ℕ) (h : j < length b.orders) where
   same_order : (c : Book) → Persists c b → (i : ℕ) → i < length c.orders → bears_name (order_in b j).names.name (order_in c i) ≡ eqb i j
   same_order c p i l =
       ap (λ (t : Text). same_text t (order_in b j).names.name) (sym (same_name c b p i l))
-      ∙ test_same _ _ (λ w. eq-eqb i j (a i j (omega (arith, p.longer)) h w))
+      ∙ both_ways _ _ (λ w. eq-eqb i j (a i j (omega (arith, p.longer)) h w))
       (λ w. ap (λ (n : ℕ). same_text (order_in b n).names.name (order_in b j).names.name) (eqb-true i j w) ∙ same_self (order_in b j).names.name)
 
   abbrev its : Whose → Bool
@@ -358,10 +352,10 @@ module _ (b : Book) (a : Apart b) (j : ℕ) (h : j < length b.orders) where
       other : (i : ℕ) → i < length c.orders → (i ≡ j → ⊥) → filled_by its (order_in c i) ≡ 0
       other i l n =
           let client : Bool = eqb (order_in c i).client (order_in b j).client in
-          if_false _ _ _ (ap (λ (x : Bool). client && x) (same_order c p i l ∙ ne_eqb i j n) ∙ both_false client)
+          if_false _ _ _ (ap (λ (x : Bool). client && x) (same_order c p i l ∙ ne_eqb i j n) ∙ and-false client)
 
       own : Dec (j < length c.orders) → filled_by its (order_in c j) ≡ (order_in c j).state.cumqty
-      own (yes l) = if_true _ _ _ (both_hold _ _ (eq-eqb _ _ (sym (ap (λ (w : Whose). w.client) (p.same j l)))) (same_order c p j l ∙ eq-eqb j j refl))
+      own (yes l) = if_true _ _ _ (and_from _ _ (eq-eqb _ _ (sym (ap (λ (w : Whose). w.client) (p.same j l)))) (same_order c p j l ∙ eq-eqb j j refl))
       own (no l) = subst (λ (o : Order). filled_by its o ≡ o.state.cumqty) (sym (get_or-eq_default c.orders no_order (omega arith))) none_filled
 
   for_same : (e : Entry) → Known b e → (d : Text) → is_for (order_in b j).names.name e.left d ≡ is_for_at j e.left d
@@ -393,7 +387,7 @@ module _ (b : Book) (a : Apart b) (j : ℕ) (h : j < length b.orders) where
   unfolding begins_at
   begins_same e k = ap (λ (x : Bool). eqb e.refusal 0 && x) (asks_same e.before k.before e.input)
 
-  begun_same : (past : List Entry) → Every (Known b) past → begun_since (order_in b j).names.name past ≡ some_of (begins_at j) past
+  begun_same : (past : List Entry) → Every (Known b) past → begun_since (order_in b j).names.name past ≡ list_any (begins_at j) past
   begun_same [] every[] = refl
   begun_same (e ∷ past) (every∷ k ks) =
       ap (λ (x : Bool). x || begun_since (order_in b j).names.name past) (begins_same e k) ∙ ap (λ (x : Bool). begins_at j e || x) (begun_same past ks)

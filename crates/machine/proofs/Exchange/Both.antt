@@ -1,15 +1,9 @@
 -- Two events, one after the other and the other way round: what each comes to on the book as it is, and on the book that the other leaves.
 -- Rests on Handled.
-use Prim.Native.Nat.{ℕ, ◌-◌, ◌≤◌, ◌<◌}
-use native.Mathlib.Decide.{ℕ_discrete}
-use native.Mathlib.Omega.{arith}
-use mathlib.Core.Path.{◌≡◌, refl, sym, ap, subst, ◌∙◌}
-use mathlib.Core.Logic.{◌⊎◌, inl, inr, ⊎_elim}
-use mathlib.Core.Bool.{true, false, not, ◌||◌}
-use lib.Dec.{eqb, leb, ltb}
-use lib.ListN.{length}
-use borrow.Author.Tests.{eqb-true, eq-eqb, le-leb, lt-ltb, ltb-true}
-use Rattle.prelude.specs.Cases.{if◌then◌otherwise◌, if_true, if_false, both_true, either_true, true_or_false, clash}
+use Rattle.std.proofs.Common.{ℕ, ◌-◌, ◌≤◌, ◌<◌, arith, ◌≡◌, refl, sym, ap, subst, ◌∙◌, ◌⊎◌, inl, inr, ⊎_elim, true, false, not, ◌||◌, eqb, leb, ltb, length, eqb-true, eq-eqb, le-leb, lt-ltb, ltb-true}
+use Rattle.std.proofs.Math.Decide.{ℕ_discrete}
+use Rattle.std.proofs.lemmas.Bool.{and_parts, or_cases, cases_Bool, and_from, or_left, or_right}
+use Rattle.prelude.specs.Cases.{if◌then◌otherwise◌, if_true, if_false, clash}
 use Rattle.store.specs.Book.{Book, order_in}
 use Rattle.machine.specs.Orders.{one_more}
 use Rattle.machine.specs.Changes.{Event, refusing}
@@ -17,7 +11,6 @@ use Rattle.machine.specs.Machine.{change_of, has_room, step_of, after, book_afte
 use Rattle.machine.specs.Exchange.{concerns, OfTwoClients}
 use Rattle.machine.specs.declared.Requests.{Requests}
 use Rattle.machine.specs.declared.Change.{Change}
-use Rattle.machine.proofs.Kept.Laws.{both, or_left, or_right}
 use Rattle.machine.proofs.Kept.Lift.{BookKept, book_kept}
 use Rattle.machine.proofs.Claim.Ruled.{Ruled, ruled}
 use Rattle.machine.proofs.Claim.Records.{longer, added_long, none_kept}
@@ -48,7 +41,7 @@ module _ (b : Book) (e : Event) where
       left = unfold book_after in left_taken (step_of b e) (ap (λ (c : Change). c.refusal) step ∙ z) ∙ ap (after b) step
 
   step_taken : (step_of b e).refusal ≡ 0 → Taken b e
-  step_taken z = go (true_or_false (eqb (change_of b e).refusal 0)) (true_or_false (has_room b (change_of b e)))
+  step_taken z = go (cases_Bool (eqb (change_of b e).refusal 0)) (cases_Bool (has_room b (change_of b e)))
     where
       away : (n : ℕ) → eqb n 0 ≡ false → step_of b e ≡ refusing n → ⊥
       away n h s = clash _ (eq-eqb (refusing n).refusal 0 (ap (λ (c : Change). c.refusal) (sym s) ∙ z)) (refusing_away n h)
@@ -65,14 +58,14 @@ module _ (b : Book) (e : Event) where
 room_of : (b : Book) (c : Change) → c.place ≤ length b.orders → (c.requests.added ≡ 0) ⊎ (length b.requests < 256) → has_room b c ≡ true
 unfolding has_room
 room_of b c l h =
-    both (or_left _ (le-leb c.place (length b.orders) l))
-    (⊎_elim (λ z. or_left _ (eq-eqb c.requests.added 0 z)) (λ z. or_right (eqb c.requests.added 0) (lt-ltb (length b.requests) 256 z)) h)
+    and_from _ _ (or_left _ _ (le-leb c.place (length b.orders) l))
+    (⊎_elim (λ z. or_left _ _ (eq-eqb c.requests.added 0 z)) (λ z. or_right (eqb c.requests.added 0) _ (lt-ltb (length b.requests) 256 z)) h)
 
 of_room : (b : Book) (c : Change) → has_room b c ≡ true → (c.requests.added ≡ 0) ⊎ (length b.requests < 256)
 unfolding has_room
 of_room b c h =
     ⊎_elim (λ z. inl (eqb-true c.requests.added 0 z)) (λ z. inr (ltb-true (length b.requests) 256 z))
-    (either_true (eqb c.requests.added 0) (ltb (length b.requests) 256) (both_true (leb c.place (length b.orders) || ltb (length b.orders) 64) _ h).1)
+    (or_cases (eqb c.requests.added 0) (ltb (length b.requests) 256) (and_parts (leb c.place (length b.orders) || ltb (length b.orders) 64) _ h).1)
 
 -- ---- two changes of the orders at indices i and j: c' is c as it is seen after d, and d' is d as it is seen after c
 

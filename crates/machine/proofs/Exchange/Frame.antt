@@ -1,18 +1,10 @@
 -- What a change to one order leaves as it was: the other orders and their requests, and what is looked up for them. Rests on Records and Lift.
-use Prim.Native.Nat.{ℕ, ◌+◌, ◌-◌, ◌≤◌, ◌<◌}
-use native.Mathlib.Decide.{ℕ_discrete}
-use native.Mathlib.Omega.{arith}
-use mathlib.Core.Path.{◌≡◌, refl, sym, ap, subst, ◌∙◌}
-use mathlib.Core.Logic.{◌⊎◌, inl, inr, ⊎_elim}
-use mathlib.Core.Bool.{Bool, true, false, not, ◌&&◌}
-use Rattle.std.specs.Prelude.{Some}
-use mathlib.Core.List.{List}
-use lib.Dec.{eqb, leb, ltb}
-use lib.ListN.{length, get_or, set, length-set}
-use lib.Seq.{get_or-set_same, get_or-set_other}
-use borrow.Author.Tests.{eqb-true, eq-eqb, ne_eqb, leb-true}
+use Rattle.std.proofs.Common.{ℕ, ◌+◌, ◌-◌, ◌≤◌, ◌<◌, arith, ◌≡◌, refl, sym, ap, subst, ◌∙◌, ◌⊎◌, inl, inr, ⊎_elim, Bool, true, false, not, ◌&&◌, Some, List, eqb, leb, ltb, length, get_or, set, length-set, get_or-set_same, get_or-set_other, eqb-true, eq-eqb, ne_eqb, leb-true}
+use Rattle.std.proofs.Math.Bool.{and-false}
+use Rattle.std.proofs.Math.Decide.{ℕ_discrete}
+use Rattle.std.proofs.lemmas.Bool.{and_parts, or_cases}
 use Rattle.prelude.specs.Below.{first_below, First, first_some, first_hit, first_ext, first_past, count_ext, count_past}
-use Rattle.prelude.specs.Cases.{if◌then◌otherwise◌, both_true, both_false, either_true, clash}
+use Rattle.prelude.specs.Cases.{if◌then◌otherwise◌, clash}
 use Rattle.prelude.specs.Texts.{same_text}
 use Rattle.prelude.specs.declared.Text.{Text}
 use Rattle.store.specs.declared.Order.{Order}
@@ -28,7 +20,7 @@ use Rattle.machine.specs.declared.Change.{Change}
 use Rattle.machine.proofs.Kept.Tables.{Linked, linked_at}
 use Rattle.machine.proofs.Kept.Lift.{BookKept, after_case}
 use Rattle.machine.proofs.Claim.Filled.{orders_set, after_orders}
-use Rattle.machine.proofs.Claim.Records.{there_like, there_other, longer, added_long, added_at, none_kept}
+use Rattle.machine.proofs.Claim.Records.{there_like, there_other, longer, added_own}
 use Rattle.machine.proofs.Exchange.Links.{Within}
 
 -- ---- a change of the order at index i and of its own requests
@@ -62,7 +54,7 @@ after_clordid : (b : Book) (c : Change) (k : ℕ) → k < length b.requests → 
 unfolding after
 after_clordid b c k l = after_case (λ (q : Request). q.clordid ≡ (request_in b k).clordid) b.requests c k l refl refl
 
-after_setting : (b : Book) (c : Change) → (after b c).setting ≡ b.setting
+pub after_setting : (b : Book) (c : Change) → (after b c).setting ≡ b.setting
 unfolding after
 after_setting b c = refl
 
@@ -84,16 +76,6 @@ module _ (b : Book) (i : ℕ) (c : Change) (w : Owned b i c) where
       go (yes z) = subst (λ (x : ℕ). f (order_in (after b c) x) ≡ f (order_in b x)) (sym z) (ap f owned_at ∙ e)
       go (no z) = ap f (owned_beside j z)
 
-  own_added : (k : ℕ) → length b.requests ≤ k → k < length (after b c).requests → (request_in (after b c) k).order ≡ i
-  own_added k l u = go (ℕ_discrete c.requests.added 0) w.adds
-    where
-      go : Dec (c.requests.added ≡ 0) → (c.requests.added ≡ 0) ⊎ (c.requests.request.order ≡ i) → (request_in (after b c) k).order ≡ i
-      go (yes x) d = absurd (omega (arith, none_kept b c x))
-      go (no x) (inl y) = absurd (x y)
-      go (no x) (inr y) =
-          let at_end : k ≡ length b.requests = omega (arith, added_long b c x) in
-          ap (λ (m : ℕ). (request_in (after b c) m).order) at_end ∙ ap (λ (q : Request). q.order) (added_at b c x) ∙ y
-
   pub apart : Apart b (after b c) i
   apart = record {
     setting = after_setting b c;
@@ -106,7 +88,7 @@ module _ (b : Book) (i : ℕ) (c : Change) (w : Owned b i c) where
     orders = λ k l. (there_like b c k l).order;
     clordids = after_clordid b c;
     downstreams = λ k l. (there_like b c k l).text;
-    added = own_added;
+    added = added_own b c i w.adds;
   }
 
 -- ---- lookups
@@ -143,7 +125,7 @@ module _ (b b' : Book) (i : ℕ) (a : Apart b b' i) where
     of_added k l u =
         let e : eqb (order_in b' (request_in b' k).order).client client ≡ false =
         ap (λ (x : ℕ). eqb (order_in b' x).client client) (a.added k l u) ∙ ap (λ (x : ℕ). eqb x client) (a.clients i) ∙ ne_eqb _ client other in
-        ap (λ (x : Bool). ltb (request_in b' k).order (length b'.orders) && x) e ∙ both_false (ltb (request_in b' k).order (length b'.orders))
+        ap (λ (x : Bool). ltb (request_in b' k).order (length b'.orders) && x) e ∙ and-false (ltb (request_in b' k).order (length b'.orders))
 
     has_same : (k : ℕ) → k < length b.requests → has_clordid (request_in b' k) ≡ has_clordid (request_in b k)
     has_same k l = ap (λ (t : Text). has_clordid (record { order = 0; kind = 0; answered = 0; clordid = t; origclordid = t; downstream = t })) (a.clordids k l)
@@ -153,7 +135,7 @@ module _ (b b' : Book) (i : ℕ) (a : Apart b b' i) where
     clordid_same t =
         first_past (λ k. bears_clordid b'.orders client t (request_in b' k)) (length b.requests) (length b'.requests) a.longer
         (λ k l u. ap (λ (x : Bool). has_clordid (request_in b' k) && (same_text (request_in b' k).clordid t && x)) (of_added k l u)
-        ∙ ap (λ (x : Bool). has_clordid (request_in b' k) && x) (both_false (same_text (request_in b' k).clordid t)) ∙ both_false (has_clordid (request_in b' k)))
+        ∙ ap (λ (x : Bool). has_clordid (request_in b' k) && x) (and-false (same_text (request_in b' k).clordid t)) ∙ and-false (has_clordid (request_in b' k)))
         ∙ first_ext (λ k. bears_clordid b'.orders client t (request_in b' k)) (λ k. bears_clordid b.orders client t (request_in b k)) (length b.requests)
         (λ k l. ap (λ (x : Bool). x && (same_text (request_in b' k).clordid t && of_client b'.orders client (request_in b' k))) (has_same k l)
         ∙ ap (λ (x : Text). has_clordid (request_in b k) && (same_text x t && of_client b'.orders client (request_in b' k))) (a.clordids k l)
@@ -163,7 +145,7 @@ module _ (b b' : Book) (i : ℕ) (a : Apart b b' i) where
     unfolding count_clordids
     count_same =
         count_past (λ k. used_by b'.orders client (request_in b' k)) (length b.requests) (length b'.requests) a.longer
-        (λ k l u. ap (λ (x : Bool). has_clordid (request_in b' k) && x) (of_added k l u) ∙ both_false (has_clordid (request_in b' k)))
+        (λ k l u. ap (λ (x : Bool). has_clordid (request_in b' k) && x) (of_added k l u) ∙ and-false (has_clordid (request_in b' k)))
         ∙ count_ext (λ k. used_by b'.orders client (request_in b' k)) (λ k. used_by b.orders client (request_in b k)) (length b.requests)
         (λ k l. ap (λ (x : Bool). x && of_client b'.orders client (request_in b' k)) (has_same k l)
         ∙ ap (λ (x : Bool). has_clordid (request_in b k) && x) (of_same k l))
@@ -179,7 +161,7 @@ module _ (b b' : Book) (i : ℕ) (a : Apart b b' i) where
 
     cancel_of : (l : ℕ) → cancel_rule j l b.requests ≡ true → (l ≡ 0) ⊎ Linked is_cancel j l b.requests
     unfolding cancel_rule
-    cancel_of l e = ⊎_elim (λ z. inl (eqb-true l 0 z)) (λ z. inr (linked_at is_cancel j l b.requests z)) (either_true (eqb l 0) _ e)
+    cancel_of l e = ⊎_elim (λ z. inl (eqb-true l 0 z)) (λ z. inr (linked_at is_cancel j l b.requests z)) (or_cases (eqb l 0) _ e)
 
     pub latest_same : latest_cancel b' (order_in b j) ≡ latest_cancel b (order_in b j)
     unfolding latest_cancel
@@ -204,11 +186,11 @@ module _ (b : Book) (good : BookKept b) where
 
     cancel_within : (l : ℕ) → cancel_rule i l b.requests ≡ true → l ≤ length b.requests
     unfolding cancel_rule
-    cancel_within l e = ⊎_elim (λ z. let w : l ≡ 0 = eqb-true l 0 z in omega arith) (λ z. (linked_at is_cancel i l b.requests z).within) (either_true (eqb l 0) _ e)
+    cancel_within l e = ⊎_elim (λ z. let w : l ≡ 0 = eqb-true l 0 z in omega arith) (λ z. (linked_at is_cancel i l b.requests z).within) (or_cases (eqb l 0) _ e)
 
     pending_within : (l : ℕ) → pending_rule i l b.requests ≡ true → l ≤ length b.requests
     unfolding pending_rule
-    pending_within l e = ⊎_elim (λ z. let w : l ≡ 0 = eqb-true l 0 z in omega arith) (λ z. (linked_at pending_test i l b.requests z).within) (either_true (eqb l 0) _ e)
+    pending_within l e = ⊎_elim (λ z. let w : l ≡ 0 = eqb-true l 0 z in omega arith) (λ z. (linked_at pending_test i l b.requests z).within) (or_cases (eqb l 0) _ e)
 
     gateway_within : gateway_range (length b.requests) (order_in b i).gateway ≡ true → (order_in b i).gateway.origdownstream ≤ length b.requests
     unfolding gateway_range
@@ -216,7 +198,7 @@ module _ (b : Book) (good : BookKept b) where
         let g = (order_in b i).gateway in
         let x : Bool = not (g.unsent && g.stuck) in
         let y : Bool = leb g.origdownstream (length b.requests) in
-        leb-true _ _ (both_true x y (both_true (x && y) _ e).0).1
+        leb-true _ _ (and_parts x y (and_parts (x && y) _ e).0).1
 
     pub links_within : Within (length b.requests) (order_in b i)
     links_within = record {

@@ -1,17 +1,11 @@
 -- The order that an event of kinds 2 to 9 concerns: how the event finds it, what it does to it, and that another order's change is no matter to it.
 -- Rests on Links, Frame, and Touches and Moves of Claim.
-use Prim.Native.Nat.{ℕ, ◌+◌, ◌-◌, ◌≤◌, ◌<◌}
-use native.Mathlib.Decide.{ℕ_discrete}
-use native.Mathlib.Omega.{arith}
-use mathlib.Core.Path.{◌≡◌, refl, sym, ap, subst, ◌∙◌}
-use mathlib.Core.Logic.{◌⊎◌, inl, inr}
-use mathlib.Core.Bool.{Bool, false, ◌&&◌}
-use Rattle.std.specs.Prelude.{Option, None, Some}
-use lib.Dec.{eqb, leb, ltb}
-use lib.ListN.{length}
-use borrow.Author.Tests.{eqb-true, eq-eqb, ne_eqb}
+use Rattle.std.proofs.Common.{ℕ, ◌+◌, ◌-◌, ◌≤◌, ◌<◌, arith, ◌≡◌, refl, sym, ap, subst, ◌∙◌, ◌⊎◌, inl, inr, Bool, false, ◌&&◌, Option, None, Some, eqb, leb, ltb, length, eqb-true, eq-eqb, ne_eqb}
+use Rattle.std.proofs.Math.Decide.{ℕ_discrete}
+use Rattle.std.proofs.Math.Logic.{by_cases}
+use Rattle.std.proofs.lemmas.Bool.{and_parts}
 use Rattle.prelude.specs.Below.{first_some}
-use Rattle.prelude.specs.Cases.{if◌then◌otherwise◌, maybe, if_true, if_false, maybe_some, both_true, clash}
+use Rattle.prelude.specs.Cases.{if◌then◌otherwise◌, maybe, if_true, if_false, maybe_some, clash}
 use Rattle.prelude.specs.Texts.{same_text}
 use Rattle.prelude.specs.declared.Text.{Text}
 use Rattle.store.specs.declared.Order.{Order}
@@ -104,10 +98,6 @@ unfolding maybe
 found None f i e = absurd (omega arith)
 found (Some k) f i e = (k, refl, omega arith)
 
-dec_cases : {A X : Type 0} → Dec X → (X → A) → ((X → ⊥) → A) → A
-dec_cases (yes x) f g = f x
-dec_cases (no x) f g = g x
-
 module _ (b : Book) (e : Event) (i : ℕ) where
   concerns_clordid : (e.kind ≡ 2) ⊎ (e.kind ≡ 3) → concerns b e ≡ i + 1 → maybe 0 (order_link b) (find_clordid b e.client e.ids.origclordid) ≡ i + 1
   unfolding concerns order_of
@@ -141,13 +131,13 @@ module _ (b : Book) (e : Event) (i : ℕ) where
 
     pub handled : Handled b e i
     handled =
-        dec_cases (ℕ_discrete e.kind 2) (λ z. clordid _ (λ order full o p x m n. cancel_made order full o e p x m n (eq-eqb e.kind 2 z)) (change_2 e z) (inl z))
-        (λ n₂. dec_cases (ℕ_discrete e.kind 3) (λ z. clordid _ (λ order full o. replace_made order full o e) (change_3 e z) (inr z))
-        (λ n₃. dec_cases (ℕ_discrete e.kind 4) (λ z. request _ _ (λ k q o p x m n. on_report_made k q o e p x m n (eq-eqb e.kind 4 z)) (change_4 e z) (omega arith) (omega arith))
-        (λ n₄. dec_cases (ℕ_discrete e.kind 5) (λ z. request _ _ (λ k q o. unknown_made k q o e) (change_5 e z) (omega arith) (omega arith))
-        (λ n₅. dec_cases (ℕ_discrete e.kind 6) (λ z. request _ _ (λ k q o p x m n. reject_made k q o e p x m n (not_failed z refl)) (change_6 e z) (omega arith) (omega arith))
-        (λ n₆. dec_cases (ℕ_discrete e.kind 7) (λ z. request _ _ (λ k q o p x m n. failed_made k q o e p x m n (eq-eqb e.kind 7 z)) (change_7 e z) (omega arith) (omega arith))
-        (λ n₇. dec_cases (ℕ_discrete e.kind 8) (λ z. request _ _ (λ k q o p x m n. unsent_made k q o e p x m n (not_failed z refl)) (change_8 e z) (omega arith) (omega arith))
+        by_cases (ℕ_discrete e.kind 2) (λ z. clordid _ (λ order full o p x m n. cancel_made order full o e p x m n (eq-eqb e.kind 2 z)) (change_2 e z) (inl z))
+        (λ n₂. by_cases (ℕ_discrete e.kind 3) (λ z. clordid _ (λ order full o. replace_made order full o e) (change_3 e z) (inr z))
+        (λ n₃. by_cases (ℕ_discrete e.kind 4) (λ z. request _ _ (λ k q o p x m n. on_report_made k q o e p x m n (eq-eqb e.kind 4 z)) (change_4 e z) (omega arith) (omega arith))
+        (λ n₄. by_cases (ℕ_discrete e.kind 5) (λ z. request _ _ (λ k q o. unknown_made k q o e) (change_5 e z) (omega arith) (omega arith))
+        (λ n₅. by_cases (ℕ_discrete e.kind 6) (λ z. request _ _ (λ k q o p x m n. reject_made k q o e p x m n (not_failed z refl)) (change_6 e z) (omega arith) (omega arith))
+        (λ n₆. by_cases (ℕ_discrete e.kind 7) (λ z. request _ _ (λ k q o p x m n. failed_made k q o e p x m n (eq-eqb e.kind 7 z)) (change_7 e z) (omega arith) (omega arith))
+        (λ n₇. by_cases (ℕ_discrete e.kind 8) (λ z. request _ _ (λ k q o p x m n. unsent_made k q o e p x m n (not_failed z refl)) (change_8 e z) (omega arith) (omega arith))
         (λ n₈. name (let z : 8 < e.kind = past 7 n₈ (past 6 n₇ (past 5 n₆ (past 4 n₅ (past 3 n₄ (past 2 n₃ (past 1 n₂ low)))))) in omega arith))))))))
       where
         not_failed : {n : ℕ} → e.kind ≡ n → eqb n 7 ≡ false → eqb e.kind 7 ≡ false
@@ -191,7 +181,7 @@ clordid_found b client t k h =
     let q = request_in b k in
     let x : Bool = ltb q.order (length b.orders) in
     let y : Bool = eqb (order_in b q.order).client client in
-    record { below = f.below; client_of = eqb-true _ client (both_true x y (both_true (same_text q.clordid t) (x && y) (both_true (has_clordid q) _ f.passes).1).1).1 }
+    record { below = f.below; client_of = eqb-true _ client (and_parts x y (and_parts (same_text q.clordid t) (x && y) (and_parts (has_clordid q) _ f.passes).1).1).1 }
 
 -- ---- it changes its own order
 

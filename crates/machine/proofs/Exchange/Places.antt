@@ -1,10 +1,6 @@
 -- Where both events add a request, the books differ in the places of these two, and in the links that name them. Rests on Whole.
-use Prim.Native.Nat.{ℕ, ◌+◌, ◌≤◌}
-use native.Mathlib.Decide.{ℕ_discrete}
-use native.Mathlib.Omega.{arith}
-use mathlib.Core.Path.{◌≡◌, refl, sym, ap, subst, ◌∙◌}
-use lib.ListN.{length}
-use borrow.Author.Tests.{eq-eqb, ne_eqb}
+use Rattle.std.proofs.Common.{ℕ, ◌+◌, ◌≤◌, arith, ◌≡◌, sym, ap, subst, ◌∙◌, length, eq-eqb, ne_eqb}
+use Rattle.std.proofs.Math.Decide.{ℕ_discrete}
 use Rattle.prelude.specs.Cases.{if_true, if_false}
 use Rattle.store.specs.declared.Order.{Order}
 use Rattle.store.specs.Book.{Book, order_in, request_in}
@@ -19,6 +15,7 @@ use Rattle.machine.proofs.Exchange.Links.{Within, Linked, same, cancels, replace
 use Rattle.machine.proofs.Exchange.Commute.{added_one, added_two}
 use Rattle.machine.proofs.Exchange.Both.{next, Crossed, crossed_back, Both, both_ways}
 use Rattle.machine.proofs.Exchange.Whole.{within, old_at, first_one, first_two, beside_one, beside_two, same_count}
+use Rattle.machine.proofs.Exchange.Frame.{after_setting}
 
 -- ---- links
 
@@ -81,10 +78,6 @@ module _ (t : ℕ) where
         ∙ turned_is (with_request n c.order) _ _ c.order.pending.request _ (turned_old _ w.current) (turned_old _ w.cancel) (turned_second n zn ∙ sym (z ∙ zm)) (turned_old _ w.named)
 
 -- ---- the books
-
-after_setting : (b : Book) (c : Change) → (after b c).setting ≡ b.setting
-unfolding after
-after_setting b c = refl
 
 module _ (b : Book) (good : BookKept b) (i j : ℕ) (c c' d d' : Change) (x : Crossed b i j c c' d d')
     (p : c.requests.added ≡ 0 → ⊥) (q : d.requests.added ≡ 0 → ⊥) where

@@ -1,18 +1,10 @@
 -- What the rules of a book give to other proofs. Rests on Lift.
 -- `book_kept` of Lift gives each rule at an index, by name; here stand the facts that follow from several rules.
-use Prim.Native.Nat.{ℕ, zero, suc, ◌+◌, ◌≤◌, ◌<◌}
-use native.Mathlib.Nat.{not-suc-le-zero, eq-or-lt_of_le, le_of_suc-le-suc}
-use native.Mathlib.Omega.{arith}
-use native.Mathlib.Decide.{ℕ_discrete, dec_lt}
-use mathlib.Core.Path.{◌≡◌, sym, subst, ◌∙◌}
-use mathlib.Core.Logic.{⊎_elim}
-use mathlib.Core.Bool.{Bool, true, false, not}
-use Rattle.std.specs.Prelude.{None, Some}
-use lib.Dec.{eqb, ltb}
-use lib.ListN.{length}
-use borrow.Author.Tests.{eqb-true, eqb-false, eq-eqb, ne_eqb, ltb-true}
-use Rattle.prelude.specs.Below.{first_below, first_none, first_more, first_hit, count_below, count_le}
-use Rattle.prelude.specs.Cases.{if◌then◌otherwise◌, split_if, both_true, clash}
+use Rattle.std.proofs.Common.{ℕ, zero, suc, ◌+◌, ◌≤◌, ◌<◌, not-suc-le-zero, eq-or-lt_of_le, le_of_suc-le-suc, arith, ◌≡◌, sym, subst, ◌∙◌, ⊎_elim, Bool, true, false, not, Some, eqb, ltb, length, eqb-true, eq-eqb, ne_eqb, ltb-true}
+use Rattle.std.proofs.Math.Decide.{ℕ_discrete, dec_lt}
+use Rattle.std.proofs.lemmas.Bool.{eqb-false, and_parts, not_from_true, false_from_ne_true}
+use Rattle.prelude.specs.Below.{first_below, first_none, first_hit, count_below, count_le, first_past}
+use Rattle.prelude.specs.Cases.{if◌then◌otherwise◌, split_if, clash}
 use Rattle.prelude.specs.Texts.{same_text, same_self, same_back, same_trans}
 use Rattle.prelude.specs.declared.Text.{Text}
 use Rattle.store.specs.Book.{Book, order_in, request_in}
@@ -22,21 +14,17 @@ use Rattle.machine.specs.Changes.{is_first, is_gateway, is_answered}
 use Rattle.store.specs.Finds.{bears_name, bears_downstream, find_name, find_downstream}
 use Rattle.machine.specs.Ranges.{name_range}
 use Rattle.machine.specs.Rules.{of_order, number_in, name_number, number_rule}
-use Rattle.machine.proofs.Kept.Laws.{or_else, is_not, untrue}
+use Rattle.machine.proofs.Kept.Laws.{or_else}
 use Rattle.machine.proofs.Kept.Local.{InFlight, in_flight, names_kept}
 use Rattle.machine.proofs.Kept.Lift.{BookKept}
 use Rattle.machine.proofs.Numbered.{NumberedLaws}
 
 -- the first of those that pass
 first_at : (p : ℕ → Bool) (n i : ℕ) → i < n → p i ≡ true → ((k : ℕ) → k < i → p k ≡ false) → first_below p n ≡ Some i
-first_at p n i h t f = first_hit p n i h (go i f) t
-  where
-    go : (m : ℕ) → ((k : ℕ) → k < m → p k ≡ false) → first_below p m ≡ None
-    go zero f = first_none p
-    go (suc m) f = subst (λ (x : ℕ). first_below p x ≡ None) (omega arith) (first_more p m (go m (λ k l. f k (omega arith))) (f m (omega arith)))
+first_at p n i h t f = first_hit p n i h (first_past p 0 i (omega arith) (λ k _ l. f k l) ∙ first_none p) t
 
 -- one that passes counts for those behind it
-count_passed : (p : ℕ → Bool) (i j : ℕ) → i < j → p i ≡ true → count_below p i < count_below p j
+pub count_passed : (p : ℕ → Bool) (i j : ℕ) → i < j → p i ≡ true → count_below p i < count_below p j
 unfolding count_below
 count_passed p i zero h t = absurd (not-suc-le-zero h)
 count_passed p i (suc j) h t =
@@ -56,7 +44,7 @@ module _ (b : Book) (good : BookKept b) where
   pub gateway_in_flight : (j : ℕ) → j < length b.requests → is_gateway (request_in b j) ≡ true → is_answered (request_in b j) ≡ false
       → is_done (order_in b (request_in b j).order).state.status ≡ false → InFlight (j + 1) (order_in b (request_in b j).order)
   gateway_in_flight j h g a live =
-      ⊎_elim (λ s. clash (is_answered (request_in b j)) (or_else (not (is_gateway (request_in b j))) _ (is_not g) s) a) (λ f. f)
+      ⊎_elim (λ s. clash (is_answered (request_in b j)) (or_else (not (is_gateway (request_in b j))) _ (not_from_true _ g) s) a) (λ f. f)
       (in_flight (j + 1) (request_in b j) (order_in b (request_in b j).order) live (good.request j h).flight)
 
   pub name_at : (i : ℕ) → i < length b.orders → name_range (order_in b i).names.name ≡ true
@@ -67,7 +55,7 @@ module _ (b : Book) (good : BookKept b) where
     where
       go : Dec (j < i) → same_text (order_in b i).names.name (order_in b j).names.name ≡ false
       go (yes z) = good.names i j h z
-      go (no z) = untrue _ (λ s. clash _ (same_back (order_in b i).names.name (order_in b j).names.name s) (good.names j i l (let e : i ≡ j → ⊥ = d in omega arith)))
+      go (no z) = false_from_ne_true _ (λ s. clash _ (same_back (order_in b i).names.name (order_in b j).names.name s) (good.names j i l (let e : i ≡ j → ⊥ = d in omega arith)))
 
   pub found_name : (i : ℕ) → i < length b.orders → find_name b (order_in b i).names.name ≡ Some i
   unfolding find_name
@@ -78,12 +66,12 @@ module _ (b : Book) (good : BookKept b) where
   pub downstream_at : (j : ℕ) → j < length b.requests
       → same_text (request_in b j).downstream (name_number (order_in b (request_in b j).order).names.name (number_in b.requests j)) ≡ true
   unfolding number_rule
-  downstream_at j h = (both_true (same_text (request_in b j).downstream (name_number (order_in b (request_in b j).order).names.name (number_in b.requests j))) _ (good.request j h).number).0
+  downstream_at j h = (and_parts (same_text (request_in b j).downstream (name_number (order_in b (request_in b j).order).names.name (number_in b.requests j))) _ (good.request j h).number).0
 
   pub first_number : (j : ℕ) → j < length b.requests → is_first (request_in b j) ≡ eqb (number_in b.requests j) 0
   unfolding number_rule
   first_number j h = number_first (is_first (request_in b j)) (number_in b.requests j)
-      (both_true (same_text (request_in b j).downstream (name_number (order_in b (request_in b j).order).names.name (number_in b.requests j))) _ (good.request j h).number).1
+      (and_parts (same_text (request_in b j).downstream (name_number (order_in b (request_in b j).order).names.name (number_in b.requests j))) _ (good.request j h).number).1
 
   -- the numbers of one order's requests rise
   pub numbers_rise : (i j : ℕ) → i < j → (request_in b i).order ≡ (request_in b j).order → number_in b.requests i < number_in b.requests j
@@ -112,7 +100,7 @@ module _ (b : Book) (good : BookKept b) where
     -- downstream ClOrdIDs are distinct
     pub downstreams_apart : (i j : ℕ) → i < length b.requests → j < length b.requests → (i ≡ j → ⊥)
         → same_text (request_in b i).downstream (request_in b j).downstream ≡ false
-    downstreams_apart i j h l d = untrue _ never
+    downstreams_apart i j h l d = false_from_ne_true _ never
       where
         -- they would be requests of one order, with one number
         ordered : (x y : ℕ) → x < y → (request_in b x).order ≡ (request_in b y).order → number_in b.requests x ≡ number_in b.requests y → ⊥

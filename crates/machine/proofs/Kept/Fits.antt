@@ -1,12 +1,8 @@
 -- What the rules leave open of a book's fields stays within their widths: client, venue, texts, and the three counters. Rests on Stepped.
-use Prim.Native.Nat.{ℕ, zero, suc, ◌-◌, ◌^◌, ◌≤◌, ◌<◌}
-use native.Mathlib.Omega.{arith}
-use mathlib.Core.Path.{◌≡◌, refl}
-use mathlib.Core.Bool.{Bool, true, false}
-use mathlib.Core.List.{List, [], ◌∷◌, ◌++◌}
-use lib.Dec.{eqb}
-use lib.ListN.{length, get_or, set}
-use borrow.Author.Tests.{eqb-true, eqb-false, ltb-true}
+use Rattle.std.proofs.Common.{ℕ, ◌-◌, ◌^◌, ◌≤◌, ◌<◌, arith, ◌≡◌, refl, Bool, true, false, List, [], ◌∷◌, ◌++◌, eqb, length, get_or, set, eqb-true, ltb-true, subst, sym, ⊎_elim, All}
+use Rattle.std.proofs.lemmas.Bool.{eqb-false, cases_lt}
+use Rattle.std.proofs.lemmas.List.{get_or_past}
+use Rattle.std.proofs.lemmas.List.Elements.{All-get_or, All-from_get_or, All-set, All-push}
 use Rattle.prelude.specs.Cases.{if◌then◌otherwise◌, split_if}
 use Rattle.prelude.specs.Texts.{WholeText}
 use Rattle.prelude.specs.Bytes.{bytes_zeros}
@@ -238,24 +234,18 @@ pub record BookFits (b : Book) : Type 0 where
   pub request : (j : ℕ) → RequestFits (request_in b j)
 
 module _ {A : Type 0} (P : A → Type 0) (d : A) (blank : P d) where
-  -- what all elements have, they have with one set, with one added, and past the end
+  -- what all elements have, they have past the end, with one set, and with one added
+  pub past_all : (l : List A) → ((k : ℕ) → k < length l → P (get_or l k d)) → (k : ℕ) → P (get_or l k d)
+  past_all l h k = ⊎_elim (h k) (λ z. subst P (sym (get_or_past l k d z)) blank) (cases_lt k (length l))
+
+  every_one : (l : List A) → ((k : ℕ) → P (get_or l k d)) → All P l
+  every_one l h = All-from_get_or P l d (λ k z. h k)
+
   pub set_all : (l : List A) (i : ℕ) (x : A) → ((k : ℕ) → P (get_or l k d)) → P x → (k : ℕ) → P (get_or (set l i x) k d)
-  set_all [] i x h p k = blank
-  set_all (y ∷ l) zero x h p zero = p
-  set_all (y ∷ l) zero x h p (suc k) = h (suc k)
-  set_all (y ∷ l) (suc i) x h p zero = h zero
-  set_all (y ∷ l) (suc i) x h p (suc k) = set_all l i x (λ m. h (suc m)) p k
+  set_all l i x h p = past_all (set l i x) (λ k z. All-get_or P (set l i x) k d z (All-set P l i x p (every_one l h)))
 
   pub more_all : (l : List A) (x : A) → ((k : ℕ) → P (get_or l k d)) → P x → (k : ℕ) → P (get_or (l ++ (x ∷ [])) k d)
-  more_all [] x h p zero = p
-  more_all [] x h p (suc k) = blank
-  more_all (y ∷ l) x h p zero = h zero
-  more_all (y ∷ l) x h p (suc k) = more_all l x (λ m. h (suc m)) p k
-
-  pub past_all : (l : List A) → ((k : ℕ) → k < length l → P (get_or l k d)) → (k : ℕ) → P (get_or l k d)
-  past_all [] h k = blank
-  past_all (y ∷ l) h zero = h zero (omega arith)
-  past_all (y ∷ l) h (suc k) = past_all l (λ m z. h (suc m) (omega arith)) k
+  more_all l x h p = past_all (l ++ (x ∷ [])) (λ k z. All-get_or P (l ++ (x ∷ [])) k d z (All-push P l x (every_one l h) p))
 
 pub orders_past : (l : List Order) → ((k : ℕ) → k < length l → OrderFits (get_or l k no_order)) → (k : ℕ) → OrderFits (get_or l k no_order)
 orders_past = past_all OrderFits no_order no_order_fits

@@ -1,15 +1,8 @@
 -- What each change does to its order keeps the rules: one law for each way that one is made. Rests on Local and Stepped.
-use Prim.Native.Nat.{ℕ, ◌+◌, ◌-◌, ◌≤◌, ◌<◌, max}
-use native.Mathlib.Omega.{arith}
-use mathlib.Core.Path.{◌≡◌, refl, sym, ap, subst, ◌∙◌}
-use mathlib.Core.Logic.{⊎_elim}
-use mathlib.Core.Bool.{Bool, true, false, not, ◌&&◌, ◌||◌}
-use mathlib.Core.List.{List, [], ◌∷◌, ◌++◌}
-use lib.Dec.{eqb, leb, ltb}
-use lib.ListN.{length}
-use borrow.Author.Tests.{eqb-true, eqb-false, eq-eqb, ne_eqb, leb-true, le-leb, lt-ltb, not-true}
+use Rattle.std.proofs.Common.{ℕ, ◌+◌, ◌-◌, ◌≤◌, ◌<◌, max, arith, ◌≡◌, refl, sym, ap, subst, ◌∙◌, ⊎_elim, Bool, true, false, not, ◌&&◌, ◌||◌, List, [], ◌∷◌, ◌++◌, eqb, leb, ltb, length, eqb-true, eq-eqb, ne_eqb, leb-true, le-leb, lt-ltb}
+use Rattle.std.proofs.lemmas.Bool.{eqb-false, not-true, and_parts, and_from, or_left, or_right, not_from_false, not_from_true}
 use Rattle.prelude.specs.Below.{all_below}
-use Rattle.prelude.specs.Cases.{if◌then◌otherwise◌, split_if, both_true, if_true, if_false, clash}
+use Rattle.prelude.specs.Cases.{if◌then◌otherwise◌, split_if, if_true, if_false, clash}
 use Rattle.prelude.specs.Texts.{is_text, same_text, same_self}
 use Rattle.prelude.specs.declared.Text.{Text}
 use Rattle.store.specs.declared.Pending.{Pending}
@@ -38,7 +31,7 @@ use Rattle.machine.specs.declared.Output.{Output}
 use Rattle.machine.specs.declared.Change.{Change}
 use Rattle.machine.proofs.Made.{left, From, by_report, by_reject, by_failure, Open, Refuses, still, gone, given_up_lem, told, Fails, unfailed, refused, freed, fell, ended, new_again, cancel_again, replace_again, failing, Applied, reported, Settles, replaced, cancelled, neither, fails, resends, alarms, names, applies, informs, quietly, retries, stays, refusing!, resumes, declined, waits, goes}
 use Rattle.machine.proofs.Stepped.{MadeBy, AskedBy}
-use Rattle.machine.proofs.Kept.Laws.{both, or_left, or_right, or_else, and_else, and_tail, not_is, is_not}
+use Rattle.machine.proofs.Kept.Laws.{or_else, and_else, and_tail}
 use Rattle.machine.proofs.Kept.Tables.{at, Linked, linked_at, linked_new, length_answer, owned, owned_answer, amendments_at}
 use Rattle.machine.proofs.Kept.Local.{OrderKept, Flights, Quiet, settled, InFlight, in_flight, flight_rule, settled_flight, quiet_flights, quiet_unsent, quiet_latest, quiet_answer, answer_kept, one_more_lem, next_link_lem, next_owned, own_kept, gateway_live, terms_kept, sequence_kept, named_kept, gateway_kept, pending_kept, cleared_kept, state_kept, pending_parts, replaced_kept}
 
@@ -130,7 +123,7 @@ next_right : (f : Findings) (o : Order) (kind n : ℕ) (clordid origclordid : Te
     → number_rule o.names.name n (next_request f o kind clordid origclordid) ≡ true
 unfolding number_rule next_request next_downstream
 next_right f o kind n clordid origclordid e h first =
-    both
+    and_from _ _
     (subst (λ (t : Text). same_text (numbered_text o.names.name (next_number o)) t ≡ true)
     (ap (numbered_text o.names.name) e ∙ sym (unfold name_number in if_false (eqb n 0) o.names.name (numbered_text o.names.name n) (ne_eqb n 0 (λ z. omega arith))))
     (same_self (numbered_text o.names.name (next_number o))))
@@ -169,7 +162,7 @@ named_range i o qs g e s l =
     let c : Linked (current_test o.names.downstream) i o.links.current qs = current_link i o qs l.current in
     let above : 0 < o.links.current = c.above in
     let within : o.links.current ≤ length qs = c.within in
-    both (both s (le-leb g.origdownstream (length qs) (omega arith))) (or_left _ (not_is (ne_eqb g.origdownstream 0 (λ z. omega arith))))
+    and_from _ _ (and_from _ _ s (le-leb g.origdownstream (length qs) (omega arith))) (or_left _ _ (not_from_false _ (ne_eqb g.origdownstream 0 (λ z. omega arith))))
 
 few_tries : (g : GatewayCancel) (n : ℕ) → g.tries ≤ n → n ≤ 2 → tries_rule g ≡ true
 unfolding tries_rule
@@ -192,8 +185,8 @@ tries_unsent g u e = leb-true g.tries 2 (sym (ap (λ (n : ℕ). leb g.tries n) (
 pub not_stuck : (n : ℕ) (g : GatewayCancel) → g.unsent ≡ true → gateway_range n g ≡ true → g.stuck ≡ false
 unfolding gateway_range
 not_stuck n g u e =
-    let (e, r3) = both_true _ _ e in
-    and_else g.unsent g.stuck u (not-true (g.unsent && g.stuck) (both_true (not (g.unsent && g.stuck)) (leb g.origdownstream n) e).0)
+    let (e, r3) = and_parts _ _ e in
+    and_else g.unsent g.stuck u (not-true (g.unsent && g.stuck) (and_parts (not (g.unsent && g.stuck)) (leb g.origdownstream n) e).0)
 
 record Sends (b : Book) (i : ℕ) (c : Change) : Type 0 where
   kept : Kept b i c
@@ -260,8 +253,8 @@ module _ (b : Book) (i : ℕ) (f : Findings) (o : Order) (here : Here b i f o) (
 stuck_range : (n : ℕ) (o : Order) → has_gateway o ≡ true → o.gateway.unsent ≡ false → gateway_range n o.gateway ≡ true → gateway_range n (given_up o) ≡ true
 unfolding gateway_range given_up has_gateway
 stuck_range n o g u e =
-    let (e, r3) = both_true _ _ e in let (r1, r2) = both_true (not (o.gateway.unsent && o.gateway.stuck)) (leb o.gateway.origdownstream n) e in
-    both (both (not_is (ap (λ (x : Bool). x && true) u)) r2) (or_left _ g)
+    let (e, r3) = and_parts _ _ e in let (r1, r2) = and_parts (not (o.gateway.unsent && o.gateway.stuck)) (leb o.gateway.origdownstream n) e in
+    and_from _ _ (and_from _ _ (not_from_false _ (ap (λ (x : Bool). x && true) u)) r2) (or_left _ _ g)
 
 -- ---- a request refused
 
@@ -328,7 +321,7 @@ first_not_replace q = kinds_apart q.kind 0 2 (omega arith)
 
 cancel_not_replace : (q : Request) → is_cancel q ≡ true → is_replace q ≡ false
 unfolding is_cancel
-cancel_not_replace q e = not-true (is_replace q) (both_true (not (is_first q)) (not (is_replace q)) e).1
+cancel_not_replace q e = not-true (is_replace q) (and_parts (not (is_first q)) (not (is_replace q)) e).1
 
 pub no_text_lem : text_within 0 32 no_text ≡ true
 unfolding text_within is_text all_below
@@ -337,8 +330,8 @@ no_text_lem = refl
 refused_range : (n : ℕ) (g : GatewayCancel) → not (eqb g.origdownstream 0) ≡ true → g.stuck ≡ false → gateway_range n g ≡ true → gateway_range n (send_refused g) ≡ true
 unfolding gateway_range send_refused
 refused_range n g some free e =
-    let (e, r3) = both_true _ _ e in
-    both (both (not_is free) (both_true (not (g.unsent && g.stuck)) (leb g.origdownstream n) e).1) (or_left _ some)
+    let (e, r3) = and_parts _ _ e in
+    and_from _ _ (and_from _ _ (not_from_false _ free) (and_parts (not (g.unsent && g.stuck)) (leb g.origdownstream n) e).1) (or_left _ _ some)
 
 -- request j of the book is order i's
 pub record Asked (b : Book) (i j : ℕ) (q : Request) : Type 0 where
@@ -353,7 +346,7 @@ module _ (b : Book) (i : ℕ) (f : Findings) (o : Order) (here : Here b i f o) (
   -- what the rules say of the request where it is an unanswered gateway cancel of a live order
   asked_flight : is_gateway q ≡ true → is_answered q ≡ false → is_done o.state.status ≡ false → InFlight (j + 1) o
   asked_flight g a live =
-      ⊎_elim (λ s. clash (is_answered q) (or_else (not (is_gateway q)) (is_answered q) (is_not g) s) a) (λ f. f)
+      ⊎_elim (λ s. clash (is_answered q) (or_else (not (is_gateway q)) (is_answered q) (not_from_true _ g) s) a) (λ f. f)
       (in_flight (j + 1) q o live (subst (λ (x : Request). in_flight_rule (j + 1) x o ≡ true) (sym asked.is)
       (here.kept.flight j asked.below (sym (ap (λ (x : Request). x.order) asked.is) ∙ asked.own))))
 
@@ -367,7 +360,7 @@ module _ (b : Book) (i : ℕ) (f : Findings) (o : Order) (here : Here b i f o) (
       let some : eqb o.pending.request 0 ≡ false = ne_eqb o.pending.request 0 (λ y. omega arith) in
       let t : pending_test (at b.requests (o.pending.request - 1)) ≡ true = (pending_parts i o b.requests some here.kept).link.passes in
       let same : at b.requests (o.pending.request - 1) ≡ q = ap (at b.requests) (omega arith) ∙ sym asked.is in
-      clash (is_replace q) (both_true (is_replace q) (not (is_answered q)) (subst (λ (x : Request). pending_test x ≡ true) same t)).0 r
+      clash (is_replace q) (and_parts (is_replace q) (not (is_answered q)) (subst (λ (x : Request). pending_test x ≡ true) same t)).0 r
 
   -- what refuses the request is in range
   module _ (e : Event) (ranged : Ranged e) where
@@ -482,7 +475,7 @@ module _ (b : Book) (i : ℕ) (f : Findings) (o : Order) (here : Here b i f o) (
     -- the pending terms that a report accepts are those of its request
     accepts_here : accepts (j + 1) q o e ≡ true → o.pending.request ≡ j + 1
     unfolding accepts pending_here
-    accepts_here a = eqb-true o.pending.request (j + 1) (both_true (eqb o.pending.request (j + 1)) (not (is_rejection e)) (both_true (eqb o.pending.request (j + 1) && not (is_rejection e)) _ a).0).0
+    accepts_here a = eqb-true o.pending.request (j + 1) (and_parts (eqb o.pending.request (j + 1)) (not (is_rejection e)) (and_parts (eqb o.pending.request (j + 1) && not (is_rejection e)) _ a).0).0
 
     status_given : (s : ℕ) → s ≡ status_taken (j + 1) q o e → is_status (if eqb s 0 then o.state.status otherwise s) ≡ true
     status_given s is = split_if (λ (n : ℕ). is_status n ≡ true) _ (λ z. here.kept.coded) (λ z. taken z is)
@@ -503,7 +496,7 @@ module _ (b : Book) (i : ℕ) (f : Findings) (o : Order) (here : Here b i f o) (
         let same : at b.requests (o.pending.request - 1) ≡ q = ap (at b.requests) (omega arith) ∙ sym asked.is in
         let t : pending_test q ≡ true = subst (λ (x : Request). pending_test x ≡ true) same (pending_parts i p b.requests some l).link.passes in
         let r : OrderKept i (apply_replace q p) b.requests =
-        replaced_kept i p b.requests q live some same (clordid (both_true (is_replace q) _ t).0) downstream (le-leb o.state.cumqty o.pending.qty (omega arith)) l in
+        replaced_kept i p b.requests q live some same (clordid (and_parts (is_replace q) _ t).0) downstream (le-leb o.state.cumqty o.pending.qty (omega arith)) l in
         record {
           kept = state_kept _ e.exec.cumqty e.exec.avgpx o.state.execseq i (apply_replace q p) b.requests live (status_given s taken) ranged.avgpx
               (le-leb e.exec.cumqty o.pending.qty (omega arith)) r;
@@ -561,13 +554,13 @@ module _ (b : Book) (i : ℕ) (f : Findings) (o : Order) (here : Here b i f o) (
 pub priced_range_lem : (ordtype : ℕ) (e : Event) → Ranged e → is_ordtype ordtype ≡ true → priced_right ordtype e ≡ true → priced_range ordtype e.terms.price ≡ true
 unfolding priced_right priced_range
 priced_range_lem ordtype e ranged listed right =
-    both (both listed ranged.price)
+    and_from _ _ (and_from _ _ listed ranged.price)
     (split_if (λ (x : Bool). x ≡ true → eqb ordtype limit || eqb e.terms.price 0 ≡ true) (eqb ordtype limit)
-    (λ t h. or_left _ t) (λ t h. or_right (eqb ordtype limit) (eq-eqb e.terms.price 0 (ranged.unpriced (not-true (has e 10) h)))) right)
+    (λ t h. or_left _ _ t) (λ t h. or_right (eqb ordtype limit) _ (eq-eqb e.terms.price 0 (ranged.unpriced (not-true (has e 10) h)))) right)
 
 priced_listed : (ordtype price : ℕ) → priced_range ordtype price ≡ true → is_ordtype ordtype ≡ true
 unfolding priced_range
-priced_listed ordtype price e = (both_true (is_ordtype ordtype) (is_price price) (both_true (is_ordtype ordtype && is_price price) _ e).0).0
+priced_listed ordtype price e = (and_parts (is_ordtype ordtype) (is_price price) (and_parts (is_ordtype ordtype && is_price price) _ e).0).0
 
 -- a client's cancel or replace is in its range
 client_range : (f : Findings) (o : Order) (kind : ℕ) (clordid origclordid : Text) → leb kind 3 ≡ true → is_first (next_request f o kind clordid origclordid) ≡ false
@@ -575,13 +568,11 @@ client_range : (f : Findings) (o : Order) (kind : ℕ) (clordid origclordid : Te
     → request_range (next_request f o kind clordid origclordid) ≡ true
 unfolding request_range next_request
 client_range f o kind clordid origclordid k first gateway c d =
-    both (both (both k refl) (if_false (is_gateway _) (text_within 0 0 clordid) (text_within 1 32 clordid) gateway ∙ c))
+    and_from _ _ (and_from _ _ (and_from _ _ k refl) (if_false (is_gateway _) (text_within 0 0 clordid) (text_within 1 32 clordid) gateway ∙ c))
     (if_false (is_first _ || is_gateway _) (text_within 0 0 origclordid) (text_within 1 32 origclordid) (rw (first, gateway) refl) ∙ d)
 
 settled_or : {c : Bool} (a g : Bool) → c ≡ true → c && not a && g ≡ false → not g || a ≡ true
-settled_or a false s e = refl
-settled_or true true s e = refl
-settled_or {c} false true s e = clash (c && true && true) (both (both s refl) refl) e
+settled_or a g s e = grind arith
 
 module _ (b : Book) (i : ℕ) (f : Findings) (o : Order) (here : Here b i f o) where
   -- none of the gateway's in flight, by the latest cancel
@@ -594,7 +585,7 @@ module _ (b : Book) (i : ℕ) (f : Findings) (o : Order) (here : Here b i f o) w
           let some : eqb o.links.cancel 0 ≡ false = ne_eqb o.links.cancel 0 (λ y. omega arith) in
           let is : f.cancel ≡ at b.requests j =
           here.latest ∙ if_false (eqb o.links.cancel 0) no_request (at b.requests (o.links.cancel - 1)) some ∙ ap (at b.requests) (omega arith) in
-          subst (λ (x : Request). settled x ≡ true) is (settled_or (is_answered f.cancel) (is_gateway f.cancel) (not_is some) idle)
+          subst (λ (x : Request). settled x ≡ true) is (settled_or (is_answered f.cancel) (is_gateway f.cancel) (not_from_false _ some) idle)
 
   begun_kept : {out : Output} → is_done o.state.status ≡ false → gateway_cancel_in_flight f o ≡ false → Kept b i (left f.place (with_gateway (begun o) o) 0 0 out)
   begun_kept live idle =
@@ -674,10 +665,10 @@ module _ (b : Book) (i : ℕ) (f : Findings) (o : Order) (here : Here b i f o) w
 
         range : pending_range (new_pending f (new_terms o e)) ≡ true
         range = unfold new_pending new_terms pending_range in
-            if_false (eqb (next_link f) 0) _ _ (ne_eqb (next_link f) 0 (λ z. omega (arith, link))) ∙ both (both (priced_range_lem (or_own e.terms.ordtype o.terms.ordtype) e ranged listed priced) force) ranged.qty
+            if_false (eqb (next_link f) 0) _ _ (ne_eqb (next_link f) 0 (λ z. omega (arith, link))) ∙ and_from _ _ (and_from _ _ (priced_range_lem (or_own e.terms.ordtype o.terms.ordtype) e ranged listed priced) force) ranged.qty
 
         rule : pending_rule i (new_pending f (new_terms o e)).request (b.requests ++ (x ∷ [])) ≡ true
-        rule = unfold new_pending pending_rule in or_right (eqb (next_link f) 0)
+        rule = unfold new_pending pending_rule in or_right (eqb (next_link f) 0) _
             (subst (λ (n : ℕ). linked pending_test i n (b.requests ++ (x ∷ [])) ≡ true) (sym link)
             (linked_new pending_test i b.requests x (unfold next_request in let z : f.place ≡ i + 1 = here.place in omega arith) (unfold is_replace is_answered next_request in refl)))
 

@@ -1,17 +1,11 @@
 -- From one order to the book: a change that keeps its order's rules keeps the book's. Rests on Keep.
-use Prim.Native.Nat.{ℕ, ◌+◌, ◌-◌, ◌≤◌, ◌<◌}
-use native.Mathlib.Omega.{arith}
-use native.Mathlib.Decide.{ℕ_discrete, dec_lt}
-use mathlib.Core.Path.{◌≡◌, refl, sym, ap, subst, ◌∙◌}
-use mathlib.Core.Logic.{◌⊎◌, inl, inr, ⊎_elim}
-use mathlib.Core.Bool.{Bool, true, false, not, ◌&&◌, ◌||◌}
-use mathlib.Core.List.{List, [], ◌∷◌, ◌++◌}
-use lib.Dec.{eqb, leb, ltb}
-use lib.ListN.{length, get_or, set, length-append, length-set, get_or-append}
-use lib.Seq.{get_or-set_same, get_or-set_other, get_or-append_seam}
-use borrow.Author.Tests.{eqb-true, leb-true, leb-false, le-leb, ltb-true, lt-ltb, lt-leb, not-true}
+use Rattle.std.proofs.Common.{ℕ, ◌+◌, ◌-◌, ◌≤◌, ◌<◌, arith, ◌≡◌, refl, sym, ap, subst, ◌∙◌, ◌⊎◌, inl, inr, ⊎_elim, Bool, true, false, not, ◌&&◌, ◌||◌, List, [], ◌∷◌, ◌++◌, eqb, leb, ltb, length, get_or, set, length-append, length-set, get_or-set_same, get_or-set_other, eqb-true, leb-true, leb-false, le-leb, ltb-true, lt-ltb}
+use Rattle.std.proofs.Math.Decide.{ℕ_discrete, dec_lt}
+use Rattle.std.proofs.Math.ListN.{get_or-append}
+use Rattle.std.proofs.Math.Seq.{get_or-append_seam}
+use Rattle.std.proofs.lemmas.Bool.{lt-leb, not-true, and_parts, and_from, not_from_false}
 use Rattle.prelude.specs.Below.{all_below, all_elim, all_intro, count_below, count_ext}
-use Rattle.prelude.specs.Cases.{if◌then◌otherwise◌, split_if, both_true}
+use Rattle.prelude.specs.Cases.{if◌then◌otherwise◌, split_if}
 use Rattle.prelude.specs.Texts.{same_text}
 use Rattle.prelude.specs.declared.Text.{Text}
 use Rattle.store.specs.declared.Order.{Order}
@@ -24,7 +18,7 @@ use Rattle.machine.specs.Ranges.{text_within}
 use Rattle.machine.specs.Machine.{answer_link, orders_after, requests_after, after, has_room}
 use Rattle.machine.specs.Rules.{request_range, of_order, order_rule, number_in, number_rule, in_flight_rule, request_rule, names_apart, name_rule, client_of, same_key, keys_apart, key_rule, rules}
 use Rattle.machine.specs.declared.Change.{Change}
-use Rattle.machine.proofs.Kept.Laws.{both, or_else, not_is, decide}
+use Rattle.machine.proofs.Kept.Laws.{or_else, decide}
 use Rattle.machine.proofs.Kept.Tables.{at, Linked, length_answer, answer_case, answer_order, length_more, more_old, more_new, owned, number_same}
 use Rattle.machine.proofs.Kept.Local.{OrderKept, order_kept, kept_rule, answer_kept, other_kept, pending_parts}
 use Rattle.machine.proofs.Kept.Keep.{Added, Kept, settled_by, after_settled, after_more, length_settled}
@@ -41,12 +35,12 @@ pub record RangeKept (q : Request) : Type 0 where
 pub range_kept : (q : Request) → request_range q ≡ true → RangeKept q
 unfolding request_range
 range_kept q e =
-    let (e, r4) = both_true _ _ e in let (e, r3) = both_true _ _ e in let (r1, r2) = both_true (leb q.kind 3) (leb q.answered 1) e in
+    let (e, r4) = and_parts _ _ e in let (e, r3) = and_parts _ _ e in let (r1, r2) = and_parts (leb q.kind 3) (leb q.answered 1) e in
     record { kind = leb-true q.kind 3 r1; answered = leb-true q.answered 1 r2; clordid = r3; origclordid = r4 }
 
 pub kept_range : (q : Request) → RangeKept q → request_range q ≡ true
 unfolding request_range
-kept_range q k = both (both (both (le-leb q.kind 3 k.kind) (le-leb q.answered 1 k.answered)) k.clordid) k.origclordid
+kept_range q k = and_from _ _ (and_from _ _ (and_from _ _ (le-leb q.kind 3 k.kind) (le-leb q.answered 1 k.answered)) k.clordid) k.origclordid
 
 -- request j, rule by rule
 pub record RequestKept (b : Book) (j : ℕ) : Type 0 where
@@ -66,24 +60,24 @@ pub record BookKept (b : Book) : Type 0 where
 request_kept : (b : Book) (j : ℕ) → request_rule b j ≡ true → RequestKept b j
 unfolding request_rule
 request_kept b j e =
-    let (e, r4) = both_true _ _ e in let (e, r3) = both_true _ _ e in
-    let (r1, r2) = both_true (request_range (request_in b j)) (ltb (request_in b j).order (length b.orders)) e in
+    let (e, r4) = and_parts _ _ e in let (e, r3) = and_parts _ _ e in
+    let (r1, r2) = and_parts (request_range (request_in b j)) (ltb (request_in b j).order (length b.orders)) e in
     record { range = r1; order = ltb-true (request_in b j).order (length b.orders) r2; number = r3; flight = r4 }
 
 kept_request : (b : Book) (j : ℕ) → RequestKept b j → request_rule b j ≡ true
 unfolding request_rule
-kept_request b j k = both (both (both k.range (lt-ltb (request_in b j).order (length b.orders) k.order)) k.number) k.flight
+kept_request b j k = and_from _ _ (and_from _ _ (and_from _ _ k.range (lt-ltb (request_in b j).order (length b.orders) k.order)) k.number) k.flight
 
 pub book_kept : (b : Book) → rules b ≡ true → BookKept b
 unfolding rules
 book_kept b e =
     let n : ℕ = length b.orders in
     let m : ℕ = length b.requests in
-    let (e, r6) = both_true _ (all_below (key_rule b) m) e in
-    let (e, r5) = both_true _ (all_below (name_rule b) n) e in
-    let (e, r4) = both_true _ (all_below (request_rule b) m) e in
-    let (e, r3) = both_true _ (all_below (order_rule b) n) e in
-    let (r1, r2) = both_true (leb n 64) (leb m 256) e in
+    let (e, r6) = and_parts _ (all_below (key_rule b) m) e in
+    let (e, r5) = and_parts _ (all_below (name_rule b) n) e in
+    let (e, r4) = and_parts _ (all_below (request_rule b) m) e in
+    let (e, r3) = and_parts _ (all_below (order_rule b) n) e in
+    let (r1, r2) = and_parts (leb n 64) (leb m 256) e in
     let requests : (j : ℕ) → j < m → RequestKept b j = λ j h. request_kept b j (all_elim (request_rule b) m r4 j h) in
     record {
       orders = leb-true n 64 r1;
@@ -100,11 +94,11 @@ unfolding rules
 kept_book b k =
     let n : ℕ = length b.orders in
     let m : ℕ = length b.requests in
-    both (both (both (both (both (le-leb n 64 k.orders) (le-leb m 256 k.requests))
+    and_from _ _ (and_from _ _ (and_from _ _ (and_from _ _ (and_from _ _ (le-leb n 64 k.orders) (le-leb m 256 k.requests))
     (all_intro (order_rule b) n (λ i h. kept_rule b i (k.order i h))))
     (all_intro (request_rule b) m (λ j h. kept_request b j (k.request j h))))
-    (all_intro (name_rule b) n (λ i h. all_intro (names_apart b i) i (λ j l. not_is (k.names i j h l)))))
-    (all_intro (key_rule b) m (λ i h. all_intro (keys_apart b i) i (λ j l. not_is (k.keys i j h l))))
+    (all_intro (name_rule b) n (λ i h. all_intro (names_apart b i) i (λ j l. not_from_false _ (k.names i j h l)))))
+    (all_intro (key_rule b) m (λ i h. all_intro (keys_apart b i) i (λ j l. not_from_false _ (k.keys i j h l))))
 
 -- ---- the requests after a change
 
@@ -374,7 +368,7 @@ module _ (b : Book) (i : ℕ) (c : Change) (good : BookKept b) (m : Kept b i c) 
   unfolding has_room
   requests_room =
       let r : eqb c.requests.added 0 || ltb (length b.requests) 256 ≡ true =
-      (both_true (leb c.place (length b.orders) || ltb (length b.orders) 64) (eqb c.requests.added 0 || ltb (length b.requests) 256) room).1 in
+      (and_parts (leb c.place (length b.orders) || ltb (length b.orders) 64) (eqb c.requests.added 0 || ltb (length b.requests) 256) room).1 in
       decide (eqb c.requests.added 0) (λ e. omega (arith, good.requests, ap length (after_settled b.requests c e) ∙ length_settled b.requests c))
       (λ e. omega (
         arith,
@@ -387,7 +381,7 @@ module _ (b : Book) (i : ℕ) (c : Change) (good : BookKept b) (m : Kept b i c) 
   unfolding has_room
   orders_room =
       put.room (subst (λ (n : ℕ). leb n (length b.orders) || ltb (length b.orders) 64 ≡ true) m.place
-      (both_true (leb c.place (length b.orders) || ltb (length b.orders) 64) (eqb c.requests.added 0 || ltb (length b.requests) 256) room).0) good.orders
+      (and_parts (leb c.place (length b.orders) || ltb (length b.orders) 64) (eqb c.requests.added 0 || ltb (length b.requests) 256) room).0) good.orders
 
   pub lift : BookKept (after b c)
   unfolding after

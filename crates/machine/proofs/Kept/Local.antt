@@ -1,15 +1,8 @@
 -- One order among the requests: what the rules ask of it, and that each small step keeps that. Rests on Tables.
-use Prim.Native.Nat.{ℕ, ◌+◌, ◌-◌, ◌≤◌, ◌<◌}
-use native.Mathlib.Omega.{arith}
-use mathlib.Core.Path.{◌≡◌, refl, sym, ap, subst, ◌∙◌}
-use mathlib.Core.Logic.{◌⊎◌, inl, inr, ⊎_elim}
-use mathlib.Core.Bool.{Bool, true, false, not, ◌&&◌, ◌||◌}
-use mathlib.Core.List.{List, [], ◌∷◌, ◌++◌}
-use lib.Dec.{eqb, leb, ltb}
-use lib.ListN.{length}
-use borrow.Author.Tests.{eqb-true, eq-eqb, leb-true, le-leb, ltb-true, ltb-false, lt-ltb, not-true}
+use Rattle.std.proofs.Common.{ℕ, ◌+◌, ◌-◌, ◌≤◌, ◌<◌, arith, ◌≡◌, refl, sym, ap, subst, ◌∙◌, ◌⊎◌, inl, inr, ⊎_elim, Bool, true, false, not, ◌&&◌, ◌||◌, List, [], ◌∷◌, ◌++◌, eqb, leb, ltb, length, eqb-true, eq-eqb, leb-true, le-leb, ltb-true, ltb-false, lt-ltb}
+use Rattle.std.proofs.lemmas.Bool.{not-true, and_parts, or_cases, and_from, or_left, or_right, and_right, not_from_false, not_from_true}
 use Rattle.prelude.specs.Below.{count_le}
-use Rattle.prelude.specs.Cases.{if◌then◌otherwise◌, split_if, both_true, either_true, if_true, if_false, clash}
+use Rattle.prelude.specs.Cases.{if◌then◌otherwise◌, split_if, if_true, if_false, clash}
 use Rattle.prelude.specs.Texts.{same_text, same_self}
 use Rattle.prelude.specs.declared.Text.{Text}
 use Rattle.prelude.specs.declared.Terms.{Terms}
@@ -27,7 +20,7 @@ use Rattle.format.specs.Codes.{is_side, is_status, statuses, is_qty, is_price, p
 use Rattle.machine.specs.Ranges.{text_within, name_range}
 use Rattle.machine.specs.Rules.{names_range, force_range, priced_range, terms_range, pending_range, gateway_range, order_range, current_test, pending_test, current_rule, cancel_rule, pending_rule, filled_rule, status_rule, done_rule, tries_rule, of_order, amendments_rule, order_rule, in_flight_rule}
 use Rattle.machine.specs.declared.Findings.{Findings}
-use Rattle.machine.proofs.Kept.Laws.{both, or_left, or_right, or_map, or_else, and_false, not_is, is_not, decide}
+use Rattle.machine.proofs.Kept.Laws.{or_map, or_else, decide}
 use Rattle.machine.proofs.Kept.Tables.{at, Linked, linked_at, at_linked, linked_answer, linked_more, linked_new, length_answer, answer_case, length_more, more_case, owned, owned_answer, owned_own, owned_other, amendments_at, at_amendments}
 
 -- Order i, rule by rule: its ranges, its links, its numbers, and what its unanswered requests ask of it.
@@ -54,11 +47,11 @@ Flights i o qs = (j : ℕ) → j < length qs → (at qs j).order ≡ i → in_fl
 pub order_kept : (b : Book) (i : ℕ) → order_rule b i ≡ true → Flights i (order_in b i) b.requests → OrderKept i (order_in b i) b.requests
 unfolding order_rule order_range
 order_kept b i e flights =
-    let (e, r9) = both_true _ _ e in let (e, r8) = both_true _ _ e in let (e, r7) = both_true _ _ e in
-    let (e, r6) = both_true _ _ e in let (e, r5) = both_true _ _ e in let (e, r4) = both_true _ _ e in
-    let (e, r3) = both_true _ _ e in let (e, r2) = both_true _ _ e in
-    let (e, s6) = both_true _ _ e in let (e, s5) = both_true _ _ e in let (e, s4) = both_true _ _ e in
-    let (e, s3) = both_true _ _ e in let (s1, s2) = both_true _ _ e in
+    let (e, r9) = and_parts _ _ e in let (e, r8) = and_parts _ _ e in let (e, r7) = and_parts _ _ e in
+    let (e, r6) = and_parts _ _ e in let (e, r5) = and_parts _ _ e in let (e, r4) = and_parts _ _ e in
+    let (e, r3) = and_parts _ _ e in let (e, r2) = and_parts _ _ e in
+    let (e, s6) = and_parts _ _ e in let (e, s5) = and_parts _ _ e in let (e, s4) = and_parts _ _ e in
+    let (e, s3) = and_parts _ _ e in let (s1, s2) = and_parts _ _ e in
     record {
       names = s1;
       terms = s2;
@@ -80,8 +73,8 @@ order_kept b i e flights =
 pub kept_rule : (b : Book) (i : ℕ) → OrderKept i (order_in b i) b.requests → order_rule b i ≡ true
 unfolding order_rule order_range
 kept_rule b i k =
-    both (both (both (both (both (both (both (both
-    (both (both (both (both (both k.names k.terms) k.coded) k.average) k.waiting) k.gateway)
+    and_from _ _ (and_from _ _ (and_from _ _ (and_from _ _ (and_from _ _ (and_from _ _ (and_from _ _ (and_from _ _
+    (and_from _ _ (and_from _ _ (and_from _ _ (and_from _ _ (and_from _ _ k.names k.terms) k.coded) k.average) k.waiting) k.gateway)
     k.current) k.cancel) k.pending) k.amendments) k.filled) k.status) k.done) k.tries
 
 -- ---- gateway cancels in flight
@@ -96,7 +89,7 @@ Quiet i qs = (j : ℕ) → j < length qs → (at qs j).order ≡ i → settled (
 
 pub settled_flight : (link : ℕ) (q : Request) (o : Order) → settled q ≡ true → in_flight_rule link q o ≡ true
 unfolding in_flight_rule
-settled_flight link q o e = or_left _ (or_left (is_done o.state.status) e)
+settled_flight link q o e = or_left _ _ (or_left _ (is_done o.state.status) e)
 
 pub quiet_flights : (i : ℕ) (o : Order) (qs : List Request) → Quiet i qs → Flights i o qs
 quiet_flights i o qs f j h e = settled_flight (j + 1) (at qs j) o (f j h e)
@@ -113,22 +106,22 @@ pub in_flight : (link : ℕ) (q : Request) (o : Order) → is_done o.state.statu
 unfolding in_flight_rule
 in_flight link q o live e =
     ⊎_elim
-    (λ p. ⊎_elim (λ s. inl s) (λ d. clash (is_done o.state.status) d live) (either_true (not (is_gateway q) || is_answered q) (is_done o.state.status) p))
+    (λ p. ⊎_elim (λ s. inl s) (λ d. clash (is_done o.state.status) d live) (or_cases (not (is_gateway q) || is_answered q) (is_done o.state.status) p))
     (λ p.
-    let (p, r4) = both_true _ (not o.gateway.stuck) p in
-    let (p, r3) = both_true _ (not o.gateway.unsent) p in
-    let (r1, r2) = both_true (eqb o.links.cancel link) (ltb 0 o.gateway.tries) p in
+    let (p, r4) = and_parts _ (not o.gateway.stuck) p in
+    let (p, r3) = and_parts _ (not o.gateway.unsent) p in
+    let (r1, r2) = and_parts (eqb o.links.cancel link) (ltb 0 o.gateway.tries) p in
     inr (record { latest = eqb-true o.links.cancel link r1; tried = ltb-true 0 o.gateway.tries r2; sent = not-true o.gateway.unsent r3; free = not-true o.gateway.stuck r4 }))
-    (either_true (not (is_gateway q) || is_answered q || is_done o.state.status) _ e)
+    (or_cases (not (is_gateway q) || is_answered q || is_done o.state.status) _ e)
 
 -- as the rule tests it
 flight_test : (link : ℕ) (o : Order) → InFlight link o → eqb o.links.cancel link && ltb 0 o.gateway.tries && not o.gateway.unsent && not o.gateway.stuck ≡ true
-flight_test link o f = both (both (both (eq-eqb o.links.cancel link f.latest) (lt-ltb 0 o.gateway.tries f.tried)) (not_is f.sent)) (not_is f.free)
+flight_test link o f = and_from _ _ (and_from _ _ (and_from _ _ (eq-eqb o.links.cancel link f.latest) (lt-ltb 0 o.gateway.tries f.tried)) (not_from_false _ f.sent)) (not_from_false _ f.free)
 
 pub flight_rule : (link : ℕ) (q : Request) (o : Order) → InFlight link o → in_flight_rule link q o ≡ true
 unfolding in_flight_rule
 flight_rule link q o f =
-    or_right (not (is_gateway q) || is_answered q || is_done o.state.status) (flight_test link o f)
+    or_right (not (is_gateway q) || is_answered q || is_done o.state.status) _ (flight_test link o f)
 
 -- a gateway cancel that is not sent: none is in flight
 pub quiet_unsent : (i : ℕ) (o : Order) (qs : List Request) → is_done o.state.status ≡ false → o.gateway.unsent ≡ true → Flights i o qs → Quiet i qs
@@ -146,14 +139,14 @@ quiet_answer i o qs live f j h e =
     let h' : j < length qs = subst (λ (n : ℕ). j < n) (length_answer o.links.cancel qs) h in
     answer_case (λ (q : Request). q.order ≡ i → settled q ≡ true) o.links.cancel qs j h'
     (λ d own. ⊎_elim (λ s. s) (λ g. absurd (d g.latest)) (in_flight (j + 1) (at qs j) o live (f j h' own)))
-    (λ z own. or_right (not (is_gateway (at qs j))) refl)
+    (λ z own. or_right (not (is_gateway (at qs j))) _ refl)
     e
 
 -- ---- a request answered
 
 answered_flight : (link : ℕ) (q : Request) (o : Order) → in_flight_rule link (answered q) o ≡ true
 unfolding is_answered is_gateway
-answered_flight link q o = settled_flight link (answered q) o (or_right (not (is_gateway q)) refl)
+answered_flight link q o = settled_flight link (answered q) o (or_right (not (is_gateway q)) _ refl)
 
 cancel_answer : (i k c : ℕ) (qs : List Request) → cancel_rule i c qs ≡ true → cancel_rule i c (answer_link k qs) ≡ true
 unfolding cancel_rule is_cancel is_first is_replace
@@ -162,10 +155,10 @@ cancel_answer i k c qs e = or_map (eqb c 0) _ (λ p. p) (linked_answer is_cancel
 pending_answer : (i k p : ℕ) (qs : List Request) → (k ≡ p → k ≡ 0) → pending_rule i p qs ≡ true → pending_rule i p (answer_link k qs) ≡ true
 unfolding pending_rule
 pending_answer i k p qs free e =
-    ⊎_elim (λ z. or_left _ z)
-    (λ l. or_right (eqb p 0) (linked_answer pending_test i p qs k
+    ⊎_elim (λ z. or_left _ _ z)
+    (λ l. or_right (eqb p 0) _ (linked_answer pending_test i p qs k
     (λ z q t. let above : 0 < p = (linked_at pending_test i p qs l).above in let none : k ≡ 0 = free z in absurd (omega arith)) l))
-    (either_true (eqb p 0) _ e)
+    (or_cases (eqb p 0) _ e)
 
 -- pending terms do not name it, so an order keeps its rules
 pub answer_kept : (i k : ℕ) (o : Order) (qs : List Request) → (k ≡ o.pending.request → k ≡ 0) → OrderKept i o qs → OrderKept i o (answer_link k qs)
@@ -195,8 +188,8 @@ answer_kept i k o qs free l = record {
 gateway_more : (n : ℕ) (g : GatewayCancel) → gateway_range n g ≡ true → gateway_range (n + 1) g ≡ true
 unfolding gateway_range
 gateway_more n g e =
-    let (e, r3) = both_true _ _ e in let (r1, r2) = both_true (not (g.unsent && g.stuck)) (leb g.origdownstream n) e in
-    both (both r1 (le-leb g.origdownstream (n + 1) (let h : g.origdownstream ≤ n = leb-true g.origdownstream n r2 in omega arith))) r3
+    let (e, r3) = and_parts _ _ e in let (r1, r2) = and_parts (not (g.unsent && g.stuck)) (leb g.origdownstream n) e in
+    and_from _ _ (and_from _ _ r1 (le-leb g.origdownstream (n + 1) (let h : g.origdownstream ≤ n = leb-true g.origdownstream n r2 in omega arith))) r3
 
 pub one_more_lem : (top n : ℕ) → n < top → one_more top n ≡ n + 1
 unfolding one_more
@@ -278,20 +271,20 @@ module _ (i : ℕ) (qs : List Request) (x : Request) where
     where
       new : is_cancel x ≡ true → cancel_rule i (next_link f) (qs ++ (x ∷ [])) ≡ true
       new t = subst (λ (k : ℕ). cancel_rule i k (qs ++ (x ∷ [])) ≡ true) (sym (next_link_lem f (length qs) n room))
-          (unfold cancel_rule in or_right (eqb (length qs + 1) 0) (linked_new is_cancel i qs x own t))
+          (unfold cancel_rule in or_right (eqb (length qs + 1) 0) _ (linked_new is_cancel i qs x own t))
 
 -- ---- the order's steps
 
 -- a live order may have what a done one may not
 pub live_done : (o : Order) → is_done o.state.status ≡ false → done_rule o ≡ true
 unfolding done_rule
-live_done o live = or_left _ (not_is live)
+live_done o live = or_left _ _ (not_from_false _ live)
 
 -- an order with a gateway cancel is live
 pub gateway_live : (o : Order) → done_rule o ≡ true → has_gateway o ≡ true → is_done o.state.status ≡ false
 unfolding done_rule
 gateway_live o d g = decide (is_done o.state.status)
-    (λ e. clash (has_gateway o) g (not-true (has_gateway o) (both_true (not (has_pending o)) (not (has_gateway o)) (or_else (not (is_done o.state.status)) _ (is_not e) d)).1))
+    (λ e. clash (has_gateway o) g (not-true (has_gateway o) (and_parts (not (has_pending o)) (not (has_gateway o)) (or_else (not (is_done o.state.status)) _ (not_from_true _ e) d)).1))
     (λ e. e)
 
 -- the parts of the names' range, and of the terms'
@@ -305,12 +298,12 @@ pub record NamesKept (n : Names) : Type 0 where
 pub names_kept : (n : Names) → names_range n ≡ true → NamesKept n
 unfolding names_range
 names_kept n e =
-    let (e, r5) = both_true _ _ e in let (e, r4) = both_true _ _ e in let (e, r3) = both_true _ _ e in let (r1, r2) = both_true _ _ e in
+    let (e, r5) = and_parts _ _ e in let (e, r4) = and_parts _ _ e in let (e, r3) = and_parts _ _ e in let (r1, r2) = and_parts _ _ e in
     record { name = r1; clordid = r2; downstream = r3; symbol = r4; venueorderid = r5 }
 
 pub kept_names : (n : Names) → NamesKept n → names_range n ≡ true
 unfolding names_range
-kept_names n k = both (both (both (both k.name k.clordid) k.downstream) k.symbol) k.venueorderid
+kept_names n k = and_from _ _ (and_from _ _ (and_from _ _ (and_from _ _ k.name k.clordid) k.downstream) k.symbol) k.venueorderid
 
 pub record TermsKept (t : Terms) : Type 0 where
   pub side : is_side t.side ≡ true
@@ -321,12 +314,12 @@ pub record TermsKept (t : Terms) : Type 0 where
 pub terms_kept : (t : Terms) → terms_range t ≡ true → TermsKept t
 unfolding terms_range
 terms_kept t e =
-    let (e, r4) = both_true _ _ e in let (e, r3) = both_true _ _ e in let (r1, r2) = both_true _ _ e in
+    let (e, r4) = and_parts _ _ e in let (e, r3) = and_parts _ _ e in let (r1, r2) = and_parts _ _ e in
     record { side = r1; priced = r2; timeinforce = r3; qty = r4 }
 
 pub kept_terms : (t : Terms) → TermsKept t → terms_range t ≡ true
 unfolding terms_range
-kept_terms t k = both (both (both k.side k.priced) k.timeinforce) k.qty
+kept_terms t k = and_from _ _ (and_from _ _ (and_from _ _ k.side k.priced) k.timeinforce) k.qty
 
 kept_id : (kept given : Text) (r : Bool) → text_within 0 32 kept ≡ true → text_within 0 32 given ≡ true → text_within 0 32 (kept_order_id kept given r) ≡ true
 unfolding kept_order_id
@@ -442,7 +435,7 @@ module _ (i : ℕ) (o : Order) (qs : List Request) (l : OrderKept i o qs) where
     amendments = l.amendments;
     filled = l.filled;
     status = l.status;
-    done = or_map (not (is_done o.state.status)) (not (has_pending o) && not (has_gateway o)) (λ e. e) (λ e. (both_true (not (has_pending o)) (not (has_gateway o)) e).1) l.done;
+    done = or_map (not (is_done o.state.status)) (not (has_pending o) && not (has_gateway o)) (λ e. e) (λ e. (and_parts (not (has_pending o)) (not (has_gateway o)) e).1) l.done;
     tries = l.tries;
     flight = l.flight;
   }
@@ -458,22 +451,20 @@ unfolding unless_short
 short_coded qty cumqty s e = split_if (λ (t : ℕ). is_status t ≡ true) _ (λ h. unfold is_status statuses in refl) (λ h. e)
 
 neither : (a b : Bool) → (a || b) && true ≡ false → not (b || a) ≡ true
-neither true b e = clash true refl e
-neither false true e = clash true refl e
-neither false false e = refl
+neither a b e = grind arith
 
 status_right : (cumqty s : ℕ) → status_rule cumqty (status_at cumqty s) ≡ true
 unfolding status_at
 status_right cumqty s =
-    split_if (λ (t : ℕ). status_rule cumqty t ≡ true) _ (λ h. unfold status_rule in or_right (eqb cumqty 0) refl) (λ h. unfold status_rule in go (ltb 0 cumqty) refl h)
+    split_if (λ (t : ℕ). status_rule cumqty t ≡ true) _ (λ h. unfold status_rule in or_right (eqb cumqty 0) _ refl) (λ h. unfold status_rule in go (ltb 0 cumqty) refl h)
   where
     go : (b : Bool) → ltb 0 cumqty ≡ b → (eqb s new || eqb s pending_new) && b ≡ false → eqb cumqty 0 || not (eqb s pending_new || eqb s new) ≡ true
-    go true t h = or_right (eqb cumqty 0) (neither (eqb s new) (eqb s pending_new) h)
-    go false t h = or_left _ (eq-eqb cumqty 0 (let none : cumqty ≤ 0 = ltb-false 0 cumqty t in omega arith))
+    go true t h = or_right (eqb cumqty 0) _ (neither (eqb s new) (eqb s pending_new) h)
+    go false t h = or_left _ _ (eq-eqb cumqty 0 (let none : cumqty ≤ 0 = ltb-false 0 cumqty t in omega arith))
 
 pub gateway_none : (n : ℕ) → gateway_range n no_gateway ≡ true
 unfolding gateway_range
-gateway_none n = both (le-leb 0 n (omega arith)) refl
+gateway_none n = and_from _ _ (le-leb 0 n (omega arith)) refl
 
 -- what a done order gives up
 done_if : (d : Bool) (p : Pending) (g : GatewayCancel)
@@ -485,13 +476,13 @@ done_if false p g = refl
 flight_if : (d s c : Bool) (g : GatewayCancel) → s || (c && ltb 0 g.tries && not g.unsent && not g.stuck) ≡ true
     → s || d || (c && ltb 0 (if d then no_gateway otherwise g).tries && not (if d then no_gateway otherwise g).unsent && not (if d then no_gateway otherwise g).stuck) ≡ true
 unfolding if◌then◌otherwise◌
-flight_if true s c g e = or_left _ (or_right s refl)
-flight_if false s c g e = or_map s _ (λ p. or_left false p) (λ p. p) e
+flight_if true s c g e = or_left _ _ (or_right s _ refl)
+flight_if false s c g e = or_map s _ (λ p. or_left _ false p) (λ p. p) e
 
 live_flight : (link : ℕ) (q : Request) (o : Order) → is_done o.state.status ≡ false → in_flight_rule link q o ≡ true
     → settled q || (eqb o.links.cancel link && ltb 0 o.gateway.tries && not o.gateway.unsent && not o.gateway.stuck) ≡ true
 live_flight link q o live e =
-    ⊎_elim (λ s. or_left _ s) (λ f. or_right (settled q) (flight_test link o f)) (in_flight link q o live e)
+    ⊎_elim (λ s. or_left _ _ s) (λ f. or_right (settled q) _ (flight_test link o f)) (in_flight link q o live e)
 
 -- a live order with these quantities and this status; with its own quantities this is `set_status` alone
 pub state_kept : (s cumqty avgpx execseq i : ℕ) (o : Order) (qs : List Request) → is_done o.state.status ≡ false → is_status s ≡ true → is_price avgpx ≡ true
@@ -523,7 +514,7 @@ state_kept s cumqty avgpx execseq i o qs live coded priced fits l =
 
 pub not_cancel : (q : Request) → is_replace q ≡ true → is_cancel q ≡ false
 unfolding is_cancel
-not_cancel q e = and_false (not (is_first q)) _ (is_not e)
+not_cancel q e = and_right (not (is_first q)) _ (not_from_true _ e)
 
 -- pending terms stand in the book as terms do
 pub record PendingKept (i : ℕ) (o : Order) (qs : List Request) : Type 0 where
@@ -535,8 +526,8 @@ unfolding pending_range pending_rule pending_terms
 pending_parts i o qs some l =
     let p : Pending = o.pending in
     let e : priced_range p.ordtype p.price && force_range p.timeinforce && is_qty p.qty ≡ true = sym (if_false (eqb p.request 0) _ _ some) ∙ l.waiting in
-    let (e, r3) = both_true (priced_range p.ordtype p.price && force_range p.timeinforce) (is_qty p.qty) e in
-    let (r1, r2) = both_true (priced_range p.ordtype p.price) (force_range p.timeinforce) e in
+    let (e, r3) = and_parts (priced_range p.ordtype p.price && force_range p.timeinforce) (is_qty p.qty) e in
+    let (r1, r2) = and_parts (priced_range p.ordtype p.price) (force_range p.timeinforce) e in
     record {
       terms = kept_terms _ (record { side = (terms_kept o.terms l.terms).side; priced = r1; timeinforce = r2; qty = r3 });
       link = linked_at pending_test i p.request qs (or_else (eqb p.request 0) _ some l.pending);
@@ -549,7 +540,7 @@ unfolding apply_replace pending_terms current_rule pending_range pending_rule if
 replaced_kept i o qs q live some here clordid downstream fits l =
     let p : PendingKept i o qs = pending_parts i o qs some l in
     let link : Linked pending_test i o.pending.request qs = p.link in
-    let replace : is_replace (at qs (o.pending.request - 1)) ≡ true = (both_true (is_replace (at qs (o.pending.request - 1))) _ link.passes).0 in
+    let replace : is_replace (at qs (o.pending.request - 1)) ≡ true = (and_parts (is_replace (at qs (o.pending.request - 1))) _ link.passes).0 in
     record {
       names = let n = names_kept o.names l.names in
           kept_names _ (record { name = n.name; clordid = clordid; downstream = downstream; symbol = n.symbol; venueorderid = n.venueorderid });
@@ -563,7 +554,7 @@ replaced_kept i o qs q live some here clordid downstream fits l =
             above = link.above;
             within = link.within;
             own = link.own;
-            passes = both (not_is (not_cancel (at qs (o.pending.request - 1)) replace))
+            passes = and_from _ _ (not_from_false _ (not_cancel (at qs (o.pending.request - 1)) replace))
                 (subst (λ (x : Request). same_text q.downstream x.downstream ≡ true) (sym here) (same_self q.downstream));
           });
       cancel = l.cancel;

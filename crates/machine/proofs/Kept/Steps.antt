@@ -1,15 +1,8 @@
 -- Each event taken on any book that keeps its rules leaves a book that keeps them. Rests on Lift and Stepped.
-use Prim.Native.Nat.{ℕ, zero, suc, ◌+◌, ◌-◌, ◌≤◌, ◌<◌}
-use native.Mathlib.Omega.{arith}
-use mathlib.Core.Path.{◌≡◌, refl, sym, ap, subst, ◌∙◌}
-use mathlib.Core.Bool.{Bool, true, false, not, ◌&&◌}
-use Rattle.std.specs.Prelude.{Option, None, Some}
-use mathlib.Core.List.{List, [], ◌∷◌, ◌++◌}
-use lib.Dec.{eqb, ltb}
-use lib.ListN.{length}
-use borrow.Author.Tests.{eqb-true, eqb-false, eq-eqb, ne_eqb, le-leb, lt-ltb, not-true, not-false}
+use Rattle.std.proofs.Common.{ℕ, zero, suc, ◌+◌, ◌-◌, ◌≤◌, ◌<◌, arith, ◌≡◌, refl, sym, ap, subst, ◌∙◌, Bool, true, false, not, ◌&&◌, Option, None, Some, List, [], ◌∷◌, ◌++◌, eqb, ltb, length, eqb-true, eq-eqb, ne_eqb, le-leb, lt-ltb}
+use Rattle.std.proofs.lemmas.Bool.{eqb-false, not-true, not-false, and_parts, and_from, not_from_false, false_from_ne_true}
 use Rattle.prelude.specs.Below.{all_below, first_below, first_elim, First, first_some, count_below, count_le, count_ext}
-use Rattle.prelude.specs.Cases.{if◌then◌otherwise◌, maybe, split_if, both_true, if_false, clash}
+use Rattle.prelude.specs.Cases.{if◌then◌otherwise◌, maybe, split_if, if_false, clash}
 use Rattle.prelude.specs.Texts.{is_text, same_text, same_self, same_back, same_length}
 use Rattle.prelude.specs.declared.Text.{Text}
 use Rattle.store.specs.declared.Order.{Order}
@@ -33,7 +26,7 @@ use Rattle.machine.specs.declared.Output.{Output}
 use Rattle.machine.specs.declared.Change.{Change}
 use Rattle.machine.proofs.Made.{left, repeated, turned, unpriced, cancel_sent, replace_sent}
 use Rattle.machine.proofs.Stepped.{AmendedBy, Ways, change_made}
-use Rattle.machine.proofs.Kept.Laws.{both, and_tail, not_is, untrue, text_kept, name_within, same_within}
+use Rattle.machine.proofs.Kept.Laws.{and_tail, text_kept, name_within, same_within}
 use Rattle.machine.proofs.Kept.Tables.{at, linked_new, owned, owned_own, at_amendments}
 use Rattle.machine.proofs.Kept.Local.{OrderKept, settled_flight, gateway_none, flight_more, kept_names, kept_terms, names_kept}
 use Rattle.machine.proofs.Kept.Keep.{Added, Kept, Here, Asked, no_text_lem, priced_range_lem, quiet_idle, own_still, made_kept, asked_kept, status_kept, cancel_goes_lem, replace_goes_lem}
@@ -98,7 +91,7 @@ module _ (laws : NumberedLaws) (b : Book) (good : BookKept b) where
       let n : ℕ = number_in b.requests j in
       let few : n ≤ j = count_le (of_order b.requests (request_in b j).order) j in
       let named : name_range name ≡ true = (names_kept _ (good.order (request_in b j).order r.order).names).name in
-      same_within 1 32 (request_in b j).downstream (name_number name n) (both_true (same_text (request_in b j).downstream (name_number name n)) _ r.number).0
+      same_within 1 32 (request_in b j).downstream (name_number name n) (and_parts (same_text (request_in b j).downstream (name_number name n)) _ r.number).0
       (split_if (λ (t : Text). text_within 1 32 t ≡ true) (eqb n 0) (λ z. name_within name named)
       (λ z. laws.within name n named (omega (arith, eqb-false n 0 z)) (omega (arith, good.requests))))
 
@@ -116,13 +109,13 @@ replace_client q e = ne_eqb q.kind 3 (λ z. let k : q.kind ≡ 2 = eqb-true q.ki
 -- a request of the client's is one whose order is
 of_client_lem : (b : Book) (client j : ℕ) → (request_in b j).order < length b.orders → client_of b j ≡ client → of_client b.orders client (request_in b j) ≡ true
 unfolding of_client
-of_client_lem b client j h e = both (lt-ltb (request_in b j).order (length b.orders) h) (eq-eqb (client_of b j) client e)
+of_client_lem b client j h e = and_from _ _ (lt-ltb (request_in b j).order (length b.orders) h) (eq-eqb (client_of b j) client e)
 
 clordid_client : (b : Book) (client : ℕ) (t : Text) (j : ℕ) → bears_clordid b.orders client t (request_in b j) ≡ true → (order_in b (request_in b j).order).client ≡ client
 unfolding of_client
 clordid_client b client t j e =
     eqb-true (order_in b (request_in b j).order).client client
-    (both_true (ltb (request_in b j).order (length b.orders)) _ (both_true (same_text (request_in b j).clordid t) _ (both_true (has_clordid (request_in b j)) _ e).1).1).1
+    (and_parts (ltb (request_in b j).order (length b.orders)) _ (and_parts (same_text (request_in b j).clordid t) _ (and_parts (has_clordid (request_in b j)) _ e).1).1).1
 
 -- a ClOrdID of no order is no request's
 never_used : (b : Book) (client : ℕ) (t : Text) → eqb (order_of b client t) 0 ≡ true → (j : ℕ) → j < length b.requests → bears_clordid b.orders client t (request_in b j) ≡ false
@@ -137,13 +130,13 @@ never_used b client t e = go (first_below (λ k. bears_clordid b.orders client t
 -- so it is new to the client
 fresh_key : (b : Book) (client : ℕ) (t : Text) → text_within 1 32 t ≡ true → eqb (order_of b client t) 0 ≡ true
     → (j : ℕ) → j < length b.requests → (request_in b j).order < length b.orders → eqb client (client_of b j) && same_text t (request_in b j).clordid ≡ false
-fresh_key b client t w e j h booked = untrue _ (λ z.
-    let (c, s) = both_true (eqb client (client_of b j)) (same_text t (request_in b j).clordid) z in
+fresh_key b client t w e j h booked = false_from_ne_true _ (λ z.
+    let (c, s) = and_parts (eqb client (client_of b j)) (same_text t (request_in b j).clordid) z in
     let n : t.len ≡ (request_in b j).clordid.len = same_length t (request_in b j).clordid s in
     let Some : 1 ≤ t.len = (text_kept 1 32 t w).above in
     clash (bears_clordid b.orders client t (request_in b j))
-    (both (not_is (ne_eqb (request_in b j).clordid.len 0 (λ y. omega arith)))
-    (both (same_back t (request_in b j).clordid s) (of_client_lem b client j booked (sym (eqb-true client (client_of b j) c)))))
+    (and_from _ _ (not_from_false _ (ne_eqb (request_in b j).clordid.len 0 (λ y. omega arith)))
+    (and_from _ _ (same_back t (request_in b j).clordid s) (of_client_lem b client j booked (sym (eqb-true client (client_of b j) c)))))
     (never_used b client t e j h))
 
 -- what holds of a cancel or replace that is not refused
@@ -195,8 +188,8 @@ module _ (b : Book) (e : Event) (good : BookKept b) (k : rules b ≡ true) (amen
   none_keeps : (order : ℕ) (full : Bool) (o : Order) (c c' : Change) → AmendedBy (findings_of b 0) order full o e c c' → Keeps b c
   unfolding findings_of already_taken
   none_keeps order full o c c' (repeated t) =
-      let (t, same) = both_true (has e 21 && not (eqb order 0)) (eqb order 0) t in
-      clash (eqb order 0) same (not-true (eqb order 0) (both_true (has e 21) (not (eqb order 0)) t).1)
+      let (t, same) = and_parts (has e 21 && not (eqb order 0)) (eqb order 0) t in
+      clash (eqb order 0) same (not-true (eqb order 0) (and_parts (has e 21) (not (eqb order 0)) t).1)
   none_keeps order full o c c' (turned w t) = nothing_keeps b _ _ k
   none_keeps order full o c c' (unpriced t) = refusing_keeps b 6 refl
   none_keeps order full o c c' (cancel_sent z t) = clash (eqb 0 0) refl (amend_passes (findings_of b 0) order full o e _ t).found
@@ -246,9 +239,9 @@ module _ (b : Book) (e : Event) (good : BookKept b) (booking : Booking e) (range
   unfolding booked_order first_request
   first_added = record {
     order = refl;
-    range = unfold request_range is_first is_gateway if◌then◌otherwise◌ in both booking.clordid (unfold text_within is_text all_below in refl);
+    range = unfold request_range is_first is_gateway if◌then◌otherwise◌ in and_from _ _ booking.clordid (unfold text_within is_text all_below in refl);
     number = subst (λ (n : ℕ). number_rule e.ids.name n (first_request (length b.orders) e) ≡ true) (sym (none_owned b good))
-        (unfold number_rule name_number is_first if◌then◌otherwise◌ in both (same_self e.ids.name) refl);
+        (unfold number_rule name_number is_first if◌then◌otherwise◌ in and_from _ _ (same_self e.ids.name) refl);
     fresh = λ j h. and_tail (not (is_empty e.ids.clordid)) _ _ (fresh_key b e.client e.ids.clordid booking.clordid unused' j h (good.request j h).order);
   }
 
@@ -274,11 +267,11 @@ named_apart b e apart l j h = apart j h
 booking_keeps : (b : Book) (e : Event) → BookKept b → Booking e → Ranged e → unused b e ≡ true → priced_right e.terms.ordtype e ≡ true
     → Keeps b (adding (first_request (length b.orders) e) (unchanged (length b.orders + 1) (booked_order (length b.requests + 1) e)))
 booking_keeps b e good booking ranged u priced z r =
-    let (name, key) = both_true (maybe true (λ k. false) (find_name b e.ids.name)) (eqb (order_of b e.client e.ids.clordid) 0) (unfold unused in u) in
+    let (name, key) = and_parts (maybe true (λ k. false) (find_name b e.ids.name)) (eqb (order_of b e.client e.ids.clordid) 0) (unfold unused in u) in
     kept_book _ (lift b (length b.orders) _ good (first_kept b e good booking ranged priced key) (omega arith) r (named_apart b e (apart name)))
   where
     apart : maybe true (λ k. false) (find_name b e.ids.name) ≡ true → (j : ℕ) → j < length b.orders → same_text e.ids.name (order_in b j).names.name ≡ false
-    apart t j h = untrue _ (λ s. clash (bears_name e.ids.name (order_in b j)) (same_back e.ids.name (order_in b j).names.name s) (go (find_name b e.ids.name) refl t))
+    apart t j h = false_from_ne_true _ (λ s. clash (bears_name e.ids.name (order_in b j)) (same_back e.ids.name (order_in b j).names.name s) (go (find_name b e.ids.name) refl t))
       where
         go : (r : Option ℕ) → find_name b e.ids.name ≡ r → maybe true (λ k. false) r ≡ true → bears_name e.ids.name (order_in b j) ≡ false
         go None z u = first_elim (λ k. bears_name e.ids.name (order_in b k)) (length b.orders) (unfold find_name in z) j h

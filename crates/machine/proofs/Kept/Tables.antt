@@ -1,23 +1,17 @@
 -- The tables: the order of a link, and lists of requests, what answering one and adding one leave as they were. Rests on Machine and Rules.
-use Prim.Native.Nat.{ℕ, ◌+◌, ◌-◌, ◌≤◌, ◌<◌}
-use native.Mathlib.Omega.{arith}
-use native.Mathlib.Decide.{ℕ_discrete}
-use mathlib.Core.Path.{◌≡◌, refl, sym, ap, subst, ◌∙◌}
-use mathlib.Core.Bool.{Bool, true}
-use mathlib.Core.List.{List, [], ◌∷◌, ◌++◌}
-use lib.Dec.{eqb, leb, ltb}
-use lib.ListN.{length, get_or, set, length-append, length-set, get_or-append}
-use lib.Seq.{get_or-set_same, get_or-set_other, get_or-append_seam}
-use borrow.Author.Tests.{eqb-true, eqb-false, eq-eqb, ne_eqb, leb-true, le-leb, ltb-true, lt-ltb}
+use Rattle.std.proofs.Common.{ℕ, ◌+◌, ◌-◌, ◌≤◌, ◌<◌, arith, ◌≡◌, refl, sym, ap, subst, ◌∙◌, Bool, true, List, [], ◌∷◌, ◌++◌, eqb, leb, ltb, length, get_or, set, length-append, length-set, get_or-set_same, get_or-set_other, eqb-true, eq-eqb, ne_eqb, leb-true, le-leb, ltb-true, lt-ltb}
+use Rattle.std.proofs.Math.Decide.{ℕ_discrete}
+use Rattle.std.proofs.Math.ListN.{get_or-append}
+use Rattle.std.proofs.Math.Seq.{get_or-append_seam}
+use Rattle.std.proofs.lemmas.Bool.{eqb-false, and_parts, and_from}
 use Rattle.prelude.specs.Below.{count_below, count_hit, count_pass, count_ext}
-use Rattle.prelude.specs.Cases.{split_if, if_false, both_true}
+use Rattle.prelude.specs.Cases.{split_if, if_false}
 use Rattle.store.specs.declared.Request.{Request}
 use Rattle.store.specs.Book.{Book, order_in, answered}
 use Rattle.store.specs.Orders.{no_order}
 use Rattle.store.specs.Requests.{no_request}
 use Rattle.machine.specs.Machine.{order_at_link, answer_link}
 use Rattle.machine.specs.Rules.{linked, of_order, number_in, amendments_rule}
-use Rattle.machine.proofs.Kept.Laws.{both}
 
 abbrev pub at : List Request → ℕ → Request
 at qs j = get_or qs j no_request
@@ -80,15 +74,15 @@ pub record Linked (test : Request → Bool) (i link : ℕ) (qs : List Request) :
 pub linked_at : (test : Request → Bool) (i link : ℕ) (qs : List Request) → linked test i link qs ≡ true → Linked test i link qs
 unfolding linked
 linked_at test i link qs e =
-    let (e, r4) = both_true _ (test (at qs (link - 1))) e in
-    let (e, r3) = both_true _ (eqb (at qs (link - 1)).order i) e in
-    let (r1, r2) = both_true (ltb 0 link) (leb link (length qs)) e in
+    let (e, r4) = and_parts _ (test (at qs (link - 1))) e in
+    let (e, r3) = and_parts _ (eqb (at qs (link - 1)).order i) e in
+    let (r1, r2) = and_parts (ltb 0 link) (leb link (length qs)) e in
     record { above = ltb-true 0 link r1; within = leb-true link (length qs) r2; own = eqb-true (at qs (link - 1)).order i r3; passes = r4 }
 
 pub at_linked : (test : Request → Bool) (i link : ℕ) (qs : List Request) → Linked test i link qs → linked test i link qs ≡ true
 unfolding linked
 at_linked test i link qs l =
-    both (both (both (lt-ltb 0 link l.above) (le-leb link (length qs) l.within)) (eq-eqb (at qs (link - 1)).order i l.own)) l.passes
+    and_from _ _ (and_from _ _ (and_from _ _ (lt-ltb 0 link l.above) (le-leb link (length qs) l.within)) (eq-eqb (at qs (link - 1)).order i l.own)) l.passes
 
 module _ (test : Request → Bool) (i link : ℕ) (qs : List Request) where
   pub linked_answer : (k : ℕ) → (k ≡ link → (q : Request) → test q ≡ true → test (answered q) ≡ true) → linked test i link qs ≡ true

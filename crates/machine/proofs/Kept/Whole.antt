@@ -1,15 +1,8 @@
 -- The book that an event leaves can be written to bytes if the book that it found could. Rests on Fits and Steps.
-use Prim.Native.Nat.{ℕ, ◌^◌, ◌≤◌, ◌<◌}
-use native.Mathlib.Nat.{not-suc-le-zero}
-use native.Mathlib.Omega.{arith}
-use mathlib.Core.Path.{◌≡◌, refl, sym, subst}
-use mathlib.Core.Logic.{⊎_elim}
-use mathlib.Core.Bool.{Bool, true, false, not, ◌&&◌, ◌||◌}
-use mathlib.Core.List.{List}
-use lib.Dec.{eqb, leb}
-use lib.ListN.{length}
-use borrow.Author.Tests.{eqb-true, eq-eqb, leb-true, not-true}
-use Rattle.prelude.specs.Cases.{split_if, both_true, either_true}
+use Rattle.std.proofs.Common.{ℕ, ◌^◌, ◌≤◌, ◌<◌, not-suc-le-zero, arith, ◌≡◌, refl, sym, subst, ⊎_elim, Bool, true, false, not, ◌&&◌, ◌||◌, List, eqb, leb, length, eqb-true, leb-true}
+use Rattle.std.proofs.lemmas.Bool.{not-true, and_parts, or_cases}
+use Rattle.std.proofs.lemmas.Bool.Decides.{nat_tests}
+use Rattle.prelude.specs.Cases.{split_if}
 use Rattle.store.specs.declared.Pending.{Pending}
 use Rattle.store.specs.declared.GatewayCancel.{GatewayCancel}
 use Rattle.store.specs.declared.Order.{Order}
@@ -22,7 +15,7 @@ use Rattle.machine.specs.Machine.{after, book_after}
 use Rattle.format.specs.Codes.{sides, ordtypes, timesinforce, statuses, is_side, is_ordtype, is_timeinforce, is_status, is_qty, is_price}
 use Rattle.machine.specs.Rules.{force_range, priced_range, pending_range, gateway_range, pending_test, cancel_rule, pending_rule, filled_rule, rules}
 use Rattle.machine.specs.Whole.{WholeBook, WholeStart, WholeKept}
-use Rattle.machine.proofs.Kept.Laws.{or_else, is_not, name_short}
+use Rattle.machine.proofs.Kept.Laws.{name_short}
 use Rattle.machine.proofs.Kept.Tables.{linked_at}
 use Rattle.machine.proofs.Kept.Local.{OrderKept, names_kept, TermsKept, terms_kept}
 use Rattle.machine.proofs.Kept.Keep.{current_link, tries_at}
@@ -31,9 +24,6 @@ use Rattle.machine.proofs.Kept.Steps.{step_keeps}
 use Rattle.machine.proofs.Kept.Fits.{NamesFit, OrderFits, RequestFits, BookFits, orders_past, requests_past, fits_kept}
 use Rattle.machine.proofs.Numbered.{numbered_laws}
 use Rattle.format.specs.Laws.Codes.{listed_small}
-
-or_case : {A : Type 0} (a b : Bool) → (a ≡ true → A) → (b ≡ true → A) → a || b ≡ true → A
-or_case a b f g e = ⊎_elim f g (either_true a b e)
 
 -- ---- a code of a list is a byte
 
@@ -48,7 +38,7 @@ ordtype_byte c = listed_small c ordtypes refl
 force_byte : (c : ℕ) → force_range c ≡ true → c < 2 ^ 8
 unfolding force_range is_timeinforce timesinforce
 force_byte c e =
-    or_case (eqb c 0) (is_timeinforce c) (λ z. let y : c ≡ 0 = eqb-true c 0 z in omega arith) (listed_small c timesinforce refl) e
+    ⊎_elim (λ z. let y : c ≡ 0 = eqb-true c 0 z in omega arith) (listed_small c timesinforce refl) (or_cases (eqb c 0) (is_timeinforce c) e)
 
 status_byte : (c : ℕ) → is_status c ≡ true → c < 2 ^ 8
 unfolding is_status statuses
@@ -67,7 +57,7 @@ record Priced (ordtype price : ℕ) : Type 0 where
 priced_fits : (ordtype price : ℕ) → priced_range ordtype price ≡ true → Priced ordtype price
 unfolding priced_range
 priced_fits ordtype price e =
-    let (a, c) = both_true (is_ordtype ordtype) (is_price price) (both_true (is_ordtype ordtype && is_price price) _ e).0 in
+    let (a, c) = and_parts (is_ordtype ordtype) (is_price price) (and_parts (is_ordtype ordtype && is_price price) _ e).0 in
     record { ordtype' = ordtype_byte ordtype a; price' = price_word price c }
 
 record PendingFits (p : Pending) : Type 0 where
@@ -80,17 +70,17 @@ unfolding pending_range
 pending_fits p =
     split_if (λ (x : Bool). x ≡ true → PendingFits p) (eqb p.request 0)
     (λ t e.
-    let (e, force) = both_true (eqb p.qty 0 && eqb p.price 0 && eqb p.ordtype 0) (eqb p.timeinforce 0) e in
-    let (e, ordtype) = both_true (eqb p.qty 0 && eqb p.price 0) (eqb p.ordtype 0) e in
-    let (qty, price) = both_true (eqb p.qty 0) (eqb p.price 0) e in
+    let (e, force) = and_parts (eqb p.qty 0 && eqb p.price 0 && eqb p.ordtype 0) (eqb p.timeinforce 0) e in
+    let (e, ordtype) = and_parts (eqb p.qty 0 && eqb p.price 0) (eqb p.ordtype 0) e in
+    let (qty, price) = and_parts (eqb p.qty 0) (eqb p.price 0) e in
     record {
       qty = omega (arith, eqb-true p.qty 0 qty);
       priced = record { ordtype' = omega (arith, eqb-true p.ordtype 0 ordtype); price' = omega (arith, eqb-true p.price 0 price) };
       timeinforce = omega (arith, eqb-true p.timeinforce 0 force);
     })
     (λ t e.
-    let (e, qty) = both_true (priced_range p.ordtype p.price && force_range p.timeinforce) (is_qty p.qty) e in
-    let (priced, force) = both_true (priced_range p.ordtype p.price) (force_range p.timeinforce) e in
+    let (e, qty) = and_parts (priced_range p.ordtype p.price && force_range p.timeinforce) (is_qty p.qty) e in
+    let (priced, force) = and_parts (priced_range p.ordtype p.price) (force_range p.timeinforce) e in
     record { qty = qty_word p.qty qty; priced = priced_fits p.ordtype p.price priced; timeinforce = force_byte p.timeinforce force })
 
 record GatewayFits (n : ℕ) (g : GatewayCancel) : Type 0 where
@@ -101,28 +91,23 @@ record GatewayFits (n : ℕ) (g : GatewayCancel) : Type 0 where
 gateway_fits : (n : ℕ) (g : GatewayCancel) → gateway_range n g ≡ true → GatewayFits n g
 unfolding gateway_range
 gateway_fits n g e =
-    let (e, none) = both_true (not (g.unsent && g.stuck) && leb g.origdownstream n) _ e in
-    let (s, w) = both_true (not (g.unsent && g.stuck)) (leb g.origdownstream n) e in
+    let (e, none) = and_parts (not (g.unsent && g.stuck) && leb g.origdownstream n) _ e in
+    let (s, w) = and_parts (not (g.unsent && g.stuck)) (leb g.origdownstream n) e in
     record { stage = not-true (g.unsent && g.stuck) s; within = leb-true g.origdownstream n w; no_stage = λ z. blank z none }
   where
     blank : g.origdownstream ≡ 0 → not (eqb g.origdownstream 0) || (not g.unsent && not g.stuck && eqb g.tries 0 && eqb g.refusedsends 0) ≡ true
         → (g.unsent ≡ false) × (g.stuck ≡ false)
-    blank z e =
-        let e = or_else (not (eqb g.origdownstream 0)) _ (is_not (eq-eqb g.origdownstream 0 z)) e in
-        let e = (both_true (not g.unsent && not g.stuck && eqb g.tries 0) (eqb g.refusedsends 0) e).0 in
-        let e = (both_true (not g.unsent && not g.stuck) (eqb g.tries 0) e).0 in
-        let (u, s) = both_true (not g.unsent) (not g.stuck) e in
-        (not-true g.unsent u, not-true g.stuck s)
+    blank z e = grind (arith, nat_tests)
 
 -- ---- from the rules and what they leave open
 
 cancel_within : (i c : ℕ) (qs : List Request) → cancel_rule i c qs ≡ true → c ≤ length qs
 unfolding cancel_rule
-cancel_within i c qs = or_case (eqb c 0) _ (λ z. omega (arith, eqb-true c 0 z)) (λ z. (linked_at is_cancel i c qs z).within)
+cancel_within i c qs e = ⊎_elim (λ z. omega (arith, eqb-true c 0 z)) (λ z. (linked_at is_cancel i c qs z).within) (or_cases (eqb c 0) _ e)
 
 pending_within : (i p : ℕ) (qs : List Request) → pending_rule i p qs ≡ true → p ≤ length qs
 unfolding pending_rule
-pending_within i p qs = or_case (eqb p 0) _ (λ z. omega (arith, eqb-true p 0 z)) (λ z. (linked_at pending_test i p qs z).within)
+pending_within i p qs e = ⊎_elim (λ z. omega (arith, eqb-true p 0 z)) (λ z. (linked_at pending_test i p qs z).within) (or_cases (eqb p 0) _ e)
 
 pub whole_order : (i : ℕ) (o : Order) (qs : List Request) → length qs ≤ 256 → OrderKept i o qs → OrderFits o → WholeOrder o
 unfolding filled_rule

@@ -1,9 +1,5 @@
 -- An event raises no alarm, one alone, or 6 and then 1: on every book, whatever it holds. Rests on Stepped.
-use Prim.Native.Nat.{ℕ, ◌≤◌}
-use native.Mathlib.Omega.{arith}
-use mathlib.Core.Path.{◌≡◌, refl}
-use mathlib.Core.Logic.{◌⊎◌, inl, inr}
-use mathlib.Core.Bool.{Bool}
+use Rattle.std.proofs.Common.{ℕ, ◌≤◌, arith, ◌≡◌, refl, ◌⊎◌, inl, inr, Bool}
 use Rattle.prelude.specs.Cases.{if◌then◌otherwise◌, split_if}
 use Rattle.store.specs.declared.Order.{Order}
 use Rattle.store.specs.declared.Request.{Request}

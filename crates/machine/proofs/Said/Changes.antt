@@ -1,13 +1,8 @@
 -- The messages of each change are right: one law for a function of the handling. Rests on Orders, Reads and Stepped.
-use Prim.Native.Nat.{ℕ, ◌+◌, ◌-◌, ◌^◌, ◌≤◌, ◌<◌}
-use native.Mathlib.Omega.{arith}
-use native.Mathlib.Nat.{mod-lt}
-use mathlib.Core.Path.{◌≡◌, refl, sym, ap, subst, ◌∙◌}
-use mathlib.Core.Logic.{⊎_elim}
-use mathlib.Core.Bool.{Bool, true, false, not, ◌&&◌}
-use lib.Dec.{eqb, leb, lit<}
-use borrow.Author.Tests.{eqb-true, eqb-false, ne_eqb, leb-true, le-leb, lt-ltb, not-true, not-false}
-use Rattle.prelude.specs.Cases.{if◌then◌otherwise◌, split_if, clash, both_true, both_false, either_true}
+use Rattle.std.proofs.Common.{ℕ, ◌+◌, ◌-◌, ◌^◌, ◌≤◌, ◌<◌, arith, mod-lt, ◌≡◌, refl, sym, ap, subst, ◌∙◌, ⊎_elim, Bool, true, false, not, ◌&&◌, eqb, leb, lit<, eqb-true, ne_eqb, leb-true, le-leb, lt-ltb}
+use Rattle.std.proofs.Math.Bool.{and-false, not-and_self}
+use Rattle.std.proofs.lemmas.Bool.{eqb-false, not-true, not-false, and_parts, or_cases, and_from}
+use Rattle.prelude.specs.Cases.{if◌then◌otherwise◌, split_if, clash}
 use Rattle.prelude.specs.declared.Text.{Text}
 use Rattle.wide.specs.Words.{upper_word}
 use Rattle.wide.specs.Price.{price_fits, source_range}
@@ -35,7 +30,7 @@ use Rattle.machine.specs.declared.Change.{Change}
 use Rattle.machine.proofs.Made.{calm, says, stuck_behind, left, Failure, told_us, not_sent, From, by_report, by_reject, by_failure, Refuses, still, gone, given_up_lem, told, Fails, unfailed, refused, freed, fell, ended, new_again, cancel_again, replace_again, failing, Left, fails, resends, alarms, names, applies, informs, quietly, retries, stays, refusing!, resumes, declined, waits, goes, Own, of_cancel, of_replace, status_told, refusal_told, repeated, turned, unpriced, cancel_sent, replace_sent}
 use Rattle.machine.proofs.Stepped.{MadeBy, AskedBy, AmendedBy}
 use Rattle.machine.proofs.Claim.Walk.{none_taken, none_refused}
-use Rattle.machine.proofs.Kept.Laws.{both, TextKept, text_kept, kept_text}
+use Rattle.machine.proofs.Kept.Laws.{TextKept, text_kept, kept_text}
 use Rattle.machine.proofs.Kept.Local.{TermsKept, terms_kept, kept_terms}
 use Rattle.machine.proofs.Kept.Keep.{priced_range_lem, freed_coded}
 use Rattle.machine.proofs.Kept.Steps.{replace_client}
@@ -116,7 +111,7 @@ no_noted = record { text = no_long_text_lem; fixedtext = omega arith; reason = o
 -- what the event says, with no fixed text
 module _ (e : Event) (h : Right e) where
   said_noted : (reason origin : ℕ) → reason < 2 ^ 32 → origin ≤ 2 → (origin ≡ 0 → reason ≡ 0) → Noted (record { text = e.text; fixedtext = 0; reason = reason; origin = origin })
-  said_noted reason origin r o u = record { text = h.text; fixedtext = omega arith; reason = r; origin = o; unsaid = u; one = both_false (not (eqb e.text.len 0)) }
+  said_noted reason origin r o u = record { text = h.text; fixedtext = omega arith; reason = r; origin = o; unsaid = u; one = and-false (not (eqb e.text.len 0)) }
 
   venue_noted : Noted (venue_note e)
   unfolding venue_note
@@ -159,16 +154,12 @@ refused_note_lem n k =
         reason = split_if (λ (m : ℕ). m < 2 ^ 32) _ (λ e. omega arith) (λ e. k.reason);
         origin = split_if (λ (m : ℕ). m ≤ 2) _ (λ e. omega arith) (λ e. k.origin);
         unsaid = split_if (λ (m : ℕ). m ≡ 0 → (if eqb n.origin 0 then other otherwise n.reason) ≡ 0) (eqb n.origin 0) (λ e z. absurd (omega arith)) (λ e z. absurd (eqb-false n.origin 0 e z));
-        one = ap (λ (b : Bool). b && not (eqb t 0)) alone ∙ apart (not (eqb t 0));
+        one = ap (λ (b : Bool). b && not (eqb t 0)) alone ∙ not-and_self (not (eqb t 0));
       };
       one = alone;
       reason = split_if (λ (m : ℕ). not (eqb m 0) ≡ true) (eqb n.origin 0) (λ e. refl) (λ e. ap not e);
     }
   where
-    apart : (b : Bool) → not b && b ≡ false
-    apart true = refl
-    apart false = refl
-
     exactly : (x y : Bool) → eqb n.fixedtext 0 ≡ y → not x && not y ≡ false → not x ≡ not (not (eqb (if x && y then text_rejected otherwise n.fixedtext) 0))
     exactly true true e o = unfold if◌then◌otherwise◌ in refl
     exactly true false e o = unfold if◌then◌otherwise◌ in rw e refl
@@ -196,7 +187,7 @@ unfolding is_first is_gateway
 client_kind q h f g =
     let a : (q.kind ≡ 0 → ⊥) = eqb-false q.kind 0 f in
     let c : (q.kind ≡ 3 → ⊥) = eqb-false q.kind 3 g in
-    both (le-leb 1 q.kind (omega arith)) (le-leb q.kind 2 (omega arith))
+    and_from _ _ (le-leb 1 q.kind (omega arith)) (le-leb q.kind 2 (omega arith))
 
 -- ---- a report
 
@@ -221,8 +212,8 @@ price_source o e = (source_range _ _ _ _ _ _ _).1
 answers_client : (k : ℕ) (q : Request) (o : Order) → answers_request k q o ≡ true → (is_first q ≡ false) × (is_gateway q ≡ false)
 unfolding answers_request is_cancel
 answers_client k q o e =
-    let (g, c) = both_true (not (is_gateway q)) _ e in (
-      ⊎_elim (λ z. not-true (is_first q) (both_true (not (is_first q)) (not (is_replace q)) z).0) (λ z. apart (both_true (is_replace q) (pending_here k o) z).0) (either_true (not (is_first q) && not (is_replace q)) _ c),
+    let (g, c) = and_parts (not (is_gateway q)) _ e in (
+      ⊎_elim (λ z. not-true (is_first q) (and_parts (not (is_first q)) (not (is_replace q)) z).0) (λ z. apart (and_parts (is_replace q) (pending_here k o) z).0) (or_cases (not (is_first q) && not (is_replace q)) _ c),
       not-true (is_gateway q) g,
     )
   where
@@ -236,7 +227,7 @@ module _ (o : Order) (t : Tellable o) (k : ℕ) (q : Request) (a : Asks q) (some
 
   pending_there : accepts k q o e ≡ true → eqb o.pending.request k ≡ true
   unfolding accepts pending_here
-  pending_there z = (both_true (eqb o.pending.request k) (not (is_rejection e)) (both_true (eqb o.pending.request k && not (is_rejection e)) _ z).0).0
+  pending_there z = (and_parts (eqb o.pending.request k) (not (is_rejection e)) (and_parts (eqb o.pending.request k && not (is_rejection e)) _ z).0).0
 
   status_listed : (s : ℕ) → s ≡ status_taken k q o e → is_status (if eqb s 0 then o.state.status otherwise s) ≡ true
   status_listed s taken = split_if (λ (x : ℕ). is_status x ≡ true) (eqb s 0) (λ z. t.state.status) (λ z. listed z)
@@ -351,7 +342,7 @@ record Turns (r : Reject) : Type 0 where
 -- one of known numbers, or else the next
 or_known : (t : Bool) (r : Reject) {s : Reject} → leb r.reason 99 && leb r.fixedtext 18 ≡ true → Turns s → Turns (if t then r otherwise s)
 or_known t r e k =
-    let (a, c) = both_true (leb r.reason 99) (leb r.fixedtext 18) e in
+    let (a, c) = and_parts (leb r.reason 99) (leb r.fixedtext 18) e in
     split_if Turns t (λ z. record { reason = omega (arith, leb-true r.reason 99 a); fixedtext = leb-true r.fixedtext 18 c }) (λ z. k)
 
 no_refusal : Turns passes
@@ -437,7 +428,7 @@ module _ (f : Findings) (order : ℕ) (full : Bool) (o : Order) (e : Event) (h :
         listed : is_ordtype (or_own e.terms.ordtype o.terms.ordtype) ≡ true
         listed = unfold or_own in
             split_if (λ (n : ℕ). is_ordtype n ≡ true) _
-            (λ z. unfold priced_range in (both_true (is_ordtype o.terms.ordtype) (is_price o.terms.price) (both_true (is_ordtype o.terms.ordtype && is_price o.terms.price) _ own.priced).0).0)
+            (λ z. unfold priced_range in (and_parts (is_ordtype o.terms.ordtype) (is_price o.terms.price) (and_parts (is_ordtype o.terms.ordtype && is_price o.terms.price) _ own.priced).0).0)
             (λ z. ranged.ordtype z)
 
         terms : terms_range (new_terms o e) ≡ true

@@ -1,14 +1,9 @@
 -- The presence maps of the machine's messages: which bits stand, by the tests that set them, and that each map is right for its kind. Rests on Messages and format.
 -- A map is a sum of powers of two, some of them behind tests. The tests are taken as variables, so that each of their combinations is a number to compute with.
-use Prim.Native.Nat.{ℕ, ◌+◌, ◌^◌, ◌<◌}
-use mathlib.Core.Path.{◌≡◌, refl}
-use mathlib.Core.Bool.{Bool, true, false, not, ◌&&◌, ◌||◌}
-use mathlib.Core.List.{List, [], ◌∷◌}
-use lib.Dec.{ltb}
-use lib.ListN.{get_or}
-use borrow.Author.Tests.{ltb-true}
+use Rattle.std.proofs.Common.{ℕ, ◌+◌, ◌^◌, ◌<◌, ◌≡◌, refl, Bool, true, false, not, ◌&&◌, ◌||◌, List, [], ◌∷◌, ltb, get_or, ltb-true}
+use Rattle.std.proofs.lemmas.Bool.{and_parts}
 use Rattle.prelude.specs.Below.{all_below, all_elim}
-use Rattle.prelude.specs.Cases.{if◌then◌otherwise◌, clash, both_true}
+use Rattle.prelude.specs.Cases.{if◌then◌otherwise◌, clash}
 use Rattle.prelude.specs.Number.{bound}
 use Rattle.format.specs.Format.{is_kind, required_bits, allowed_bits, required, allowed, joined, bits_right}
 use Rattle.machine.specs.Messages.{bit_if}
@@ -40,8 +35,8 @@ fits kind map l = bits_right kind map && (ltb map (bound 4) && all_below (λ k. 
 
 mapped : (kind map : ℕ) (l : List Bool) → fits kind map l ≡ true → Mapped kind map l
 mapped kind map l e =
-    let (a, e) = both_true (bits_right kind map) _ e in
-    let (c, d) = both_true (ltb map (bound 4)) _ e in
+    let (a, e) = and_parts (bits_right kind map) _ e in
+    let (c, d) = and_parts (ltb map (bound 4)) _ e in
     record { bits = a; small = ltb-true map (bound 4) c; stands = λ k h. alike_true (bit map k) (get_or l k false) (all_elim (λ k. alike (bit map k) (get_or l k false)) 32 d k h) }
 
 -- ---- a report: an OrigClOrdID, a price, a time in force, a text, a fixed text, a reason

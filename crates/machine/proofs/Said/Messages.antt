@@ -1,15 +1,9 @@
 -- Each message of the machine is one that the writer writes and the reader reads back, if what it is made of is in range. Rests on Rows.
-use Prim.Native.Nat.{ℕ, ◌+◌, ◌-◌, ◌^◌, ◌≤◌, ◌<◌}
-use native.Mathlib.Omega.{arith}
-use mathlib.Core.Path.{◌≡◌, refl}
-use mathlib.Core.Bool.{Bool, true, false, not, ◌&&◌, ◌||◌}
-use mathlib.Core.List.{List}
-use lib.Dec.{eqb, leb, ltb}
-use lib.ListN.{length, get_or, replicate}
-use borrow.Author.Tests.{eqb-true, eqb-false, leb-true, le-leb, not-true, not-false}
+use Rattle.std.proofs.Common.{ℕ, ◌+◌, ◌-◌, ◌^◌, ◌≤◌, ◌<◌, arith, ◌≡◌, refl, Bool, true, false, not, ◌&&◌, ◌||◌, List, eqb, leb, ltb, length, get_or, replicate, eqb-true, leb-true, le-leb}
+use Rattle.std.proofs.lemmas.Bool.{eqb-false, not-true, not-false, and_parts, and_from}
 use Rattle.wide.specs.declared.Priced.{Priced}
 use Rattle.prelude.specs.Below.{all_below, all_elim}
-use Rattle.prelude.specs.Cases.{if◌then◌otherwise◌, clash, both_true, split_if}
+use Rattle.prelude.specs.Cases.{if◌then◌otherwise◌, clash, split_if}
 use Rattle.prelude.specs.Texts.{is_text}
 use Rattle.prelude.specs.declared.Text.{Text}
 use Rattle.prelude.specs.declared.Terms.{Terms}
@@ -25,7 +19,7 @@ use Rattle.machine.specs.Messages.{bit_if, no_long_text, terms_bits, note_bits, 
 use Rattle.machine.specs.Ranges.{text_within, name_range}
 use Rattle.machine.specs.Rules.{force_range, priced_range, terms_range}
 use Rattle.machine.specs.declared.Note.{Note}
-use Rattle.machine.proofs.Kept.Laws.{both, or_else, name_within}
+use Rattle.machine.proofs.Kept.Laws.{or_else, name_within}
 use Rattle.machine.proofs.Kept.Local.{TermsKept, terms_kept}
 use Rattle.machine.proofs.Said.Maps.{Mapped, report_bits, report_mapped, reject_bits, reject_mapped, venue_bits, new_mapped, cancel_mapped, replace_mapped}
 use Rattle.machine.proofs.Said.Rows.{Has, gone, there, maybe_there, Fine, fine_text, text_there, text_if, ◌&◌, end, written_message}
@@ -132,8 +126,8 @@ terms_rows : (t : Terms) → terms_range t ≡ true → TermsRows t
 unfolding priced_range force_range range fields size
 terms_rows t e =
     let k : TermsKept t = terms_kept t e in
-    let (a, c) = both_true (is_ordtype t.ordtype && is_price t.price) _ k.priced in
-    let (p, q) = both_true (is_ordtype t.ordtype) (is_price t.price) a in
+    let (a, c) = and_parts (is_ordtype t.ordtype && is_price t.price) _ k.priced in
+    let (p, q) = and_parts (is_ordtype t.ordtype) (is_price t.price) a in
     record {
       side = side_there t.side k.side;
       ordtype = type_there t.ordtype p;
@@ -156,7 +150,7 @@ unfolding range fields size in_range if◌then◌otherwise◌
 note_rows n k =
     let zero' : (v : ℕ) → not (eqb v 0) ≡ false → v ≡ 0 = λ v e. eqb-true v 0 (not-false (eqb v 0) e) in
     let some' : (v : ℕ) → not (eqb v 0) ≡ true → 1 ≤ v = λ v e. let z : (v ≡ 0 → ⊥) = eqb-false v 0 (not-true (eqb v 0) e) in omega arith in
-    let upto : (v most : ℕ) → not (eqb v 0) ≡ true → v ≤ most → within 1 most v ≡ true = λ v most e h. both (le-leb 1 v (some' v e)) (le-leb v most h) in
+    let upto : (v most : ℕ) → not (eqb v 0) ≡ true → v ≤ most → within 1 most v ≡ true = λ v most e h. and_from _ _ (le-leb 1 v (some' v e)) (le-leb v most h) in
     record {
       reason = maybe_there (not (eqb n.origin 0)) 19 n.reason (λ e. there 19 n.reason refl k.reason) (λ e. k.unsaid (zero' n.origin e));
       text = maybe_there (not (eqb n.text.len 0)) 20 n.text.len (λ e. there 20 n.text.len (upto n.text.len 64 e k.text.short) (omega (arith, k.text.short))) (zero' n.text.len);
@@ -170,13 +164,13 @@ named_text t n = fine_text 1 32 t (record { long = n.long; range = name_within t
 
 pub named_is : (t : Text) → Named t → is_name t ≡ true
 unfolding name_range
-named_is t n = (both_true (is_text t) (is_name t) n.range).1
+named_is t n = (and_parts (is_text t) (is_name t) n.range).1
 
 name_there : (t : Text) → is_name t ≡ true → Has true 2 t.len
 unfolding is_name range fields size in_range if◌then◌otherwise◌
 name_there t e =
-    let w : within 1 20 t.len ≡ true = (both_true (within 1 20 t.len) _ e).0 in
-    there 2 t.len w (let h : t.len ≤ 20 = leb-true t.len 20 (both_true (leb 1 t.len) (leb t.len 20) w).1 in omega arith)
+    let w : within 1 20 t.len ≡ true = (and_parts (within 1 20 t.len) _ e).0 in
+    there 2 t.len w (let h : t.len ≤ 20 = leb-true t.len 20 (and_parts (leb 1 t.len) (leb t.len 20) w).1 in omega arith)
 
 -- ---- the messages
 
@@ -270,7 +264,7 @@ reject_right client name status clordid origclordid responseto n b t i s c d w m
           & gone & gone & gone & gone & gone & gone
           & a.fixedtext
           & a.origin
-          & there 29 responseto w (let h : responseto ≤ 2 = leb-true responseto 2 (both_true (leb 1 responseto) (leb responseto 2) w).1 in omega arith)
+          & there 29 responseto w (let h : responseto ≤ 2 = leb-true responseto 2 (and_parts (leb 1 responseto) (leb responseto 2) w).1 in omega arith)
           & gone & gone
           & end;
       named = λ e. i (not-true (is_empty name) e);
@@ -338,7 +332,7 @@ module _ (o : Order) (k : Tellable o) (downstream : Text) (d : Fine 1 32 downstr
   amend_right kind high mapped =
       venue_right kind (2 ^ 30 + bit_if (not (is_empty o.names.venueorderid)) 18) o.names.venueorderid o.names.downstream (not (is_empty o.names.venueorderid)) true high mapped
       (fine_text 0 32 o.names.venueorderid k.names.venueorderid) (fine_text 1 32 o.names.downstream k.names.downstream)
-      (text_if 18 o.names.venueorderid refl (λ v e. (both_true (leb 1 v) (leb v 32) e).1) k.names.venueorderid)
+      (text_if 18 o.names.venueorderid refl (λ v e. (and_parts (leb 1 v) (leb v 32) e).1) k.names.venueorderid)
       (text_there 30 1 32 o.names.downstream refl (λ v e. e) k.names.downstream)
 
   pub replace_right : is_message (replace_request o downstream terms) ≡ true

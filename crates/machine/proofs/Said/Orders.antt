@@ -1,13 +1,7 @@
 -- The orders and requests that messages tell of: those of a book that keeps its rules and is whole are in range, and each step of an order keeps that. Rests on Messages.
-use Prim.Native.Nat.{ℕ, ◌+◌, ◌-◌, ◌^◌, ◌≤◌, ◌<◌}
-use native.Mathlib.Omega.{arith}
-use mathlib.Core.Path.{◌≡◌, refl, sym, ◌∙◌}
-use mathlib.Core.Bool.{Bool, true, false, ◌||◌}
-use mathlib.Core.List.{List}
-use lib.Dec.{eqb, leb}
-use lib.ListN.{length}
-use borrow.Author.Tests.{eqb-false, leb-true, le-leb, ltb-true}
-use Rattle.prelude.specs.Cases.{if_false, split_if, clash, both_true}
+use Rattle.std.proofs.Common.{ℕ, ◌+◌, ◌-◌, ◌^◌, ◌≤◌, ◌<◌, arith, ◌≡◌, refl, sym, ◌∙◌, Bool, true, false, ◌||◌, List, eqb, leb, length, leb-true, le-leb, ltb-true}
+use Rattle.std.proofs.lemmas.Bool.{eqb-false, and_parts}
+use Rattle.prelude.specs.Cases.{if_false, split_if, clash}
 use Rattle.prelude.specs.Texts.{is_text, contents}
 use Rattle.prelude.specs.declared.Text.{Text}
 use Rattle.format.specs.Codes.{is_status, is_qty, is_price}
@@ -199,5 +193,5 @@ next_fine o k =
     record {
       long = numbered_long name n;
       range = kept_text 1 32 (numbered_text name n)
-          (record { stored = numbered_is_text name n; above = omega arith; below = leb-true (numbered_text name n).len 32 (both_true (leb (numbered_text name n).len 32) _ (numbered_is_text name n)).0 });
+          (record { stored = numbered_is_text name n; above = omega arith; below = leb-true (numbered_text name n).len 32 (and_parts (leb (numbered_text name n).len 32) _ (numbered_is_text name n)).0 });
     }

@@ -1,15 +1,9 @@
 -- An event that the reader accepts is in its ranges, is whole, and has a kind from 1 to 9. Rests on records' Ranges.
 -- The ranges follow from the test of events alone: a bit that the kind must have stands, a field that stands is in its range, and one that does not is 0.
-use Prim.Native.Nat.{ℕ, suc, ◌+◌, ◌-◌, ◌/◌, ◌%◌, ◌^◌, ◌<◌}
-use native.Mathlib.Omega.{arith}
-use mathlib.Core.Path.{◌≡◌, refl, sym, ap, subst, ◌∙◌}
-use mathlib.Core.Logic.{⊎_elim}
-use mathlib.Core.Bool.{Bool, true, false}
-use mathlib.Core.List.{List, ◌++◌}
-use lib.Dec.{eqb, leb, lit<}
-use lib.ListN.{length, get_or, replicate}
-use borrow.Author.Tests.{eq-eqb, leb-true, le-leb}
-use Rattle.prelude.specs.Cases.{if◌then◌otherwise◌, if_true, split_if, clash, both_true, either_true}
+use Rattle.std.proofs.Common.{ℕ, suc, ◌+◌, ◌-◌, ◌/◌, ◌%◌, ◌^◌, ◌<◌, arith, ◌≡◌, refl, sym, ap, subst, ◌∙◌, ⊎_elim, Bool, true, false, List, ◌++◌, eqb, leb, lit<, length, get_or, replicate, eq-eqb, leb-true, le-leb}
+use Rattle.std.proofs.lemmas.Bool.{and_parts, or_cases, and_from, or_left, or_right}
+use Rattle.std.proofs.lemmas.Bool.Decides.{nat_tests}
+use Rattle.prelude.specs.Cases.{if◌then◌otherwise◌, if_true, split_if}
 use Rattle.prelude.specs.Number.{Bytes}
 use Rattle.prelude.specs.Texts.{text_of, WholeText}
 use Rattle.prelude.specs.Bytes.{bytes_span, bytes_drop, bytes_take, bytes_append, bytes_zeros}
@@ -27,7 +21,7 @@ use Rattle.machine.specs.Ranges.{text_within, name_range}
 use Rattle.machine.specs.Rules.{force_range}
 use Rattle.machine.specs.Events.{Booking, Amendment, Ranged}
 use Rattle.machine.specs.Reads.{EventRanged, EventWhole, EventKind}
-use Rattle.machine.proofs.Kept.Laws.{both, or_left, or_right, decide, kept_text}
+use Rattle.machine.proofs.Kept.Laws.{decide, kept_text}
 use Rattle.format.specs.Refusal.{name_in, ranged, refusal_by, event_refusal}
 use Rattle.records.specs.Laws.Right.{RightText, Right, right}
 use Rattle.records.specs.Laws.Ranges.{Ranges, ranges, stands, event_facts}
@@ -40,13 +34,12 @@ bit m k = eqb (m / 2 ^ k % 2) 1
 
 text_of_lem : (low high : ℕ) (t : Text) → RightText t → within low high t.len ≡ true → text_within low high t ≡ true
 text_of_lem low high t r w =
-    let (a, c) = both_true (leb low t.len) (leb t.len high) w in
+    let (a, c) = and_parts (leb low t.len) (leb t.len high) w in
     kept_text low high t (record { stored = r.stored; above = leb-true low t.len a; below = leb-true t.len high c })
 
 -- a code that may be absent
 coded : (test : ℕ → Bool) (there : Bool) (c : ℕ) → (there ≡ true → test c ≡ true) → (there ≡ false → c ≡ 0) → eqb c 0 ≡ false → test c ≡ true
-coded test true c f g z = f refl
-coded test false c f g z = clash (eqb c 0) (eq-eqb c 0 (g refl)) z
+coded test there c f g z = grind (arith, nat_tests)
 
 module _ (e : Event) (h : Right e) where
   -- a bit that kind k must have stands, and its field is in its range
@@ -59,7 +52,7 @@ module _ (e : Event) (h : Right e) where
   booked : e.kind ≡ 1 → Booking e
   unfolding required required_bits range fields in_range if◌then◌otherwise◌ name_range name_in
   booked z = record {
-    name = both h.name.stored (sym (if_true (has e 2) (is_name e.ids.name) true (must 1 2 z refl)) ∙ h.named);
+    name = and_from _ _ h.name.stored (sym (if_true (has e 2) (is_name e.ids.name) true (must 1 2 z refl)) ∙ h.named);
     clordid = text_of_lem 1 32 e.ids.clordid h.clordid (field 1 3 (lit< tt) z refl);
     symbol = text_of_lem 1 16 e.ids.symbol h.symbol (field 1 6 (lit< tt) z refl);
     side = field 1 7 (lit< tt) z refl;
@@ -81,8 +74,8 @@ module _ (e : Event) (h : Right e) where
         booking = booked;
         amendment = ⊎_elim (λ z. amends 2 z refl refl) (λ z. amends 3 z refl refl);
         ordtype = coded is_ordtype (has e 8) e.terms.ordtype r.ordtype (h.absent 8 (lit< tt));
-        timeinforce = decide (eqb e.terms.timeinforce 0) (λ z. or_left _ z)
-            (λ z. or_right (eqb e.terms.timeinforce 0) (coded is_timeinforce (has e 11) e.terms.timeinforce r.timeinforce (h.absent 11 (lit< tt)) z));
+        timeinforce = decide (eqb e.terms.timeinforce 0) (λ z. or_left _ _ z)
+            (λ z. or_right (eqb e.terms.timeinforce 0) _ (coded is_timeinforce (has e 11) e.terms.timeinforce r.timeinforce (h.absent 11 (lit< tt)) z));
         qty = le-leb e.terms.qty (10 ^ 12) r.qty;
         price = le-leb e.terms.price (10 ^ 14) r.price;
         unpriced = h.absent 10 (lit< tt);
@@ -144,7 +137,7 @@ event_whole s w ok =
 -- what the test of events says
 pub event_right_facts : (e : Event) → is_event e ≡ true → Right e
 unfolding is_event
-event_right_facts e ok = right e (both_true (is_record e) (leb e.kind 9) ok).0
+event_right_facts e ok = right e (and_parts (is_record e) (leb e.kind 9) ok).0
 
 -- ---- kinds
 
@@ -156,14 +149,14 @@ accepted false y e = absurd (omega arith)
 kind_above : (k : ℕ) → is_kind k ≡ true → 0 < k
 unfolding is_kind
 kind_above k e =
-    ⊎_elim (λ z. leb-true 1 k (both_true (leb 1 k) (leb k 9) z).0) (λ z. omega (arith, leb-true 16 k (both_true (leb 16 k) (leb k 20) z).0))
-    (either_true (within 1 9 k) (within 16 20 k) e)
+    ⊎_elim (λ z. leb-true 1 k (and_parts (leb 1 k) (leb k 9) z).0) (λ z. omega (arith, leb-true 16 k (and_parts (leb 16 k) (leb k 20) z).0))
+    (or_cases (within 1 9 k) (within 16 20 k) e)
 
 pub event_kind : EventKind
 unfolding event_refusal record_at shaped bits_right
 event_kind s ok =
     let k : ℕ = kind_at s 0 in
-    let (shape, e) = both_true (shaped s 0) _ (accepted _ (ranged s 0) ok) in
-    let (bits, whole) = both_true (bits_right k (map_at s 0)) _ (both_true (leb (0 + 5) (length s)) _ shape).1 in
+    let (shape, e) = and_parts (shaped s 0) _ (accepted _ (ranged s 0) ok) in
+    let (bits, whole) = and_parts (bits_right k (map_at s 0)) _ (and_parts (leb (0 + 5) (length s)) _ shape).1 in
     let is : (event_in s).kind ≡ k = ap (λ (r : Record). r.kind) (read_at s ok) in
-    (rw is (kind_above k (both_true (is_kind k) _ bits).0), rw is (leb-true k 9 (both_true (leb k 9) _ e).0))
+    (rw is (kind_above k (and_parts (is_kind k) _ bits).0), rw is (leb-true k 9 (and_parts (leb k 9) _ e).0))

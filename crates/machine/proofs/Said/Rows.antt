@@ -1,13 +1,7 @@
 -- A record by its fields, one row for each bit: where the rows are right and the map is theirs, the record is one that is written. Rests on Maps and records' Ranges.
-use Prim.Native.Nat.{ℕ, zero, suc, ◌+◌, ◌≤◌, ◌<◌, min}
-use native.Mathlib.Omega.{arith}
-use mathlib.Core.Path.{◌≡◌, refl, sym, subst, ◌∙◌}
-use mathlib.Core.Bool.{Bool, true, false, not}
-use mathlib.Core.List.{List, [], ◌∷◌}
-use lib.Dec.{leb, lit<}
-use lib.ListN.{length, get_or}
-use borrow.Author.Tests.{eqb-true, eqb-false, leb-true, le-leb, not-true, not-false}
-use Rattle.prelude.specs.Cases.{clash, both_true, split_if}
+use Rattle.std.proofs.Common.{ℕ, zero, suc, ◌+◌, ◌≤◌, ◌<◌, min, arith, ◌≡◌, refl, sym, subst, ◌∙◌, Bool, true, false, not, List, [], ◌∷◌, leb, lit<, length, get_or, eqb-true, leb-true, le-leb}
+use Rattle.std.proofs.lemmas.Bool.{eqb-false, not-true, not-false, and_parts, and_from}
+use Rattle.prelude.specs.Cases.{clash, split_if}
 use Rattle.prelude.specs.Number.{bound}
 use Rattle.prelude.specs.Texts.{is_text}
 use Rattle.prelude.specs.declared.Text.{Text}
@@ -21,7 +15,7 @@ use Rattle.records.specs.Laws.Right.{RightText, RightLong}
 use Rattle.records.specs.Laws.Ranges.{test}
 use Rattle.machine.specs.Orders.{is_empty}
 use Rattle.machine.specs.Ranges.{text_within}
-use Rattle.machine.proofs.Kept.Laws.{both, TextKept, text_kept}
+use Rattle.machine.proofs.Kept.Laws.{TextKept, text_kept}
 use Rattle.machine.proofs.Said.Reads.{bit}
 use Rattle.machine.proofs.Said.Maps.{Mapped}
 
@@ -53,13 +47,13 @@ pub fine_text : (low high : ℕ) (t : Text) → Fine low high t → RightText t
 unfolding is_text
 fine_text low high t f =
     let k : TextKept low high t = text_kept low high t f.range in
-    record { long = f.long; short = leb-true t.len 32 (both_true (leb t.len 32) _ k.stored).0; stored = k.stored }
+    record { long = f.long; short = leb-true t.len 32 (and_parts (leb t.len 32) _ k.stored).0; stored = k.stored }
 
 -- a text that must be there
 pub text_there : (b low high : ℕ) (t : Text) → size b ≡ 255 → ((v : ℕ) → within low high v ≡ true → in_range (range b) v ≡ true) → Fine low high t → Has true b t.len
 text_there b low high t z r f =
     let k : TextKept low high t = text_kept low high t f.range in
-    there b t.len (r t.len (both (le-leb low t.len k.above) (le-leb t.len high k.below)))
+    there b t.len (r t.len (and_from _ _ (le-leb low t.len k.above) (le-leb t.len high k.below)))
     (rw z (let s : t.len ≤ 32 = (fine_text low high t f).short in omega arith))
 
 -- one that is there unless it is empty
@@ -68,7 +62,7 @@ text_if b t z r f =
     maybe_there (not (is_empty t)) b t.len
     (λ e. let k : TextKept 0 32 t = text_kept 0 32 t f.range in
     let n : (t.len ≡ 0 → ⊥) = eqb-false t.len 0 (not-true (is_empty t) e) in
-    there b t.len (r t.len (both (le-leb 1 t.len (omega arith)) (le-leb t.len 32 k.below))) (rw z (omega (arith, k.below))))
+    there b t.len (r t.len (and_from _ _ (le-leb 1 t.len (omega arith)) (le-leb t.len 32 k.below))) (rw z (omega (arith, k.below))))
     (λ e. eqb-true t.len 0 (not-false (is_empty t) e))
 
 -- ---- all of them
@@ -105,7 +99,7 @@ unfolding is_message name_in
 written_message r l k w =
     let stands : (b : ℕ) → b < 32 → bit r.map b ≡ get_or l b false = w.mapped.stands in
     let row : (b : ℕ) → Has (get_or l b false) b (get_or (numbers_of r) b 0) = λ b. row_at_lem w.rows b b (omega arith) in
-    both
+    and_from _ _
     (test r (record {
       bits = w.mapped.bits;
       map = w.mapped.small;

@@ -1,16 +1,9 @@
 -- Every message that an event puts out on a book that keeps its rules is right. Rests on Changes.
-use Prim.Native.Nat.{ℕ, ◌+◌, ◌-◌, ◌≤◌, ◌<◌}
-use native.Mathlib.Omega.{arith}
-use mathlib.Core.Path.{◌≡◌, refl, subst}
-use mathlib.Core.Bool.{true, false}
-use Rattle.std.specs.Prelude.{Some}
-use mathlib.Core.List.{List}
-use lib.Dec.{eqb}
-use lib.ListN.{length}
+use Rattle.std.proofs.Common.{ℕ, ◌+◌, ◌-◌, ◌≤◌, ◌<◌, arith, ◌≡◌, refl, subst, true, false, Some, List, eqb, length, eqb-true, ne_eqb}
+use Rattle.std.proofs.lemmas.Bool.{and_parts, and_from}
 use Rattle.prelude.specs.Span.{splice}
-use borrow.Author.Tests.{eqb-true, ne_eqb}
 use Rattle.prelude.specs.Below.{first_some}
-use Rattle.prelude.specs.Cases.{split_if, both_true}
+use Rattle.prelude.specs.Cases.{split_if}
 use Rattle.records.specs.Record.{is_message}
 use Rattle.records.specs.Answer.{answer_bytes, answer_alarm, answer_alarm2, chosen, are_messages}
 use Rattle.store.specs.declared.Order.{Order}
@@ -25,7 +18,6 @@ use Rattle.machine.specs.Whole.{WholeBook}
 use Rattle.machine.specs.History.{messages_of}
 use Rattle.machine.specs.Said.{MessagesRight, MessagesFew, AnswerRead}
 use Rattle.machine.specs.declared.Change.{Change}
-use Rattle.machine.proofs.Kept.Laws.{both}
 use Rattle.machine.proofs.Kept.Tables.{at}
 use Rattle.machine.proofs.Kept.Local.{pending_parts}
 use Rattle.machine.proofs.Kept.Lift.{BookKept, book_kept}
@@ -47,7 +39,7 @@ chosen_right : (count : ℕ) (first second : Message) → (eqb count 0 ≡ false
     → are_messages (chosen count first second) ≡ true
 chosen_right count first second f g =
     split_if (λ (l : List Message). are_messages l ≡ true) (eqb count 0) (λ z. refl)
-    (λ z. split_if (λ (l : List Message). are_messages l ≡ true) (eqb count 1) (λ y. both (f z) refl) (λ y. both (f z) (both (g z y) refl)))
+    (λ z. split_if (λ (l : List Message). are_messages l ≡ true) (eqb count 1) (λ y. and_from _ _ (f z) refl) (λ y. and_from _ _ (f z) (and_from _ _ (g z y) refl)))
 
 said : (c : Change) → Says c → are_messages (messages_of c) ≡ true
 unfolding messages_of
@@ -74,7 +66,7 @@ module _ (b : Book) (e : Event) (good : BookKept b) (whole : WholeBook b) (h : R
       let is : o.pending.request ≡ j + 1 = eqb-true o.pending.request (j + 1) z in
       let t : pending_test (at b.requests (o.pending.request - 1)) ≡ true =
       (pending_parts i o b.requests (ne_eqb o.pending.request 0 (λ y. omega arith)) (good.order i (good.request j l).order)).link.passes in
-      (both_true (is_replace (request_in b j)) _ (subst (λ (n : ℕ). pending_test (at b.requests n) ≡ true) (omega arith) t)).0
+      (and_parts (is_replace (request_in b j)) _ (subst (λ (n : ℕ). pending_test (at b.requests n) ≡ true) (omega arith) t)).0
 
   found_clordid : (j : ℕ) → find_clordid b e.client e.ids.origclordid ≡ Some j → j < length b.requests
   unfolding find_clordid

@@ -1,14 +1,7 @@
 -- The laws of every book and every event: the status that is set, alarm 6, and the source of a price. Rests on Handled, Quiet and Filled.
-use Prim.Native.Nat.{ℕ, ◌+◌, ◌≤◌, ◌<◌}
-use native.Mathlib.Omega.{arith}
-use mathlib.Core.Path.{◌≡◌, refl, sym, ap, ◌∙◌, subst}
-use mathlib.Core.Logic.{◌⊎◌, inl, inr}
-use mathlib.Core.Bool.{Bool, true, false, not}
-use Rattle.std.specs.Prelude.{Option, None, Some}
-use lib.Dec.{eqb}
-use lib.ListN.{length}
-use borrow.Author.Tests.{eqb-true, eqb-false, eq-eqb}
-use Rattle.prelude.specs.Cases.{if◌then◌otherwise◌, split_if, split_maybe, if_true, maybe_none, maybe_some, clash, true_or_false, same_some}
+use Rattle.std.proofs.Common.{ℕ, ◌+◌, ◌≤◌, ◌<◌, arith, ◌≡◌, refl, sym, ap, ◌∙◌, subst, ◌⊎◌, inl, inr, Bool, true, false, not, Option, None, Some, eqb, length, eqb-true, eq-eqb}
+use Rattle.std.proofs.lemmas.Bool.{eqb-false, cases_Bool}
+use Rattle.prelude.specs.Cases.{if◌then◌otherwise◌, split_if, split_maybe, if_true, maybe_none, maybe_some, clash, same_some}
 use Rattle.prelude.specs.Totals.{Every, every[], every∷}
 use Rattle.records.specs.Answer.{chosen}
 use Rattle.store.specs.declared.Order.{Order}
@@ -43,7 +36,7 @@ all_said c h =
 
 -- ---- the step is the change
 
-step_change : (b : Book) (e : Event) → (step_of b e).refusal ≡ 0 → step_of b e ≡ change_of b e
+pub step_change : (b : Book) (e : Event) → (step_of b e).refusal ≡ 0 → step_of b e ≡ change_of b e
 unfolding step_of refusing
 step_change b e =
     split_if (λ (c : Change). c.refusal ≡ 0 → c ≡ change_of b e) (not (eqb (change_of b e).refusal 0)) (λ t z. refl)
@@ -158,7 +151,7 @@ venue_six b e keeps z low high = go (find_downstream b e.ids.downstream) refl
         ∙ sym (maybe_some (find_downstream b e.ids.downstream) k _ _ w)
 
 by_kind_lem : {X : Type 0} (e : Event) → (4 ≤ e.kind → e.kind ≤ 6 → X) → (eqb e.kind 4 ≡ false → eqb e.kind 6 ≡ false → X) → X
-by_kind_lem {X} e venue other = go (true_or_false (eqb e.kind 4)) (true_or_false (eqb e.kind 6))
+by_kind_lem {X} e venue other = go (cases_Bool (eqb e.kind 4)) (cases_Bool (eqb e.kind 6))
   where
     go : (eqb e.kind 4 ≡ true) ⊎ (eqb e.kind 4 ≡ false) → (eqb e.kind 6 ≡ true) ⊎ (eqb e.kind 6 ≡ false) → X
     go (inl y) x = let v : e.kind ≡ 4 = eqb-true e.kind 4 y in venue (omega arith) (omega arith)

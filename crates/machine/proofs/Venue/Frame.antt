@@ -1,9 +1,6 @@
 -- What holds of a change's messages, of its alarm and of its order, as it is put together. Rests on Amend.
-use Prim.Native.Nat.{ℕ}
-use mathlib.Core.Path.{◌≡◌, refl}
-use mathlib.Core.Bool.{Bool, true, false, not}
-use lib.Dec.{eqb}
-use borrow.Author.Tests.{not-true, not-false}
+use Rattle.std.proofs.Common.{ℕ, ◌≡◌, refl, Bool, true, false, not, eqb}
+use Rattle.std.proofs.lemmas.Bool.{not-true, not-false}
 use Rattle.prelude.specs.Cases.{if◌then◌otherwise◌, split_if, clash}
 use Rattle.store.specs.declared.Order.{Order}
 use Rattle.store.specs.declared.Request.{Request}

@@ -1,13 +1,8 @@
 -- What the handling of a venue's event does: the order that it leaves, alarm 6, and the source of the price that it tells. Rests on Frame and Sets.
-use Prim.Native.Nat.{ℕ, ◌-◌, max, ◌≤◌, ◌<◌}
-use native.Mathlib.Omega.{arith}
-use mathlib.Core.Path.{◌≡◌, refl, sym, ap, ◌∙◌}
-use mathlib.Core.Logic.{◌⊎◌, inl, inr}
-use mathlib.Core.Bool.{Bool, true, false, not, ◌&&◌, ◌||◌}
-use Rattle.std.specs.Prelude.{Some}
-use lib.Dec.{eqb, ltb}
-use borrow.Author.Tests.{ne_eqb, not-true, not-false, ltb-false}
-use Rattle.prelude.specs.Cases.{if◌then◌otherwise◌, split_if, if_true, if_false, clash, either_false, true_or_false}
+use Rattle.std.proofs.Common.{ℕ, ◌-◌, max, ◌≤◌, ◌<◌, arith, ◌≡◌, refl, sym, ap, ◌∙◌, ◌⊎◌, inl, inr, Bool, true, false, not, ◌&&◌, ◌||◌, Some, eqb, ltb, ne_eqb, ltb-false}
+use Rattle.std.proofs.Math.Nat.{max-eq_left}
+use Rattle.std.proofs.lemmas.Bool.{not-true, not-false, or_parts, cases_Bool}
+use Rattle.prelude.specs.Cases.{if◌then◌otherwise◌, split_if, if_true, if_false, clash}
 use Rattle.wide.specs.Price.{source_range}
 use Rattle.format.specs.Codes.{filled, rejected}
 use Rattle.store.specs.declared.Order.{Order}
@@ -33,40 +28,22 @@ use Rattle.machine.proofs.Venue.Sets.{Is, IsOwn, own_is, named_is, next_is, refu
 -- ---- a test that fails, among those of a status that is taken
 
 off_venue : (a v d x : Bool) → v ≡ false → a && ((v && d) && x) ≡ false
-off_venue true v d x h = rw h refl
-off_venue false v d x h = refl
+off_venue a v d x h = grind arith
 
 off_done : (a v d x : Bool) → d ≡ false → a && ((v && d) && x) ≡ false
-off_done true true d x h = rw h refl
-off_done true false d x h = refl
-off_done false v d x h = refl
+off_done a v d x h = grind arith
 
 off_third : (a h n x : Bool) → n ≡ false → a && (h && (n && x)) ≡ false
-off_third true true n x h = rw h refl
-off_third true false n x h = refl
-off_third false v n x h = refl
+off_third a h n x e = grind arith
 
 off_fourth : (a h n f x : Bool) → f ≡ false → a && (h && (n && (f && x))) ≡ false
-off_fourth true true true f x h = rw h refl
-off_fourth true true false f x h = refl
-off_fourth true false n f x h = refl
-off_fourth false v n f x h = refl
+off_fourth a h n f x e = grind arith
 
 off_last : (a h n x : Bool) → x ≡ false → a && (h && (n && x)) ≡ false
-off_last true true true x h = h
-off_last true true false x h = refl
-off_last true false n x h = refl
-off_last false v n x h = refl
+off_last a h n x e = grind arith
 
 off_fifth : (a h n f x : Bool) → x ≡ false → a && (h && (n && (f && x))) ≡ false
-off_fifth true true true true x h = h
-off_fifth true true true false x h = refl
-off_fifth true true false f x h = refl
-off_fifth true false n f x h = refl
-off_fifth false v n f x h = refl
-
-most : {m n : ℕ} → n ≤ m → max m n ≡ m
-most l = omega arith
+off_fifth a h n f x e = grind arith
 
 -- a venue's price has a source
 sourced : (o : Order) (e : Event) → 0 < (fill_price_of o e).source
@@ -173,7 +150,7 @@ module _ (b : Book) (k : ℕ) (q : Request) (o : Order) (e : Event) where
 
     gone : is_first q ≡ false → eqb o.venue e.venue ≡ true → is_answered q ≡ false → Six (refused_alarm r o) × L (refused_order k r o)
     unfolding refused_alarm takes_refusal
-    gone a v n = go (true_or_false (is_done o.state.status))
+    gone a v n = go (cases_Bool (is_done o.state.status))
       where
         go : (is_done o.state.status ≡ true) ⊎ (is_done o.state.status ≡ false) → Six (refused_alarm r o) × L (refused_order k r o)
         go (inl d) =
@@ -249,14 +226,14 @@ module _ (b : Book) (k : ℕ) (q : Request) (o : Order) (e : Event) where
       live : stale k q o e ≡ false → is_done o.state.status ≡ false
       unfolding stale
       live h =
-          (either_false (is_done o.state.status) (ltb e.exec.cumqty o.state.cumqty)
-          (either_false (is_done o.state.status || ltb e.exec.cumqty o.state.cumqty) _ h).0).0
+          (or_parts (is_done o.state.status) (ltb e.exec.cumqty o.state.cumqty)
+          (or_parts (is_done o.state.status || ltb e.exec.cumqty o.state.cumqty) _ h).0).0
 
       not_lower : stale k q o e ≡ false → o.state.cumqty ≤ e.exec.cumqty
       unfolding stale
       not_lower h =
-          ltb-false _ _ (either_false (is_done o.state.status) (ltb e.exec.cumqty o.state.cumqty)
-          (either_false (is_done o.state.status || ltb e.exec.cumqty o.state.cumqty) _ h).0).1
+          ltb-false _ _ (or_parts (is_done o.state.status) (ltb e.exec.cumqty o.state.cumqty)
+          (or_parts (is_done o.state.status || ltb e.exec.cumqty o.state.cumqty) _ h).0).1
 
       applied_is : Is (reported_to (qty_by k q o e) e.exec.cumqty o (status_taken k q o e)) (qty_by k q o e) e.exec.cumqty
           (reported_order (accepts k q o e) (status_taken k q o e) q o e)
@@ -299,7 +276,7 @@ module _ (b : Book) (k : ℕ) (q : Request) (o : Order) (e : Event) where
       module _ (s : stale k q o e ≡ false) where
         passes : ltb (qty_by k q o e) e.exec.cumqty ≡ ltb (ordered_qty (accepts k q o e) o) (max e.exec.cumqty o.state.cumqty)
         unfolding qty_by ordered_qty
-        passes = ap (ltb (if accepts k q o e then o.pending.qty otherwise o.terms.qty)) (sym (most (not_lower s)))
+        passes = ap (ltb (if accepts k q o e then o.pending.qty otherwise o.terms.qty)) (sym (max-eq_left (not_lower s)))
 
         over : ltb (ordered_qty (accepts k q o e) o) (max e.exec.cumqty o.state.cumqty) ≡ true → takes_report k q o e ≡ false
         unfolding takes_report
@@ -346,7 +323,7 @@ module _ (b : Book) (k : ℕ) (q : Request) (o : Order) (e : Event) where
 
     pub on_report_right : T (on_report e f k q o)
     unfolding on_report
-    on_report_right = split_if T (says_unknown_at_venue e) unknown_four (λ u. go u (true_or_false (is_rejection e && not (is_first q))))
+    on_report_right = split_if T (says_unknown_at_venue e) unknown_four (λ u. go u (cases_Bool (is_rejection e && not (is_first q))))
       where
         go : says_unknown_at_venue e ≡ false → (is_rejection e && not (is_first q) ≡ true) ⊎ (is_rejection e && not (is_first q) ≡ false) → T (venue_report f k q o e)
         go u (inl rj) = rejected_right u rj

@@ -1,10 +1,7 @@
 -- An event that is no venue's report and no refusal raises no alarm 6, and its reports have source 0 and no price. Rests on Frame.
-use Prim.Native.Nat.{ℕ}
-use mathlib.Core.Path.{◌≡◌, refl, sym, ap, ◌∙◌}
-use mathlib.Core.Bool.{Bool, true, false, ◌&&◌, ◌||◌}
-use lib.Dec.{eqb, ltb}
-use borrow.Author.Tests.{eqb-false}
-use Rattle.prelude.specs.Cases.{split_if, split_maybe, clash, both_true, either_false}
+use Rattle.std.proofs.Common.{ℕ, ◌≡◌, refl, sym, ap, ◌∙◌, Bool, true, false, ◌&&◌, ◌||◌, eqb, ltb, arith}
+use Rattle.std.proofs.lemmas.Bool.{eqb-false, and_parts}
+use Rattle.prelude.specs.Cases.{split_if, split_maybe, clash}
 use Rattle.prelude.specs.declared.Text.{Text}
 use Rattle.format.specs.Codes.{filled}
 use Rattle.store.specs.declared.Order.{Order}
@@ -53,10 +50,10 @@ own_alarm r o z =
     (λ d. split_if NotSix _ (λ s. clash _ (live s) (first_false _ _ _ _ d)) (λ s. refl))
   where
     first_false : (a b c d : Bool) → a || b || c || d ≡ false → a ≡ false
-    first_false a b c d h = (either_false a b (either_false (a || b) c (either_false (a || b || c) d h).0).0).0
+    first_false a b c d h = grind arith
 
     live : eqb r.status filled && ltb o.state.cumqty o.terms.qty ≡ true → eqb o.state.status filled ≡ true
-    live s = ap (λ (x : ℕ). eqb x filled) (sym z) ∙ (both_true _ _ s).0
+    live s = ap (λ (x : ℕ). eqb x filled) (sym z) ∙ (and_parts _ _ s).0
 
 module _ (b : Book) (e : Event) (no : eqb e.kind 4 ≡ false) where
   abbrev F : Change → Type 0

@@ -1,12 +1,8 @@
 -- The orders that a refusal and a report leave, by status, quantity and cumulative. Rests on Status, Amend and Report.
-use Prim.Native.Nat.{ℕ}
-use native.Mathlib.Omega.{arith}
-use mathlib.Core.Path.{◌≡◌, refl, sym, ap, ◌∙◌}
-use mathlib.Core.Logic.{◌⊎◌, inl, inr}
-use mathlib.Core.Bool.{Bool, true, false, not, ◌&&◌, ◌||◌}
-use lib.Dec.{eqb, ltb}
-use borrow.Author.Tests.{eqb-true, eqb-false, lt-ltb, le-ltb}
-use Rattle.prelude.specs.Cases.{if◌then◌otherwise◌, split_if, if_true, if_false, clash, true_or_false}
+use Rattle.std.proofs.Common.{ℕ, arith, ◌≡◌, refl, sym, ap, ◌∙◌, ◌⊎◌, inl, inr, Bool, true, false, not, ◌&&◌, ◌||◌, eqb, ltb}
+use Rattle.std.proofs.lemmas.Bool.{cases_Bool}
+use Rattle.std.proofs.lemmas.Bool.Decides.{nat_tests}
+use Rattle.prelude.specs.Cases.{if◌then◌otherwise◌, split_if, if_true, if_false, clash}
 use Rattle.prelude.specs.declared.Text.{Text}
 use Rattle.format.specs.Codes.{pending_new, new, partially_filled, filled}
 use Rattle.store.specs.declared.Order.{Order}
@@ -22,11 +18,7 @@ use Rattle.machine.specs.declared.Refused.{Refused}
 -- ---- a status set
 
 above : (n : ℕ) → ltb 0 n ≡ not (eqb n 0)
-above n = go (true_or_false (eqb n 0))
-  where
-    go : (eqb n 0 ≡ true) ⊎ (eqb n 0 ≡ false) → ltb 0 n ≡ not (eqb n 0)
-    go (inl z) = let y : n ≡ 0 = eqb-true n 0 z in le-ltb 0 n (omega arith) ∙ sym (ap not z)
-    go (inr z) = let y : (n ≡ 0 → ⊥) = eqb-false n 0 z in lt-ltb 0 n (omega arith) ∙ sym (ap not z)
+above n = grind (arith, nat_tests)
 
 turned : (t : Bool) → (if not t then partially_filled otherwise new) ≡ (if t then new otherwise partially_filled)
 unfolding if◌then◌otherwise◌
@@ -40,7 +32,7 @@ at_new cumqty = ap (λ (t : Bool). if t then partially_filled otherwise new) (ab
 -- the machine's two steps are the one of the papers
 as_set_lem : (qty cumqty s : ℕ) → status_at cumqty (unless_short qty cumqty s) ≡ as_set qty cumqty s
 unfolding status_at unless_short is_short as_set
-as_set_lem qty cumqty s = go (true_or_false (eqb s filled && ltb cumqty qty))
+as_set_lem qty cumqty s = go (cases_Bool (eqb s filled && ltb cumqty qty))
   where
     go : (eqb s filled && ltb cumqty qty ≡ true) ⊎ (eqb s filled && ltb cumqty qty ≡ false) → status_at cumqty (unless_short qty cumqty s) ≡ as_set qty cumqty s
     go (inl z) = ap (status_at cumqty) (if_true _ new s z) ∙ at_new cumqty ∙ sym (if_true _ _ _ z)
@@ -51,7 +43,7 @@ as_set_lem qty cumqty s = go (true_or_false (eqb s filled && ltb cumqty qty))
 
 -- no longer pending: New or PartiallyFilled, by the cumulative
 as_freed : (qty cumqty : ℕ) → as_set qty cumqty (if ltb 0 cumqty then partially_filled otherwise new) ≡ as_set qty cumqty new
-as_freed qty cumqty = go (true_or_false (eqb cumqty 0))
+as_freed qty cumqty = go (cases_Bool (eqb cumqty 0))
   where
     go : (eqb cumqty 0 ≡ true) ⊎ (eqb cumqty 0 ≡ false) → as_set qty cumqty (if ltb 0 cumqty then partially_filled otherwise new) ≡ as_set qty cumqty new
     go (inl z) = ap (as_set qty cumqty) (if_false _ _ _ (above cumqty ∙ ap not z))

@@ -1,9 +1,5 @@
 -- THE PROOF that the last part of a buffer, shorter than a place, is neither read nor written. Rests on Calls and Written.
-use Rattle.std.specs.Prelude.{ℕ, ◌+◌, ◌*◌, ◌≤◌, ◌<◌, ◌≡◌, ◌&&◌, length, Some}
-use Rattle.std.proofs.Math.Path.{sym, ap}
-use Rattle.std.proofs.Common.{◌∙◌, arith, length-append}
-use mathlib.Core.List.{List, ◌++◌, append_assoc}
-use Rattle.std.proofs.Math.ListN.{take, drop, length-drop}
+use Rattle.std.proofs.Common.{ℕ, ◌+◌, ◌*◌, ◌≤◌, ◌<◌, ◌≡◌, ◌&&◌, length, Some, sym, ap, ◌∙◌, arith, length-append, List, ◌++◌, append_assoc, take, drop, length-drop}
 use Rattle.std.proofs.Math.Seq.{take-append-le}
 use Rattle.std.proofs.lemmas.List.{drop-append-le}
 use Rattle.prelude.specs.Below.{all_below, first_below, first_ext}

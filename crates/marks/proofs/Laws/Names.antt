@@ -1,10 +1,9 @@
 -- THE PROOFS that 13 comes exactly if the name is malformed, by its length and its bytes. Rests on Calls and Written.
-use Rattle.std.specs.Prelude.{ℕ, zero, suc, ◌≤◌, ◌<◌, ◌≡◌, refl, Bool, true, false, ◌&&◌, ◌||◌, List, leb, length, get_or}
-use Rattle.std.proofs.Common.{sym, ap, inl, inr, arith, leb-true, le-leb}
-use Rattle.std.proofs.Math.Logic.{⊎_elim}
+use Rattle.std.proofs.Common.{ℕ, zero, suc, ◌≤◌, ◌<◌, ◌≡◌, refl, Bool, true, false, ◌&&◌, ◌||◌, List, leb, length, get_or, sym, ap, inl, inr, arith, leb-true, le-leb, ⊎_elim}
 use Rattle.std.proofs.Math.Decide.{dec_lt}
+use Rattle.std.proofs.lemmas.Bool.{and_parts, and_from, or_cases, or_parts, cases_Bool}
 use Rattle.prelude.specs.Below.{all_below}
-use Rattle.prelude.specs.Cases.{both_true, both_hold, either_true, either_false, true_or_false, clash}
+use Rattle.prelude.specs.Cases.{clash}
 use Rattle.format.specs.Codes.{within, is_alnum}
 use Rattle.opens.specs.Keeps.{keeps_of}
 use Rattle.marks.specs.Marks.{letter_at, is_mark_name, Marked, set_mark_of, return_of}
@@ -17,24 +16,24 @@ use Rattle.marks.proofs.Laws.Written.{letters, least}
 
 module _ (low high c : ℕ) where
   within_is : within low high c ≡ true → (low ≤ c) × (c ≤ high)
-  within_is e = let b = both_true (leb low c) (leb c high) e in (leb-true low c b.0, leb-true c high b.1)
+  within_is e = let b = and_parts (leb low c) (leb c high) e in (leb-true low c b.0, leb-true c high b.1)
 
   within_holds : (low ≤ c) × (c ≤ high) → within low high c ≡ true
-  within_holds p = both_hold (leb low c) (leb c high) (le-leb low c p.0) (le-leb c high p.1)
+  within_holds p = and_from (leb low c) (leb c high) (le-leb low c p.0) (le-leb c high p.1)
 
 alnum : (c : ℕ) → is_alnum c ≡ true → Alnum c
 unfolding is_alnum
 alnum c e =
     ⊎_elim
     (λ p. inl (within_is 48 57 c p))
-    (λ p. inr (⊎_elim (λ q. inl (within_is 65 90 c q)) (λ q. inr (within_is 97 122 c q)) (either_true (within 65 90 c) (within 97 122 c) p)))
-    (either_true (within 48 57 c) (within 65 90 c || within 97 122 c) e)
+    (λ p. inr (⊎_elim (λ q. inl (within_is 65 90 c q)) (λ q. inr (within_is 97 122 c q)) (or_cases (within 65 90 c) (within 97 122 c) p)))
+    (or_cases (within 48 57 c) (within 65 90 c || within 97 122 c) e)
 
 not_alnum : (c : ℕ) → is_alnum c ≡ false → Alnum c → ⊥
 unfolding is_alnum
 not_alnum c e =
-    let a = either_false (within 48 57 c) (within 65 90 c || within 97 122 c) e in
-    let b = either_false (within 65 90 c) (within 97 122 c) a.1 in
+    let a = or_parts (within 48 57 c) (within 65 90 c || within 97 122 c) e in
+    let b = or_parts (within 65 90 c) (within 97 122 c) a.1 in
     ⊎_elim
     (λ p. clash (within 48 57 c) (within_holds 48 57 c p) a.0)
     (⊎_elim (λ p. clash (within 65 90 c) (within_holds 65 90 c p) b.0) (λ p. clash (within 97 122 c) (within_holds 97 122 c p) b.1))
@@ -53,11 +52,11 @@ missed p (suc n) e =
     ⊎_elim
     (λ h.
     ⊎_elim
-    (λ a. clash (all_below p n && p n) (both_hold (all_below p n) (p n) a h) e)
+    (λ a. clash (all_below p n && p n) (and_from (all_below p n) (p n) a h) e)
     (λ a. let m = missed p n a in record { at = m.at; below = omega (arith, m.below); fails = m.fails })
-    (true_or_false (all_below p n)))
+    (cases_Bool (all_below p n)))
     (λ h. record { at = n; below = omega arith; fails = h })
-    (true_or_false (p n))
+    (cases_Bool (p n))
 
 -- ---- a name that is none
 
@@ -66,9 +65,9 @@ module _ (name : List ℕ) where
   unfolding is_mark_name
   no_letters l h e =
       ⊎_elim
-      (λ a. clash (is_mark_name name) (both_hold _ _ (within_holds 1 16 (length name) (l, h)) a) e)
+      (λ a. clash (is_mark_name name) (and_from _ _ (within_holds 1 16 (length name) (l, h)) a) e)
       (λ a. a)
-      (true_or_false (all_below (letter_at name) (length name)))
+      (cases_Bool (all_below (letter_at name) (length name)))
 
   malformed : is_mark_name name ≡ false → Malformed name
   malformed e = go (dec_lt 0 (length name)) (dec_lt 16 (length name))
@@ -81,7 +80,7 @@ module _ (name : List ℕ) where
           inr (inr (record { at = m.at; inside = m.below; odd = not_alnum (get_or name m.at 0) m.fails }))
 
   refused : Malformed name → is_mark_name name ≡ false
-  refused m = ⊎_elim (λ e. absurd (wrong e m)) (λ e. e) (true_or_false (is_mark_name name))
+  refused m = ⊎_elim (λ e. absurd (wrong e m)) (λ e. e) (cases_Bool (is_mark_name name))
     where
       wrong : is_mark_name name ≡ true → Malformed name → ⊥
       wrong e =

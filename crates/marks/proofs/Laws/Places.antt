@@ -1,17 +1,12 @@
 -- What stands in a buffer of places: their lengths, names as bytes, and where a set and a return go. Rests on Marks.
-use Rattle.std.specs.Prelude.{ℕ, ◌+◌, ◌≤◌, ◌<◌, ◌≡◌, Bool, true, ◌&&◌, leb, length, Option, None, Some}
-use Rattle.std.proofs.Math.Path.{refl, sym, ap}
-use Rattle.std.proofs.Common.{◌∙◌, arith, length-append, length-take}
-use mathlib.Core.List.{List}
-use borrow.Author.Tests.{eq-eqb, eqb-true, leb-true}
-use Rattle.std.proofs.Math.Dec.{eqb}
-use Rattle.std.proofs.Math.ListN.{get_or}
-use Rattle.std.proofs.lemmas.List.{length-replicate}
-use Rattle.std.proofs.Math.Seq.{ext_get_or}
+use Rattle.std.proofs.Common.{ℕ, ◌+◌, ◌≤◌, ◌<◌, ◌≡◌, Bool, true, false, ◌&&◌, leb, length, Option, None, Some, refl, sym, ap, ◌∙◌, arith, length-append, length-take, List, eq-eqb, ne_eqb, eqb-true, leb-true, le-leb, eqb, get_or, ext_get_or}
+use Rattle.std.proofs.lemmas.Bool.{lt-leb, eqb-false, and_parts}
 use lib.Pointwise.{pointwise, bytes_decides}
-use Rattle.prelude.specs.Below.{all_below, first_below, all_elim, all_intro, First, first_some}
-use Rattle.prelude.specs.Cases.{maybe, maybe_none, maybe_some, both_true, test_same}
-use Rattle.prelude.specs.Span.{length_span}
+use Rattle.std.proofs.lemmas.List.{length-replicate}
+use Rattle.std.specs.Cmp.{both_ways}
+use Rattle.prelude.specs.Below.{all_below, first_below, all_elim, all_intro, all_miss, First, first_some}
+use Rattle.prelude.specs.Cases.{maybe, maybe_none, maybe_some}
+use Rattle.prelude.specs.Span.{length_span, get_span}
 use Rattle.prelude.specs.Texts.{agree_at}
 use Rattle.store.specs.Layout.{book_size}
 use Rattle.opens.specs.Keeps.{keeps_of}
@@ -22,11 +17,14 @@ use Rattle.marks.specs.Marks.{name_size, place_size, place, place_count, name_at
 pub name_short : (name : List ℕ) → is_mark_name name ≡ true → length name ≤ 16
 unfolding is_mark_name
 name_short name e =
-    leb-true (length name) 16 (both_true (leb 1 (length name)) (leb (length name) 16) (both_true _ (all_below (letter_at name) (length name)) e).0).1
+    leb-true (length name) 16 (and_parts (leb 1 (length name)) (leb (length name) 16) (and_parts _ (all_below (letter_at name) (length name)) e).0).1
 
 pub length_name : (name : List ℕ) → length (name_bytes name) ≡ name_size
 unfolding name_bytes
 length_name name = simp (length-take, length-append, length-replicate) (omega arith)
+
+-- for the tactic of the function that asks for it
+pub ruleset sizes = (eqb-true, eqb-false, le-leb, lt-leb)
 
 module _ (places : List ℕ) (i : ℕ) (h : i < place_count places) where
   pub place_within : place i + place_size ≤ length places
@@ -43,6 +41,18 @@ module _ (places : List ℕ) (i : ℕ) (h : i < place_count places) where
 -- ---- names
 
 module _ (places bytes : List ℕ) (i : ℕ) where
+  agree_is : (k : ℕ) → k < name_size → agree_at (name_at places i) bytes k ≡ eqb (get_or places (place i + k) 0) (get_or bytes k 0)
+  unfolding name_at
+  agree_is k l = ap (λ (x : ℕ). eqb x (get_or bytes k 0)) (get_span places (place i) name_size k l)
+
+  -- byte by byte
+  pub agrees : (k : ℕ) → k < name_size → get_or places (place i + k) 0 ≡ get_or bytes k 0 → agree_at (name_at places i) bytes k ≡ true
+  agrees k l e = agree_is k l ∙ eq-eqb _ _ e
+
+  pub differs : (k : ℕ) → k < name_size → (get_or places (place i + k) 0 ≡ get_or bytes k 0 → ⊥) → has_name places bytes i ≡ false
+  unfolding has_name
+  differs k l e = all_miss (agree_at (name_at places i) bytes) name_size k l (agree_is k l ∙ ne_eqb _ _ e)
+
   -- what the comparison says
   pub has_name_lem : i < place_count places → length bytes ≡ name_size → has_name places bytes i ≡ true → name_at places i ≡ bytes
   unfolding has_name
@@ -57,7 +67,7 @@ module _ (places bytes : List ℕ) (i : ℕ) where
   -- as the code compares them
   pub name_same : i < place_count places → length bytes ≡ name_size → pointwise eqb (name_at places i) bytes ≡ has_name places bytes i
   name_same h l =
-      test_same (pointwise eqb (name_at places i) bytes) (has_name places bytes i)
+      both_ways (pointwise eqb (name_at places i) bytes) (has_name places bytes i)
       (λ e. name_has ((bytes_decides (name_at places i) bytes).0 e)) (λ e. (bytes_decides (name_at places i) bytes).1 (has_name_lem h l e))
 
 -- ---- where a set goes
@@ -99,9 +109,12 @@ module _ (places name : List ℕ) where
   unfolding return_place
   return_first i e = first_some _ _ i e
 
+  pub return_below : (i : ℕ) → return_place places name ≡ Some i → i < place_count places
+  return_below i e = (return_first i e).below
+
   pub return_kept : (i : ℕ) → return_place places name ≡ Some i → keeps_of (image_at places i) ≡ true
   unfolding is_mark
-  return_kept i e = (both_true (is_of places name i) (keeps_of (image_at places i)) (return_first i e).passes).1
+  return_kept i e = (and_parts (is_of places name i) (keeps_of (image_at places i)) (return_first i e).passes).1
 
 -- as the code asks for it
 pub mark_is : (places name bytes : List ℕ) (i : ℕ) → bytes ≡ name_bytes name

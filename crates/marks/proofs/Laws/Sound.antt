@@ -1,12 +1,8 @@
 -- THE PROOFS that the calls do what Promise says of the places' own bytes. Rests on Calls and Written.
-use Rattle.std.specs.Prelude.{ℕ, ◌+◌, ◌<◌, ◌≡◌, refl, Bool, true, false, length, None, Some}
-use Rattle.std.proofs.Math.Path.{sym, ap, subst}
-use Rattle.std.proofs.Common.{◌∙◌, arith}
-use mathlib.Core.List.{List}
-use Rattle.std.proofs.Math.ListN.{get_or}
+use Rattle.std.proofs.Common.{ℕ, ◌+◌, ◌<◌, ◌≡◌, refl, Bool, true, false, length, None, Some, sym, ap, subst, ◌∙◌, arith, List, get_or}
+use Rattle.std.proofs.lemmas.Bool.{and_from, and_parts}
 use Rattle.prelude.specs.Below.{first_below, first_none, first_hit, first_past}
 use Rattle.prelude.specs.Bytes.{zeros}
-use Rattle.prelude.specs.Cases.{both_hold, both_true}
 use Rattle.prelude.specs.Span.{get_span}
 use Rattle.store.specs.Layout.{book_size}
 use Rattle.opens.specs.Keeps.{keeps_of}
@@ -87,12 +83,12 @@ module _ (name places : List ℕ) where
   says : (k : ℕ) → k < place_count places → is_mark places name k ≡ true → MarkIs places name k
   unfolding is_mark
   says k h e =
-      let s = both_true (is_of places name k) (keeps_of (image_at places k)) e in
+      let s = and_parts (is_of places name k) (keeps_of (image_at places k)) e in
       record { named = has_name_lem places (name_bytes name) k h (length_name name) s.0; keeps = s.1 }
 
   is_mark_lem : (k : ℕ) → MarkIs places name k → is_mark places name k ≡ true
   unfolding is_mark
-  is_mark_lem k m = both_hold _ _ (name_has places (name_bytes name) k m.named) m.keeps
+  is_mark_lem k m = and_from _ _ (name_has places (name_bytes name) k m.named) m.keeps
 
   mark_first : (i : ℕ) → Earliest (MarkIs places name) (place_count places) i → return_place places name ≡ Some i
   unfolding return_place

@@ -1,12 +1,11 @@
 -- THE PROOFS that a call keeps what it has to keep, and that a mark stands until its name is set again. Rests on Calls and Written.
-use Rattle.std.specs.Prelude.{ℕ, ◌+◌, ◌/◌, ◌≤◌, ◌<◌, ◌≡◌, refl, Bool, true, false, ◌&&◌, ◌||◌, List, ◌++◌, leb, length, get_or, Some}
-use Rattle.std.proofs.Common.{sym, ◌∙◌, ⊎_elim, arith, leb-true}
-use Rattle.std.proofs.Math.Path.{ap, subst}
+use Rattle.std.proofs.Common.{ℕ, ◌+◌, ◌/◌, ◌≤◌, ◌<◌, ◌≡◌, refl, Bool, true, false, ◌&&◌, ◌||◌, List, ◌++◌, leb, length, get_or, Some, sym, ◌∙◌, ⊎_elim, arith, leb-true, ap, subst}
 use Rattle.std.proofs.Math.Decide.{ℕ_discrete, dec_lt}
 use Rattle.std.proofs.Math.ListN.{get_or-eq_default}
+use Rattle.std.proofs.lemmas.Bool.{and_from, and_parts, or_cases}
 use Rattle.prelude.specs.Below.{first_below, first_none, first_hit, first_past, first_elim, first_ext}
 use Rattle.prelude.specs.Bytes.{zeros, bytes_zeros, bytes_append, bytes_take, bytes_span, bytes_splice}
-use Rattle.prelude.specs.Cases.{both_hold, both_true, either_true, clash}
+use Rattle.prelude.specs.Cases.{clash}
 use Rattle.prelude.specs.Number.{Bytes}
 use Rattle.prelude.specs.Span.{splice}
 use Rattle.store.specs.Layout.{book_size}
@@ -55,7 +54,7 @@ module _ (places name book : List ℕ) (k : keeps_of book ≡ true) (n : is_mark
   is_mark_lem : is_mark p' name i ≡ true
   unfolding is_mark
   is_mark_lem =
-      both_hold _ _ (name_has p' (name_bytes name) i (written_name places name book i below (book_long book k)))
+      and_from _ _ (name_has p' (name_bytes name) i (written_name places name book i below (book_long book k)))
       (ap keeps_of (written_image places name book i below (book_long book k)) ∙ k)
 
   set_stands : Stands p' name book
@@ -123,7 +122,7 @@ module _ (places name another book : List ℕ) (k : keeps_of book ≡ true) (n :
         ∙ s.found;
     is =
         written_image_other places another book i (below places another book k m i e) (book_long book k) s.at
-        (λ z. clash (is_of places name i) (ap (is_of places name) z ∙ (both_true _ _ (return_first places name s.at s.found).passes).0) not_before)
+        (λ z. clash (is_of places name i) (ap (is_of places name) z ∙ (and_parts _ _ (return_first places name s.at s.found).passes).0) not_before)
         ∙ s.is;
   }
 
@@ -149,11 +148,11 @@ small : (x : ℕ) → is_alnum x ≡ true → x < 256
 unfolding is_alnum
 small x e =
     ⊎_elim (top 48 57 (omega arith))
-    (λ a. ⊎_elim (top 65 90 (omega arith)) (top 97 122 (omega arith)) (either_true (within 65 90 x) (within 97 122 x) a))
-    (either_true (within 48 57 x) (within 65 90 x || within 97 122 x) e)
+    (λ a. ⊎_elim (top 65 90 (omega arith)) (top 97 122 (omega arith)) (or_cases (within 65 90 x) (within 97 122 x) a))
+    (or_cases (within 48 57 x) (within 65 90 x || within 97 122 x) e)
   where
     top : (a b : ℕ) → b < 256 → within a b x ≡ true → x < 256
-    top a b l w = omega (arith, leb-true x b (both_true (leb a x) (leb x b) w).1)
+    top a b l w = omega (arith, leb-true x b (and_parts (leb a x) (leb x b) w).1)
 
 bytes_name : (name : List ℕ) → is_mark_name name ≡ true → Bytes (name_bytes name)
 unfolding name_bytes

@@ -1,18 +1,11 @@
 -- A place written: what each place of the buffer has then. And names, known by their bytes. Rests on Places.
-use Prim.Native.Nat.{ℕ, ◌+◌, ◌-◌, ◌≤◌, ◌<◌}
-use Rattle.std.specs.Prelude.{◌≡◌, refl, true, ◌⊎◌, leb, take}
-use Rattle.std.proofs.Math.Path.{sym, ap}
-use Rattle.std.proofs.Common.{◌∙◌, ⊎_elim, add-zero, length-append, drop_at}
-use mathlib.Core.List.{List, ◌++◌}
-use Rattle.std.proofs.Math.Logic.{inl, inr}
+use Rattle.std.proofs.Common.{ℕ, ◌+◌, ◌-◌, ◌≤◌, ◌<◌, ◌≡◌, refl, true, ◌⊎◌, leb, take, sym, ap, ◌∙◌, ⊎_elim, add-zero, length-append, drop_at, List, ◌++◌, inl, inr, arith, leb-true, length, get_or, take_at, take_all, get_or-take, get_or-append-add}
 use Rattle.std.proofs.Math.Decide.{dec_lt}
-use native.Mathlib.Omega.{arith}
-use borrow.Author.Tests.{leb-true}
-use Rattle.std.proofs.Math.ListN.{length, get_or, get_or-append, get_or-eq_default}
-use Rattle.std.proofs.Math.Seq.{take_at, take_all, get_or-take, get_or-append-add}
+use Rattle.std.proofs.Math.ListN.{get_or-append, get_or-eq_default}
+use Rattle.std.proofs.lemmas.Bool.{and_parts}
 use Rattle.prelude.specs.Below.{all_below, all_elim}
 use Rattle.prelude.specs.Bytes.{zeros, get_zeros}
-use Rattle.prelude.specs.Cases.{both_true, clash}
+use Rattle.prelude.specs.Cases.{clash}
 use Rattle.prelude.specs.Span.{span, splice, length_splice, splice_append, get_span, span_span, span_splice_same, span_splice_before, span_splice_after}
 use Rattle.prelude.specs.Texts.{contents, text_of, contents_text}
 use Rattle.format.specs.Codes.{within, is_alnum}
@@ -105,11 +98,11 @@ no_letter x e z = clash (is_alnum 0) (ap is_alnum (sym z) ∙ e) refl
 module _ (name : List ℕ) (e : is_mark_name name ≡ true) where
   pub letters : (k : ℕ) → k < length name → is_alnum (get_or name k 0) ≡ true
   unfolding is_mark_name
-  letters k h = all_elim (letter_at name) (length name) (both_true (within 1 16 (length name)) (all_below (letter_at name) (length name)) e).1 k h
+  letters k h = all_elim (letter_at name) (length name) (and_parts (within 1 16 (length name)) (all_below (letter_at name) (length name)) e).1 k h
 
   pub least : 1 ≤ length name
   unfolding is_mark_name
-  least = leb-true 1 (length name) (both_true (leb 1 (length name)) (leb (length name) 16) (both_true (within 1 16 (length name)) (all_below (letter_at name) (length name)) e).0).0
+  least = leb-true 1 (length name) (and_parts (leb 1 (length name)) (leb (length name) 16) (and_parts (within 1 16 (length name)) (all_below (letter_at name) (length name)) e).0).0
 
   within_bytes : (k : ℕ) → k < length name → get_or (name_bytes name) k 0 ≡ get_or name k 0
   unfolding name_bytes

@@ -60,3 +60,8 @@ module _ (b name p : List ℕ) where
         split_if P _ (λ e. bad (not-true _ e))
         (λ e. split_if P _ (λ f. malformed (not-false _ e) (not-true _ f))
         (λ f. split_maybe P (return_place p name) (missing (not-false _ e) (not-false _ f)) (done (not-false _ e) (not-false _ f))))
+
+-- for the tactics of the calls
+pub ruleset set_calls = (set_bad, set_malformed, set_full, set_done)
+
+pub ruleset return_calls = (return_bad, return_malformed, return_none, return_done)

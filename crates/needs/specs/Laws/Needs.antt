@@ -1,8 +1,6 @@
 -- The call as the code comes to it, and case by case. Rests on Needs.
-use Rattle.std.specs.Prelude.{ℕ, ◌≡◌, true, false, eqb, leb, length, replicate}
-use Rattle.std.proofs.Math.Path.{refl, sym, ap}
-use Rattle.std.proofs.Common.{◌∙◌}
-use mathlib.Core.List.{List}
+use Rattle.std.specs.Prelude.{ℕ, ◌≡◌, true, false, eqb, leb, length, replicate, refl, List}
+use Rattle.std.proofs.Common.{sym, ap, ◌∙◌, eq-eqb, ne_eqb}
 use Rattle.std.proofs.lemmas.List.{length-replicate}
 use Rattle.prelude.specs.Cases.{if◌then◌otherwise◌, if_true, if_false}
 use Rattle.records.specs.Answer.{answer_bytes, chosen}
@@ -73,3 +71,8 @@ module _ (b r : List ℕ) (c : Change) (h : c ≡ call_of b r 1024) where
       → n ≡ needed (chosen c.output.count c.output.first c.output.second) c.requests.added → n ≡ needs_call b r
   unfolding needs_call messages_of
   call_taken e n v = v ∙ ap (λ (ms : List Message). needed ms c.requests.added) (sym (if_true _ _ _ e)) ∙ sym (needs_taken c e) ∙ ap needs_of h
+
+-- ---- for the tactics of functions
+pub ruleset counted = (eq-eqb, ne_eqb, needed_none, needed_one, needed_two)
+
+pub ruleset called = (eq-eqb, call_refused, call_taken)

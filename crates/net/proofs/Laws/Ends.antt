@@ -1,7 +1,5 @@
 -- The nets are small, the lines are read back, and the call ends as Promise says. Rests on Sound and Call.
-use Rattle.std.specs.Prelude.{ℕ, suc, ◌*◌, ◌^◌, ◌≤◌, ◌<◌, ◌≡◌, refl, Bool, ◌⊎◌, List, [], ◌∷◌, length, get_or}
-use Rattle.std.proofs.Common.{sym, subst, ⊎_elim, arith}
-use Rattle.std.proofs.Math.Bool.{true, false}
+use Rattle.std.proofs.Common.{ℕ, suc, ◌*◌, ◌^◌, ◌≤◌, ◌<◌, ◌≡◌, refl, Bool, ◌⊎◌, List, [], ◌∷◌, length, get_or, sym, subst, ⊎_elim, arith, true, false}
 use Rattle.std.proofs.Math.Decide.{dec_lt}
 use Rattle.prelude.specs.Cases.{split_if}
 use Rattle.prelude.specs.Number.{Bytes}

@@ -1,17 +1,14 @@
 -- The net position is what Promise says. Rests on Pair, Lines and Call.
-use Prim.Native.Nat.{ℕ, zero, suc, ◌+◌, ◌≤◌}
-use Rattle.std.specs.Prelude.{◌≡◌, Bool, ◌&&◌, ◌||◌, length, get_or}
-use Rattle.std.proofs.Math.Path.{refl, ap}
-use Rattle.std.proofs.Common.{sym, subst, ◌∙◌, arith, eqb-true}
-use Rattle.std.proofs.Math.Bool.{true, false, not}
-use mathlib.Core.List.{List, [], ◌∷◌, ◌++◌, append-nil, append_assoc}
+use Rattle.std.proofs.Common.{ℕ, zero, suc, ◌+◌, ◌≤◌, ◌≡◌, Bool, ◌&&◌, ◌||◌, length, get_or, refl, ap, sym, subst, ◌∙◌, arith, eqb-true, true, false, not, List, [], ◌∷◌, ◌++◌, append-nil, append_assoc, eqb}
+use Rattle.std.proofs.Math.Bool.{and-false}
 use Rattle.std.proofs.Math.Decide.{dec_le}
-use Rattle.std.proofs.Math.Dec.{eqb}
+use Rattle.std.proofs.lemmas.Bool.{and_parts}
 use Rattle.std.proofs.lemmas.List.{get_or_at}
+use Rattle.std.specs.List.{list_any}
 use Rattle.prelude.specs.Below.{all_below, all_ext}
-use Rattle.prelude.specs.Cases.{if◌then◌otherwise◌, both_true, both_false}
+use Rattle.prelude.specs.Cases.{if◌then◌otherwise◌}
 use Rattle.prelude.specs.Texts.{same_text, same_right}
-use Rattle.prelude.specs.Totals.{total_of, some_of, how_many, many_append}
+use Rattle.prelude.specs.Totals.{total_of, how_many, many_append}
 use Rattle.prelude.specs.declared.Text.{Text}
 use Rattle.store.specs.declared.Order.{Order}
 use Rattle.store.specs.Book.{Book, order_in}
@@ -26,7 +23,7 @@ use Rattle.net.specs.Laws.Call.{positions_first}
 module _ (b : Book) (client : ℕ) (symbol : Text) (o : Order) (e : of_pair client symbol o ≡ true) where
   parts : (eqb o.client client ≡ true) × (same_text o.names.symbol symbol ≡ true)
   unfolding of_pair
-  parts = both_true _ _ e
+  parts = and_parts _ _ e
 
   same_client : o.client ≡ client
   same_client = eqb-true _ _ parts.0
@@ -52,29 +49,29 @@ module _ (b : Book) (client : ℕ) (symbol : Text) (o : Order) (e : of_pair clie
 -- ---- the positions, one order more at a time
 
 module _ (client : ℕ) (symbol : Text) where
-  some_append : (ps qs : List Position) → some_of (is_of client symbol) (ps ++ qs) ≡ some_of (is_of client symbol) ps || some_of (is_of client symbol) qs
+  some_append : (ps qs : List Position) → list_any (is_of client symbol) (ps ++ qs) ≡ list_any (is_of client symbol) ps || list_any (is_of client symbol) qs
   some_append [] qs = refl
   some_append (p ∷ ps) qs = go (is_of client symbol p) (some_append ps qs)
     where
-      go : (v : Bool) → some_of (is_of client symbol) (ps ++ qs) ≡ some_of (is_of client symbol) ps || some_of (is_of client symbol) qs
-          → v || some_of (is_of client symbol) (ps ++ qs) ≡ (v || some_of (is_of client symbol) ps) || some_of (is_of client symbol) qs
+      go : (v : Bool) → list_any (is_of client symbol) (ps ++ qs) ≡ list_any (is_of client symbol) ps || list_any (is_of client symbol) qs
+          → v || list_any (is_of client symbol) (ps ++ qs) ≡ (v || list_any (is_of client symbol) ps) || list_any (is_of client symbol) qs
       go true e = refl
       go false e = e
 
-  for_append : (ps qs : List Position) → net_for client symbol (ps ++ qs) ≡ (if some_of (is_of client symbol) ps then net_for client symbol ps otherwise net_for client symbol qs)
+  for_append : (ps qs : List Position) → net_for client symbol (ps ++ qs) ≡ (if list_any (is_of client symbol) ps then net_for client symbol ps otherwise net_for client symbol qs)
   unfolding net_for if◌then◌otherwise◌
   for_append [] qs = refl
   for_append (p ∷ ps) qs = go (is_of client symbol p) (for_append ps qs)
     where
-      go : (v : Bool) → net_for client symbol (ps ++ qs) ≡ (if some_of (is_of client symbol) ps then net_for client symbol ps otherwise net_for client symbol qs)
+      go : (v : Bool) → net_for client symbol (ps ++ qs) ≡ (if list_any (is_of client symbol) ps then net_for client symbol ps otherwise net_for client symbol qs)
           → (if v then p.net otherwise net_for client symbol (ps ++ qs))
-          ≡ (if v || some_of (is_of client symbol) ps then (if v then p.net otherwise net_for client symbol ps) otherwise net_for client symbol qs)
+          ≡ (if v || list_any (is_of client symbol) ps then (if v then p.net otherwise net_for client symbol ps) otherwise net_for client symbol qs)
       go true e = refl
       go false e = e
 
   -- positions with one of that client and symbol, or none; `net` is its net
   record Has (net : Signed) (ps : List Position) (t : Bool) : Type 0 where
-    some : some_of (is_of client symbol) ps ≡ t
+    some : list_any (is_of client symbol) ps ≡ t
     many : how_many (is_of client symbol) ps ≡ (if t then 1 otherwise 0)
     is : net_for client symbol ps ≡ (if t then net otherwise nothing)
 
@@ -117,7 +114,7 @@ module _ (b : Book) (client : ℕ) (symbol : Text) where
     where
       go : (v : Bool) → of_pair client symbol (order_in b n) ≡ v → is_first b n && v ≡ unseen b client symbol n && v
       go true e = ap (λ (t : Bool). t && true) (same_unseen b client symbol (order_in b n) e n)
-      go false e = both_false (is_first b n) ∙ sym (both_false (unseen b client symbol n))
+      go false e = and-false (is_first b n) ∙ sym (and-false (unseen b client symbol n))
 
   none_yet : Has client symbol whole [] false
   unfolding net_for if◌then◌otherwise◌

@@ -12,18 +12,6 @@ returns-then-not-unseen c =
 few : (s : Start) → s.args.lines ≤ 63
 few s = omega (arith, s.requires.0, s.requires.1, count_most 0 64 s.args.book.now.bytes.now)
 
-pub amounts-requires : goal.amounts-requires
-amounts-requires c = (omega arith, sym c.unseen.ensures ∙ c.if-not-unseen.false)
-
-pub overflow_mul-at : goal.overflow_mul-at
-overflow_mul-at c = omega (arith, few (goal.at.overflow_mul-at c).Start)
-
-pub overflow_add-at : goal.overflow_add-at
-overflow_add-at c = omega (arith, few (goal.at.overflow_add-at c).Start)
-
-pub slice_bounds-put_line-end : goal.slice_bounds-put_line-end
-slice_bounds-put_line-end c = omega (arith, few (goal.at.slice_bounds-put_line-end c).Start)
-
 pub put_line-requires : goal.put_line-requires
 put_line-requires c =
     let k = c.args.book.now in

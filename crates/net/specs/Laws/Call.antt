@@ -1,11 +1,10 @@
 -- What the book's rules give the lines, a turn of the loop over the orders, and the ways the call ends. Rests on Pair and Lines.
-use Rattle.std.specs.Prelude.{ℕ, zero, suc, ◌+◌, ◌-◌, ◌*◌, ◌^◌, ◌≤◌, ◌<◌, ◌≡◌, refl, Bool, true, false, ◌&&◌, leb, length, take, drop}
-use Rattle.std.proofs.Common.{sym, subst, ◌∙◌, add-one, arith, length-append}
-use Rattle.std.proofs.Math.Path.{ap}
-use mathlib.Core.List.{List, [], ◌∷◌, ◌++◌, append-nil}
-use borrow.Author.Tests.{lt-ltb, le-ltb}
-use Rattle.prelude.specs.Cases.{if◌then◌otherwise◌, split_if, if_true, if_false, both_true}
-use Rattle.prelude.specs.Pieces.{joined, length_joined}
+use Rattle.std.specs.Prelude.{ℕ, zero, suc, ◌+◌, ◌-◌, ◌*◌, ◌^◌, ◌≤◌, ◌<◌, ◌≡◌, refl, Bool, true, false, ◌&&◌, leb, length, take, drop, List, [], ◌∷◌, ◌++◌}
+use Rattle.std.proofs.Common.{sym, subst, ◌∙◌, add-one, arith, length-append, ap, append-nil, lt-ltb, le-ltb}
+use Rattle.std.proofs.lemmas.Bool.{and_parts}
+use Rattle.std.specs.List.{concat}
+use Rattle.prelude.specs.Cases.{if◌then◌otherwise◌, split_if, if_true, if_false}
+use Rattle.prelude.specs.Pieces.{length_joined}
 use Rattle.prelude.specs.Span.{splice, length_splice, splice_nil, part_splice}
 use Rattle.prelude.specs.Texts.{is_text}
 use Rattle.prelude.specs.Totals.{Every, every[], every∷}
@@ -30,7 +29,7 @@ use Rattle.net.specs.Laws.Lines.{Narrow, every_append, length_net, net_put}
 
 is_text_lem : (t : Text) → text_within 1 16 t ≡ true → is_text t ≡ true
 unfolding text_within
-is_text_lem t e = (both_true (is_text t) (leb 1 t.len) (both_true (is_text t && leb 1 t.len) (leb t.len 16) e).0).0
+is_text_lem t e = (and_parts (is_text t) (leb 1 t.len) (and_parts (is_text t && leb 1 t.len) (leb t.len 16) e).0).0
 
 -- what a line needs of it
 pub record Lined (o : Order) : Type 0 where
@@ -111,13 +110,13 @@ module _ (b : List ℕ) (i : ℕ) (h : i < order_count b) (o : Order) (e : o ≡
       record { number = sym (if_false _ _ _ z); bytes = sym (if_false _ _ _ z) }
 
   module _ (kept : keeps_of b ≡ true) (a : Amounts) (n : ℕ) (w : List ℕ)
-      (s : a ≡ filled_in (book_of b) o.client o.names.symbol) (t : n ≡ twos (netted a)) (is : w ≡ joined (fields o.client o.names.symbol n)) where
+      (s : a ≡ filled_in (book_of b) o.client o.names.symbol) (t : n ≡ twos (netted a)) (is : w ≡ concat (fields o.client o.names.symbol n)) where
     line_is : w ≡ line_bytes (position_of (book_of b) (order_in (book_of b) i))
     unfolding line_bytes position_of
     line_is =
         is
-        ∙ ap (λ (k : ℕ). joined (fields o.client o.names.symbol k)) (t ∙ ap (λ (x : Amounts). twos (netted x)) s)
-        ∙ ap (λ (x : Order). joined (fields x.client x.names.symbol (twos (netted (filled_in (book_of b) x.client x.names.symbol))))) loaded
+        ∙ ap (λ (k : ℕ). concat (fields o.client o.names.symbol k)) (t ∙ ap (λ (x : Amounts). twos (netted x)) s)
+        ∙ ap (λ (x : Order). concat (fields x.client x.names.symbol (twos (netted (filled_in (book_of b) x.client x.names.symbol))))) loaded
 
     pub line_long : length w ≡ 27
     line_long = ap length is ∙ length_joined widths (fields o.client o.names.symbol n) (sized o.client o.names.symbol n (lined_loaded kept).len)
@@ -188,3 +187,8 @@ module _ (b : List ℕ) (kept : keeps_of b ≡ true) (lines : List ℕ) (n : ℕ
   pub net_done : least_scratch ≤ n → least_lines ≤ length lines → written (counting (length (net_of (book_of b)))) (splice lines 0 (net_bytes (net_of (book_of b)))) ≡ net_call b n lines
   unfolding net_call if◌then◌otherwise◌
   net_done g h = rw (kept, le-ltb n least_scratch g, le-ltb (length lines) least_lines h)
+
+-- for the tactics of the turns and of the call
+pub ruleset turns = (positions_few, length_lines, turned_none, turn, whole)
+
+pub ruleset calls = (net_scratch, net_short, net_done, net_few)

@@ -2,13 +2,14 @@
 use Rattle.std.specs.Prelude.{ℕ, zero, suc, ◌+◌, ◌-◌, ◌^◌, ◌≤◌, ◌<◌, ◌≡◌, refl, true, List, [], ◌∷◌, ◌++◌, eqb, length, get_or, take, replicate}
 use Rattle.std.proofs.Common.{sym, ap, ◌∙◌, arith, eq-eqb, ne_eqb, lt-ltb, le-ltb, length-append, length-take, take-take, take_at, get_or-append-add}
 use Rattle.std.proofs.Math.Decide.{dec_le}
-use Rattle.std.proofs.lemmas.Bool.{eqb-false}
-use Rattle.std.proofs.lemmas.List.{length-replicate, get_or-replicate}
 use Rattle.std.proofs.Math.ListN.{get_or-append}
 use Rattle.std.proofs.Math.Seq.{take-append-add}
+use Rattle.std.proofs.lemmas.Bool.{eqb-false}
+use Rattle.std.proofs.lemmas.List.{length-replicate, get_or-replicate}
+use Rattle.std.specs.List.{concat}
 use Rattle.prelude.specs.Cases.{split_if, if_true, if_false}
 use Rattle.prelude.specs.Number.{number, bytes_of, length_bytes, number_bytes}
-use Rattle.prelude.specs.Pieces.{joined, Sized, writes, length_joined, writes_joined, piece_at}
+use Rattle.prelude.specs.Pieces.{Sized, writes, length_joined, writes_joined, piece_at}
 use Rattle.prelude.specs.Span.{span, splice_whole, span_span}
 use Rattle.prelude.specs.Texts.{contents, text_of, is_text, text_contents}
 use Rattle.prelude.specs.declared.Text.{Text}
@@ -98,11 +99,11 @@ sized client symbol net h = (length_bytes 2 client, (refl, (length_padded symbol
 
 -- its fields written one behind the other over 27 bytes
 pub line_written : (s : List ℕ) (client : ℕ) (symbol : Text) (net : ℕ) → length s ≡ 27 → symbol.len ≤ 16
-    → writes s 0 widths (fields client symbol net) ≡ joined (fields client symbol net)
+    → writes s 0 widths (fields client symbol net) ≡ concat (fields client symbol net)
 line_written s client symbol net e h =
     let z : Sized widths (fields client symbol net) = sized client symbol net h in
     writes_joined widths (fields client symbol net) s 0 z (omega arith)
-    ∙ splice_whole s (joined (fields client symbol net)) (length_joined widths (fields client symbol net) z ∙ sym e)
+    ∙ splice_whole s (concat (fields client symbol net)) (length_joined widths (fields client symbol net) z ∙ sym e)
 
 pub length_line : (p : Position) → p.symbol.len ≤ 16 → length (line_bytes p) ≡ 27
 unfolding line_bytes
@@ -129,12 +130,12 @@ line_read p f =
     let z : Sized widths ps = sized p.client p.symbol (twos p.net) f.len in
     let c : List ℕ = contents p.symbol in
     let n : length c ≡ p.symbol.len = length_contents p.symbol f.long f.len in
-    let len : number (span (joined ps) 2 1) ≡ p.symbol.len = ap number (piece_at widths ps 1 z) ∙ omega arith in
+    let len : number (span (concat ps) 2 1) ≡ p.symbol.len = ap number (piece_at widths ps 1 z) ∙ omega arith in
     λ i. record {
       client = (ap number (piece_at widths ps 0 z) ∙ number_bytes 2 p.client f.client) i;
       symbol =
-          (ap (λ (k : ℕ). text_of (span (joined ps) 3 k)) len
-          ∙ ap text_of (sym (span_span (joined ps) 3 16 0 p.symbol.len (omega (arith, f.len)))
+          (ap (λ (k : ℕ). text_of (span (concat ps) 3 k)) len
+          ∙ ap text_of (sym (span_span (concat ps) 3 16 0 p.symbol.len (omega (arith, f.len)))
           ∙ ap (λ (l : List ℕ). span l 0 p.symbol.len) (piece_at widths ps 2 z)
           ∙ take_at c (replicate (16 - length c) 0) p.symbol.len n)
           ∙ text_contents p.symbol f.long f.text) i;

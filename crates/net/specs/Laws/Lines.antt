@@ -2,8 +2,8 @@
 use Rattle.std.specs.Prelude.{ℕ, zero, suc, ◌+◌, ◌*◌, ◌≤◌, ◌<◌, ◌≡◌, refl, List, [], ◌∷◌, ◌++◌, map, length, get_or, take, drop}
 use Rattle.std.proofs.Common.{sym, ap, ◌∙◌, append-nil, append_assoc, zero-add, arith, length-append, take_at, ext_get_or}
 use Rattle.std.proofs.Math.Seq.{drop-append-add}
+use Rattle.std.specs.List.{concat}
 use Rattle.prelude.specs.Lists.{list_below, length_list, get_list}
-use Rattle.prelude.specs.Pieces.{joined}
 use Rattle.prelude.specs.Span.{span, splice, splice_append, span_splice_same, span_span}
 use Rattle.prelude.specs.Totals.{Every, every[], every∷, every_map}
 use Rattle.net.specs.Net.{Position, line_bytes, net_bytes, read_line, read_lines}
@@ -20,20 +20,20 @@ pub length_net : {ps : List Position} → Every Narrow ps → length (net_bytes 
 unfolding net_bytes
 length_net every[] = refl
 length_net (every∷ {x} {xs} p ps) =
-    let e : length (joined (map line_bytes xs)) ≡ 27 * length xs = length_net ps in
+    let e : length (concat (map line_bytes xs)) ≡ 27 * length xs = length_net ps in
     let n : length (line_bytes x) ≡ 27 = length_line x p in
-    length-append (line_bytes x) (joined (map line_bytes xs)) ∙ omega arith
+    length-append (line_bytes x) (concat (map line_bytes xs)) ∙ omega arith
 
 -- LINE i
 pub line_at : {ps : List Position} → Every Narrow ps → (d : Position) (i : ℕ) → i < length ps → span (net_bytes ps) (27 * i) 27 ≡ line_bytes (get_or ps i d)
 unfolding net_bytes span
 line_at every[] d i h = absurd (omega arith)
-line_at (every∷ {x} {xs} p ps) d zero h = take_at (line_bytes x) (joined (map line_bytes xs)) 27 (length_line x p)
+line_at (every∷ {x} {xs} p ps) d zero h = take_at (line_bytes x) (concat (map line_bytes xs)) 27 (length_line x p)
 line_at (every∷ {x} {xs} p ps) d (suc i) h =
     let n : length (line_bytes x) ≡ 27 = length_line x p in
     let e : 27 * suc i ≡ length (line_bytes x) + 27 * i = omega arith in
-    ap (λ (k : ℕ). take 27 (drop k (line_bytes x ++ joined (map line_bytes xs)))) e
-    ∙ ap (take 27) (drop-append-add (line_bytes x) (joined (map line_bytes xs)) (27 * i))
+    ap (λ (k : ℕ). take 27 (drop k (line_bytes x ++ concat (map line_bytes xs)))) e
+    ∙ ap (take 27) (drop-append-add (line_bytes x) (concat (map line_bytes xs)) (27 * i))
     ∙ line_at ps d i (omega arith)
 
 -- ---- one line more
@@ -41,7 +41,7 @@ line_at (every∷ {x} {xs} p ps) d (suc i) h =
 net_more : (ps : List Position) (p : Position) → net_bytes (ps ++ (p ∷ [])) ≡ net_bytes ps ++ line_bytes p
 unfolding net_bytes
 net_more [] p = append-nil (line_bytes p)
-net_more (x ∷ ps) p = ap (λ (s : List ℕ). line_bytes x ++ s) (net_more ps p) ∙ sym (append_assoc (line_bytes x) (joined (map line_bytes ps)) (line_bytes p))
+net_more (x ∷ ps) p = ap (λ (s : List ℕ). line_bytes x ++ s) (net_more ps p) ∙ sym (append_assoc (line_bytes x) (concat (map line_bytes ps)) (line_bytes p))
 
 pub net_put : (s : List ℕ) (ps : List Position) (p : Position) → Every Narrow ps → 27 * length ps ≤ length s
     → splice (splice s 0 (net_bytes ps)) (27 * length ps) (line_bytes p) ≡ splice s 0 (net_bytes (ps ++ (p ∷ [])))

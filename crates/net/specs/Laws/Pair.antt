@@ -1,16 +1,9 @@
 -- What the first orders bought and sold of one client in one symbol, one order more at a time. Rests on Net and prelude's Totals.
-use Prim.Native.Nat.{ℕ, zero, suc, ◌+◌, ◌*◌, ◌^◌, ◌≤◌, ◌<◌}
-use Rattle.std.proofs.Math.Path.{◌≡◌, refl, ap, subst}
-use Rattle.std.proofs.Common.{sym, ◌∙◌, add-one, take-suc}
-use Rattle.std.specs.Prelude.{Bool, ◌&&◌, List, [], ◌∷◌, length, get_or}
-use Rattle.std.proofs.Math.Bool.{true, false, not}
-use native.Mathlib.Omega.{arith}
-use borrow.Author.Tests.{eq-eqb, ne_eqb, not-true}
-use Rattle.std.proofs.Math.Dec.{eqb}
-use Rattle.std.proofs.Math.ListN.{take}
-use Rattle.std.proofs.Math.Seq.{take_all}
+use Rattle.std.specs.Prelude.{ℕ, zero, suc, ◌+◌, ◌*◌, ◌^◌, ◌≤◌, ◌<◌, ◌≡◌, refl, Bool, ◌&&◌, List, [], ◌∷◌, length, get_or, true, false, not, eqb, take}
+use Rattle.std.proofs.Common.{ap, subst, sym, ◌∙◌, add-one, take-suc, arith, eq-eqb, ne_eqb, take_all}
+use Rattle.std.proofs.lemmas.Bool.{not-true, and_parts}
 use Rattle.prelude.specs.Below.{all_below}
-use Rattle.prelude.specs.Cases.{if◌then◌otherwise◌, if_true, if_false, both_true}
+use Rattle.prelude.specs.Cases.{if◌then◌otherwise◌, if_true, if_false}
 use Rattle.prelude.specs.Number.{word16, word64}
 use Rattle.prelude.specs.Texts.{same_text}
 use Rattle.prelude.specs.Totals.{total_of, total_append}
@@ -82,7 +75,7 @@ module _ (client : ℕ) (symbol : Text) (o : Order) where
   module _ (e : of_pair client symbol o ≡ true) where
     parts : (eqb o.client client ≡ true) × (same_text o.names.symbol symbol ≡ true)
     unfolding of_pair
-    parts = both_true _ _ e
+    parts = and_parts _ _ e
 
     pub filled_on_lem : (bought : Bool) → on_side bought o.terms.side ≡ true → filled_on bought client symbol o ≡ o.state.cumqty
     filled_on_lem bought s = if_true _ _ _ (rw (parts.0, parts.1) s)
@@ -146,7 +139,7 @@ module _ (b : Book) (client : ℕ) (symbol : Text) where
   unfolding all_below
   sum_none zero h e = record { bought = refl; sold = refl; few = omega arith }
   sum_none (suc n) h e =
-      let p = both_true (unseen b client symbol n) (miss_at b client symbol n) e in
+      let p = and_parts (unseen b client symbol n) (miss_at b client symbol n) e in
       subst (λ (m : ℕ). IsSum b client symbol m none) (add-one n)
       (sum_miss b client symbol n none (sum_none n (omega arith) p.0) (omega arith) (not-true _ p.1))
 

@@ -1,8 +1,8 @@
 -- What a caller has of a book that keeps its rules, and the call as the code comes to it. Rests on rules' laws, outcomes and Sums.
-use Rattle.std.specs.Prelude.{◌≡◌, ℕ, ◌≤◌, Bool, true, false, ◌&&◌, List, length, None, Some}
-use Rattle.std.proofs.Math.Path.{refl, sym, ap}
-use Rattle.std.proofs.Common.{◌∙◌}
-use Rattle.prelude.specs.Cases.{if_true, if_false, maybe_none, maybe_some, both_true, both_hold}
+use Rattle.std.specs.Prelude.{◌≡◌, ℕ, ◌≤◌, Bool, true, false, ◌&&◌, List, length, None, Some, refl}
+use Rattle.std.proofs.Common.{sym, ap, ◌∙◌}
+use Rattle.std.proofs.lemmas.Bool.{false_from_ne_true, and_parts, and_from}
+use Rattle.prelude.specs.Cases.{if_true, if_false, maybe_none, maybe_some}
 use Rattle.prelude.specs.Number.{word16}
 use Rattle.store.specs.Layout.{book_size, header·orders, header·requests, most_orders, most_requests}
 use Rattle.store.specs.Book.{book_of, open_at, load_open}
@@ -22,8 +22,8 @@ module _ (b : List ℕ) where
     keeps_parts : (ruled_of b ≡ true) × (opens_right b ≡ true) × (outcomes_right b ≡ true)
     unfolding keeps_of
     keeps_parts =
-        let p = both_true (ruled_of b && opens_right b) (outcomes_right b) e in
-        let q = both_true (ruled_of b) (opens_right b) p.0 in
+        let p = and_parts (ruled_of b && opens_right b) (outcomes_right b) e in
+        let q = and_parts (ruled_of b) (opens_right b) p.0 in
         (q.0, q.1, p.1)
 
     -- THE LAWS for callers
@@ -43,7 +43,7 @@ module _ (b : List ℕ) where
   pub held_keeps : length b ≡ book_size → word16 b header·orders ≤ most_orders → word16 b header·requests ≤ most_requests → rules (book_of b) ≡ true → opens_right b ≡ true
       → outcomes_right b ≡ true → keeps_of b ≡ true
   unfolding keeps_of
-  held_keeps l n m r o t = both_hold (ruled_of b && opens_right b) (outcomes_right b) (both_hold (ruled_of b) (opens_right b) (held_ruled b l n m r) o) t
+  held_keeps l n m r o t = and_from (ruled_of b && opens_right b) (outcomes_right b) (and_from (ruled_of b) (opens_right b) (held_ruled b l n m r) o) t
 
   -- as it is decided
   keeps_turned : keeps_of b ≡ ruled_of b && outcomes_right b && opens_right b
@@ -56,6 +56,9 @@ module _ (b : List ℕ) where
       go true false true = refl
       go true false false = refl
       go false o t = refl
+
+  pub keeps_long : (length b ≡ book_size → ⊥) → keeps_of b ≡ false
+  keeps_long n = false_from_ne_true (keeps_of b) (λ e. n (keeps_held e).long)
 
   pub keeps_not : ruled_of b && outcomes_right b ≡ false → keeps_of b ≡ false
   keeps_not e = keeps_turned ∙ ap (λ (t : Bool). t && opens_right b) e
@@ -87,3 +90,8 @@ module _ (b : List ℕ) where
     call_none f =
         let is : 0 ≡ open_of (book_of b) client = sym (maybe_none (find_client (book_of b) client) 0 (open_at b) f) ∙ keeps_stored e client in
         ap (opened 0) is ∙ sym call_good
+
+-- for the tactics of the rules decided and of the call
+pub ruleset decides = (keeps_long, keeps_not, keeps_then)
+
+pub ruleset calls = (call_bad, call_found, call_none)

@@ -1,23 +1,21 @@
 -- The open quantities as a change leaves them: the client of the order that is placed has the new leaves for the old, and no other client's sum or first order moves. So
 -- what is worked out by value before the write is the sum over the book as it is left. Rests on Keeps, machine's `after` and its law that no order changes its client.
 use Rattle.std.specs.Prelude.{◌≡◌, ℕ, zero, suc, ◌+◌, ◌-◌, ◌*◌, ◌/◌, ◌%◌, ◌^◌, ◌<◌, ◌≤◌, Bool, true, false, ◌&&◌, List, [], ◌∷◌, ◌++◌, length, get_or, ◌==◌, ◌≢◌, nat_eq, nat_lt, slice_index_or, slice_set, refl, Option, None, Some}
-use Rattle.std.proofs.Math.Decide.{dec_lt}
-use native.Mathlib.Omega.{arith}
-use Rattle.std.proofs.Math.Path.{sym, ap, ap₂}
-use Rattle.std.proofs.Common.{subst, ◌∙◌, length-append, length-set, get_or-set_same}
+use Rattle.std.proofs.Common.{arith, sym, ap, ap₂, subst, ◌∙◌, inl, length-append, length-set, get_or-set_same, eqb-true, eq-eqb, ne_eqb, le-leb}
+use Rattle.std.proofs.Math.Decide.{ℕ_discrete, dec_lt}
+use Rattle.std.proofs.lemmas.Bool.{lt-leb}
 use Rattle.std.proofs.lemmas.List.{get_or_at}
-use borrow.Author.Tests.{eqb-true, eq-eqb, ne_eqb, le-leb, lt-leb}
 use Rattle.prelude.specs.Below.{first_below, First, first_ext, first_elim, first_hit, first_some}
 use Rattle.prelude.specs.Cases.{if◌then◌otherwise◌, maybe, if_true, if_false, maybe_none, maybe_some, clash}
 use Rattle.prelude.specs.Number.{bytes_of}
 use Rattle.prelude.specs.Span.{splice}
 use Rattle.prelude.specs.Totals.{total_of, total_append, total_set}
 use Rattle.store.specs.declared.Order.{Order}
-use Rattle.store.specs.Layout.{most_orders, open_base}
+use Rattle.store.specs.Layout.{book_size, header·orders, most_orders, open_base}
 use Rattle.store.specs.Orders.{no_order}
 use Rattle.store.specs.Book.{Book, is_book, book_of, order_in, order_at, order_count, open_at, load_open, store_open}
 use Rattle.store.specs.Finds.{is_clients, find_client}
-use Rattle.store.specs.Laws.Stored.{length_orders, order_in_lem}
+use Rattle.store.specs.Laws.Stored.{length_orders, order_in_lem, count_out}
 use Rattle.store.specs.Laws.Opens.{load_open_in}
 use Rattle.machine.specs.declared.Change.{Change}
 use Rattle.machine.specs.Changes.{Event}
@@ -264,6 +262,14 @@ module _ (b : List ℕ) (place n : ℕ) (there : place ≡ 0 → ⊥) (e : n ≡
   unfolding order_at_link
   link_at h = ap leaves_qty (sym (if_false _ _ _ (ne_eqb place 0 there) ∙ order_in_lem b (place - 1) (omega arith)))
 
+-- bytes that are no book have no order
+pub link_no_book : (b : List ℕ) (place : ℕ) → (length b ≡ book_size → ⊥) → 0 ≡ leaves_qty (order_at_link (book_of b) place)
+link_no_book b place h = go (ℕ_discrete place 0)
+  where
+    go : Dec (place ≡ 0) → 0 ≡ leaves_qty (order_at_link (book_of b) place)
+    go (yes e) = link_none (book_of b) place e
+    go (no d) = link_past b place (order_count b) d refl (omega (arith, count_out header·orders most_orders b (place - 1) (inl h)))
+
 module _ (b : List ℕ) (place client leaves : ℕ) where
   pub by_found : (i stored before rest q : ℕ) → find_client (book_of b) client ≡ Some i → stored ≡ load_open b i → before ≡ leaves_qty (order_at_link (book_of b) place)
       → rest ≡ stored - before → q ≡ (rest + leaves) % 2 ^ 64 → word i q ≡ opening_of b place client leaves
@@ -328,3 +334,6 @@ module _ (b : List ℕ) (keeps : keeps_of b ≡ true) (c : Change) (there : c.pl
           ap₂ (store_open to) (opening_some i e).0 (opening_some i e).1
           ∙ store_word to i (open_of left client)
           ∙ sym (maybe_some (find_client left client) i to (λ i. store_open to i (open_of left client)) (first_stays (book_of b) c there kept client i e))
+
+-- for the tactic of the function that looks at a link
+pub ruleset links = (link_no_book, link_none, link_past, link_at)

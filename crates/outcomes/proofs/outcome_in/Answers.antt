@@ -1,6 +1,5 @@
--- `outcome_in` meets its contract: the event that the record reads as, or the blank one. Assumes nothing.
-use Rattle.std.proofs.Common.{refl, ap, ◌∙◌}
-use borrow.Author.Tests.{ne_eqb}
+-- A record that is refused reads as the blank event. Rests on records' Refused.
+use Rattle.std.proofs.Common.{refl, ne_eqb}
 use Rattle.prelude.specs.Cases.{if◌then◌otherwise◌}
 use Rattle.format.specs.Refusal.{event_refusal}
 use Rattle.records.specs.Fields.{blank}
@@ -8,9 +7,6 @@ use Rattle.records.specs.Record.{event_in}
 use Rattle.records.specs.Laws.Refused.{number_not}
 use Rattle.outcomes.specs.Outcomes.{outcome_by}
 use Rattle.outcomes.proofs.outcome_in.Goals as goal
-
-pub returns-in-Ok : goal.returns-in-Ok
-returns-in-Ok c = c.outcome_by.ensures ∙ ap outcome_by c.in-Ok.ensures.ok.1
 
 pub returns-in-Err : goal.returns-in-Err
 unfolding event_in outcome_by blank if◌then◌otherwise◌

@@ -1,7 +1,8 @@
 -- A ClOrdID names a request in use. Rests on store's Finds.
 use Rattle.std.specs.Prelude.{ℕ, ◌<◌, ◌≡◌, List, Some}
-use Rattle.std.proofs.Common.{sym, ◌∙◌, arith}
+use Rattle.std.proofs.Common.{sym, ◌∙◌, arith, eq-eqb, ne_eqb}
 use Rattle.prelude.specs.Below.{First, first_some}
+use Rattle.prelude.specs.Cases.{if_true, if_false}
 use Rattle.prelude.specs.declared.Text.{Text}
 use Rattle.store.specs.Layout.{header·requests, most_requests}
 use Rattle.store.specs.Book.{book_of, order_count, request_count}
@@ -18,3 +19,6 @@ module _ (b : List ℕ) where
 
   pub found_few : (client : ℕ) (t : Text) (k : ℕ) → find_clordid (book_of b) client t ≡ Some k → k < most_requests
   found_few client t k e = omega (arith, found_used client t k e, count_most header·requests most_requests b)
+
+-- for the tactic of the function that tests an event's codes
+pub ruleset tests = (if_true, if_false, eq-eqb, ne_eqb)

@@ -1,7 +1,6 @@
 -- `page::put_left` meets its contract: a column more each turn. Rests on Line.
 use Rattle.std.proofs.Common.{◌≡◌, ℕ, ◌+◌, List, set, get_or, length, take, length-set, arith, ap, ◌∙◌}
-use Rattle.prelude.specs.Span.{copy_more, copy_all}
-use Rattle.prelude.specs.Texts.{contents}
+use Rattle.prelude.specs.Span.{copy_more}
 use Rattle.page.specs.Page.{left}
 use Rattle.page.specs.Laws.Line.{length_left, left_column}
 use Rattle.page.proofs.put_left.Goals as goal
@@ -16,10 +15,3 @@ loop-i-preserved c =
       length-set l.s (a.at + l.i) c.shown.result ∙ l.invariant.0,
       ap (set l.s (a.at + l.i)) e ∙ ap (λ (d : List ℕ). set d (a.at + l.i) (get_or w l.i 0)) l.invariant.1 ∙ copy_more a.s.now w a.at l.i (omega arith) (omega arith),
     )
-
-pub returns : goal.returns
-unfolding contents
-returns c =
-    let a = c.args in
-    let w : List ℕ = left a.width (take a.t.len a.t.bytes) in
-    c.loop-i.invariant.1 ∙ copy_all a.s.now w a.at c.loop-i.i (omega (arith, length_left a.width (take a.t.len a.t.bytes)))

@@ -1,8 +1,7 @@
 -- Laws by which the code of the call goes: an order's line, one turn of the loop over the orders, and the three ways the call ends.
 -- Rests on Pages and Kept.
 use Rattle.std.specs.Prelude.{ℕ, ◌+◌, ◌-◌, ◌*◌, ◌≤◌, ◌<◌, ◌≡◌, true, false, List, ◌++◌, length, get_or, take, drop}
-use Rattle.std.proofs.Common.{sym, ap, subst, ◌∙◌, arith, take_all}
-use borrow.Author.Tests.{lt-ltb, le-ltb}
+use Rattle.std.proofs.Common.{sym, ap, subst, ◌∙◌, arith, take_all, lt-ltb, le-ltb}
 use Rattle.prelude.specs.Cases.{if◌then◌otherwise◌}
 use Rattle.prelude.specs.Pieces.{writes}
 use Rattle.prelude.specs.Span.{splice, length_splice, part_splice}
@@ -73,3 +72,8 @@ module _ (b : List ℕ) (kept : keeps_of b ≡ true) where
 pub page_bad : (b out : List ℕ) → keeps_of b ≡ false → paged (refusing 1) out ≡ page_call b out
 unfolding page_call if◌then◌otherwise◌
 page_bad b out e = rw e
+
+-- for the tactics of the turns and of the call
+pub ruleset turns = (turn, turn_length, whole)
+
+pub ruleset calls = (page_bad, page_short, page_done)

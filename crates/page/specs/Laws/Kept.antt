@@ -1,9 +1,10 @@
 -- What the book's rules give a page: each order's line is in range, and is the page's line of that number. Rests on machine's and opens' laws.
 use Rattle.std.specs.Prelude.{ℕ, zero, suc, ◌^◌, ◌≤◌, ◌<◌, ◌≡◌, refl, Bool, true, not, ◌&&◌, List, [], ◌∷◌, map, eqb, leb, length, get_or}
 use Rattle.std.proofs.Common.{sym, subst, ◌∙◌, ⊎_elim, arith, eqb-true, leb-true}
+use Rattle.std.proofs.lemmas.Bool.{and_parts, or_cases}
 use Rattle.std.proofs.lemmas.List.{length-map}
 use Rattle.prelude.specs.Below.{all_below}
-use Rattle.prelude.specs.Cases.{both_true, either_true, clash}
+use Rattle.prelude.specs.Cases.{clash}
 use Rattle.prelude.specs.Texts.{is_text}
 use Rattle.prelude.specs.declared.Text.{Text}
 use Rattle.format.specs.Codes.{listed, statuses, is_side, is_status}
@@ -29,16 +30,16 @@ use Rattle.opens.specs.Laws.Sums.{leaves_less}
 name_short : (t : Text) → name_range t ≡ true → t.len ≤ 20
 unfolding name_range is_name
 name_short t e =
-    let (w, _) = both_true (within 1 20 t.len) (all_below (alnum_at t) t.len && not (is_none t)) (both_true (is_text t) (is_name t) e).1 in
-    leb-true t.len 20 (both_true (leb 1 t.len) (leb t.len 20) w).1
+    let (w, _) = and_parts (within 1 20 t.len) (all_below (alnum_at t) t.len && not (is_none t)) (and_parts (is_text t) (is_name t) e).1 in
+    leb-true t.len 20 (and_parts (leb 1 t.len) (leb t.len 20) w).1
 
 symbol_short : (t : Text) → text_within 1 16 t ≡ true → t.len ≤ 16
 unfolding text_within
-symbol_short t e = leb-true t.len 16 (both_true (is_text t && leb 1 t.len) (leb t.len 16) e).1
+symbol_short t e = leb-true t.len 16 (and_parts (is_text t && leb 1 t.len) (leb t.len 16) e).1
 
 terms_qty : (o : Order) → terms_range o.terms ≡ true → o.terms.qty ≤ 10 ^ 12
 unfolding terms_range
-terms_qty o e = leb-true o.terms.qty (10 ^ 12) (both_true (is_side o.terms.side && priced_range o.terms.ordtype o.terms.price && force_range o.terms.timeinforce) (leb o.terms.qty (10 ^ 12)) e).1
+terms_qty o e = leb-true o.terms.qty (10 ^ 12) (and_parts (is_side o.terms.side && priced_range o.terms.ordtype o.terms.price && force_range o.terms.timeinforce) (leb o.terms.qty (10 ^ 12)) e).1
 
 filled_qty : (o : Order) → filled_rule o ≡ true → o.state.cumqty ≤ o.terms.qty
 unfolding filled_rule
@@ -52,11 +53,11 @@ above n (c ∷ cs) = leb n c && above n cs
 listed_above : (n v : ℕ) (cs : List ℕ) → above n cs ≡ true → listed v cs ≡ true → n ≤ v
 listed_above n v [] a e = clash _ e refl
 listed_above n v (c ∷ cs) a e =
-    let p = both_true (leb n c) (above n cs) a in
+    let p = and_parts (leb n c) (above n cs) a in
     ⊎_elim
     (λ q. let z : v ≡ c = eqb-true v c q in omega (arith, leb-true n c p.0))
     (λ q. listed_above n v cs p.1 q)
-    (either_true (eqb v c) (listed v cs) e)
+    (or_cases (eqb v c) (listed v cs) e)
 
 status_prints : (v : ℕ) → is_status v ≡ true → 32 ≤ v
 unfolding is_status statuses

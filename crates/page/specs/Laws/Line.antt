@@ -1,18 +1,15 @@
 -- One line: how wide its fields are, that nothing in it is below 32 but the line feed, that its texts show and its quantities read back.
 -- Rests on Page and decimal's laws.
-use Prim.Native.Nat.{ℕ, zero, suc, ◌+◌, ◌-◌, ◌/◌, ◌%◌, ◌^◌, ◌≤◌, ◌<◌}
-use Rattle.std.specs.Prelude.{◌≡◌, refl, ltb, take, drop}
-use Rattle.std.proofs.Math.Path.{sym, ap}
-use Rattle.std.proofs.Common.{◌∙◌, ltb-false, lt-ltb, le-ltb, length-append, take_at, get_or-take}
-use mathlib.Core.List.{List, [], ◌∷◌, ◌++◌, append_assoc, map}
+use Rattle.std.specs.Prelude.{ℕ, zero, suc, ◌+◌, ◌-◌, ◌/◌, ◌%◌, ◌^◌, ◌≤◌, ◌<◌, ◌≡◌, refl, max, ltb, take, drop, List, [], ◌∷◌, ◌++◌, map, length, get_or, replicate}
+use Rattle.std.proofs.Common.{sym, ap, ◌∙◌, ltb-true, ltb-false, lt-ltb, le-ltb, length-append, take_at, get_or-take, append_assoc, arith, length-take, get_or-append-add}
 use Rattle.std.proofs.Math.Decide.{dec_lt}
-use native.Mathlib.Omega.{arith}
-use Rattle.std.proofs.Math.ListN.{length, get_or, replicate, length-take, length-map, get_or-replicate, get_or-append, get_or-eq_default}
+use Rattle.std.proofs.Math.ListN.{length-map, get_or-replicate, get_or-append, get_or-eq_default}
+use Rattle.std.proofs.Math.Seq.{drop-append-add}
 use Rattle.std.proofs.lemmas.List.{length-replicate, get_or_at}
-use Rattle.std.proofs.Math.Seq.{get_or-append-add, drop-append-add}
+use Rattle.std.specs.List.{concat}
 use Rattle.prelude.specs.Cases.{if◌then◌otherwise◌, split_if, if_true, if_false}
-use Rattle.prelude.specs.Pieces.{joined, Sized, writes, offset, length_joined, writes_joined, piece_at}
-use Rattle.prelude.specs.Span.{span, splice, splice_whole}
+use Rattle.prelude.specs.Pieces.{Sized, writes, offset, length_joined, writes_joined, piece_at}
+use Rattle.prelude.specs.Span.{span, splice, splice_whole, copy_all}
 use Rattle.prelude.specs.Texts.{contents}
 use Rattle.prelude.specs.declared.Text.{Text}
 use Rattle.decimal.specs.Decimal.{blank, point, digits_by, digits, low_digits, down, decimal, right, is_digit, written, number_in}
@@ -237,7 +234,7 @@ sized l ordered cumulative leaves = (
 -- its fields written one behind the other over 81 bytes
 pub line_written : (s : List ℕ) (l : Line) → length s ≡ 81 → Sized widths (fields l) → writes s 0 widths (fields l) ≡ line_bytes l
 unfolding line_bytes
-line_written s l e z = writes_joined widths (fields l) s 0 z (omega arith) ∙ splice_whole s (joined (fields l)) (length_joined widths (fields l) z ∙ sym e)
+line_written s l e z = writes_joined widths (fields l) s 0 z (omega arith) ∙ splice_whole s (concat (fields l)) (length_joined widths (fields l) z ∙ sym e)
 
 -- a line as it can be computed
 abbrev pub line_shortly : Line → List ℕ
@@ -303,3 +300,12 @@ module _ (l : Line) (f : Fine l) where
       let e : get_or (line_bytes l) k 0 ≡ get_or front k 0 =
       ap (λ (s : List ℕ). get_or s k 0) whole_line ∙ get_or-append front (line_feed ∷ []) 0 k (omega (arith, length_front)) in
       omega (arith, print_front k (omega (arith, length_front)))
+
+-- ---- for the tactics of functions: a byte as it prints, and a text written column by column
+pub max_printable : (x : ℕ) → max x 32 ≡ printable x
+unfolding printable
+max_printable x = split_if (λ n. max x 32 ≡ n) (ltb x 32) (λ e. omega (arith, ltb-true x 32 e)) (λ e. omega (arith, ltb-false x 32 e))
+
+pub ruleset shows = (max_printable, if_true, if_false, lt-ltb, le-ltb)
+
+pub ruleset columns = (copy_all, length_left)

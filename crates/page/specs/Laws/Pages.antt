@@ -2,7 +2,7 @@
 use Rattle.std.specs.Prelude.{ℕ, zero, suc, ◌+◌, ◌*◌, ◌≤◌, ◌<◌, ◌≡◌, refl, List, [], ◌∷◌, ◌++◌, map, length, get_or, take, drop}
 use Rattle.std.proofs.Common.{sym, ap, ◌∙◌, append-nil, append_assoc, add-one, arith, length-append, take_at, take-suc, length-take-le}
 use Rattle.std.proofs.Math.Seq.{drop-append-add}
-use Rattle.prelude.specs.Pieces.{joined}
+use Rattle.std.specs.List.{concat}
 use Rattle.prelude.specs.Span.{span, splice, splice_append}
 use Rattle.page.specs.Page.{Line, line_bytes, page_bytes}
 use Rattle.page.specs.Laws.Line.{Fine, length_line}
@@ -15,20 +15,20 @@ pub length_page : (d : Line) (ls : List Line) → AllFine d ls → length (page_
 unfolding page_bytes
 length_page d [] f = refl
 length_page d (l ∷ ls) f =
-    let e : length (joined (map line_bytes ls)) ≡ 81 * length ls = length_page d ls (λ k h. f (suc k) (omega arith)) in
+    let e : length (concat (map line_bytes ls)) ≡ 81 * length ls = length_page d ls (λ k h. f (suc k) (omega arith)) in
     let n : length (line_bytes l) ≡ 81 = length_line l (f 0 (omega arith)) in
-    length-append (line_bytes l) (joined (map line_bytes ls)) ∙ omega arith
+    length-append (line_bytes l) (concat (map line_bytes ls)) ∙ omega arith
 
 -- LINE i of the page
 pub line_at : (d : Line) (ls : List Line) → AllFine d ls → (i : ℕ) → i < length ls → span (page_bytes ls) (81 * i) 81 ≡ line_bytes (get_or ls i d)
 unfolding page_bytes span
 line_at d [] f i h = absurd (omega arith)
-line_at d (l ∷ ls) f zero h = take_at (line_bytes l) (joined (map line_bytes ls)) 81 (length_line l (f 0 (omega arith)))
+line_at d (l ∷ ls) f zero h = take_at (line_bytes l) (concat (map line_bytes ls)) 81 (length_line l (f 0 (omega arith)))
 line_at d (l ∷ ls) f (suc i) h =
     let n : length (line_bytes l) ≡ 81 = length_line l (f 0 (omega arith)) in
     let e : 81 * suc i ≡ length (line_bytes l) + 81 * i = omega arith in
-    ap (λ (k : ℕ). take 81 (drop k (line_bytes l ++ joined (map line_bytes ls)))) e
-    ∙ ap (take 81) (drop-append-add (line_bytes l) (joined (map line_bytes ls)) (81 * i))
+    ap (λ (k : ℕ). take 81 (drop k (line_bytes l ++ concat (map line_bytes ls)))) e
+    ∙ ap (take 81) (drop-append-add (line_bytes l) (concat (map line_bytes ls)) (81 * i))
     ∙ line_at d ls (λ k g. f (suc k) (omega arith)) i (omega arith)
 
 -- ---- one line more
@@ -36,7 +36,7 @@ line_at d (l ∷ ls) f (suc i) h =
 page_more : (ls : List Line) (l : Line) → page_bytes (ls ++ (l ∷ [])) ≡ page_bytes ls ++ line_bytes l
 unfolding page_bytes
 page_more [] l = append-nil (line_bytes l)
-page_more (x ∷ ls) l = ap (λ (s : List ℕ). line_bytes x ++ s) (page_more ls l) ∙ sym (append_assoc (line_bytes x) (joined (map line_bytes ls)) (line_bytes l))
+page_more (x ∷ ls) l = ap (λ (s : List ℕ). line_bytes x ++ s) (page_more ls l) ∙ sym (append_assoc (line_bytes x) (concat (map line_bytes ls)) (line_bytes l))
 
 fine_take : (d : Line) (ls : List Line) (i : ℕ) → AllFine d ls → AllFine d (take i ls)
 fine_take d ls zero f k h = absurd (omega arith)

@@ -1,8 +1,7 @@
 -- `SoundPage`, the page of a book that keeps its rules, said of its bytes; `LargestFits`; and `SoundCall`, the ways the call ends: proved.
 -- Rests on Pages, Kept and Call.
 use Rattle.std.specs.Prelude.{ℕ, ◌+◌, ◌*◌, ◌^◌, ◌≤◌, ◌<◌, ◌≡◌, refl, Bool, true, false, List, length, get_or}
-use Rattle.std.proofs.Common.{sym, ap, ◌∙◌, add-zero, arith, lit≤}
-use Rattle.std.proofs.Math.Path.{subst}
+use Rattle.std.proofs.Common.{sym, ap, ◌∙◌, add-zero, arith, lit≤, subst}
 use Rattle.std.proofs.Math.Decide.{dec_lt}
 use Rattle.prelude.specs.Span.{span, splice, span_span, get_span, span_byte, length_splice, span_splice_same, span_splice_after}
 use Rattle.prelude.specs.Texts.{contents}

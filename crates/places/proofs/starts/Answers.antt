@@ -1,9 +1,6 @@
 -- `places::starts` walks where there is room to count. Assumes nothing.
-use borrow.Author.Tests.{lt-ltb, le-ltb}
-use mathlib.Core.Path.{◌∙◌, sym}
-use native.Mathlib.Omega.{arith}
-use lib.Dec.{ltb}
-use lib.ListN.{get_or-replicate}
+use Rattle.std.proofs.Common.{lt-ltb, le-ltb, ◌∙◌, sym, arith, ltb}
+use Rattle.std.proofs.Math.ListN.{get_or-replicate}
 use Rattle.prelude.specs.Cases.{if_true, if_false}
 use Rattle.places.specs.Starts.{start_from}
 use Rattle.places.proofs.starts.Goals as goal

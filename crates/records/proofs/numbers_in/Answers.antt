@@ -10,32 +10,26 @@ use Rattle.records.proofs.Ranges.{long_between}
 use Rattle.records.proofs.numbers_in.Goals as goal
 use Rattle.records.proofs.numbers_in.Goals.{After-name_in_map, In_ok-numbers}
 
-pub values-requires : goal.values-requires
-values-requires c = rising_shape c.args.s.now c.args.shape.now c.requires
-
 pub returns-in_err-numbers-clause-err : goal.returns-in_err-numbers-clause-err
 unfolding ranged
 returns-in_err-numbers-clause-err c =
     let e = c.in_err-numbers.ensures.err in
     let p = err_from_is_err_and c.from_residual.result c.from_residual.ensures.1 in
-    rw (p.1, p.2) (rw (sym (ranges_shape c.args.s.now c.args.shape.now c.requires) ∙ e.0) refl, e.1)
+    rw (p.1, p.2) (rw (sym (ranges_shape c.args.shape.now.stands) ∙ e.0) refl, e.1)
 
-all_right : (c : In_ok-numbers) → let x = c.args.shape.now in all_below (right_at c.args.s.now x.start (map_at c.args.s.now x.start)) 32 ≡ true
-all_right c = sym (ranges_shape c.args.s.now c.args.shape.now c.requires) ∙ c.in_ok-numbers.ensures.ok.right
-
-pub field-requires : goal.field-requires
-field-requires c = (lit< tt, rising_shape c.args.s.now c.args.shape.now c.requires)
+all_right : (c : In_ok-numbers) → let x = c.args.shape.now in all_below (right_at x.bytes.now x.start (map_at x.bytes.now x.start)) 32 ≡ true
+all_right c = sym (ranges_shape c.args.shape.now.stands) ∙ c.in_ok-numbers.ensures.ok.right
 
 pub text_in-name-requires : goal.text_in-name-requires
 text_in-name-requires c =
-    let r = rising_shape c.args.s.now c.args.shape.now c.requires in
-    let s = short_shape c.args.s.now c.args.shape.now c.requires (all_right (goal.at.text_in-name-requires c).In_ok-numbers) in
-    rw c.field.ensures (long_between r 2 33 (lit< tt) s.name)
+    let h = c.args.shape.now.stands in
+    rw c.field.ensures (long_between (rising_shape h) 2 33 (lit< tt) (short_shape h (all_right (goal.at.text_in-name-requires c).In_ok-numbers)).name)
 
 named : (c : After-name_in_map) → let x = c.args.shape.now in
-    c.name_in_map.result ≡ name_in (map_at c.args.s.now x.start) (text_of (content c.args.s.now x.start (map_at c.args.s.now x.start) 2))
+    c.name_in_map.result ≡ name_in (map_at x.bytes.now x.start) (text_of (content x.bytes.now x.start (map_at x.bytes.now x.start) 2))
 named c =
-    rw (c.requires.map, c.text_in-name.ensures, c.field.ensures, name_shape c.args.s.now c.args.shape.now c.requires) at c.name_in_map.ensures
+    let h = c.args.shape.now.stands in
+    rw (h.map, c.text_in-name.ensures, c.field.ensures, name_shape h) at c.name_in_map.ensures
 
 pub returns-then-name_in_map-clause-ok : goal.returns-then-name_in_map-clause-ok
 unfolding ranged
@@ -43,7 +37,7 @@ returns-then-name_in_map-clause-ok c = record {
   right =
       rw (all_right (goal.at.returns-then-name_in_map-clause-ok c).In_ok-numbers)
       (sym (named (goal.at.returns-then-name_in_map-clause-ok c).After-name_in_map) ∙ c.if-name_in_map.true);
-  numbers = numbers_shape c.args.s.now c.args.shape.now c.requires c.in_ok-numbers.numbers c.in_ok-numbers.ensures.ok;
+  numbers = numbers_shape c.args.shape.now.stands c.in_ok-numbers.numbers c.in_ok-numbers.ensures.ok;
 }
 
 pub returns-else-name_in_map-clause-err : goal.returns-else-name_in_map-clause-err

@@ -13,9 +13,6 @@ pub put_fields-requires : goal.put_fields-requires
 put_fields-requires c =
     omega (arith, length_record c.args.r.now, c.put_number-p.auto.dst, length-set c.args.dst.now c.args.o c.args.r.now.kind)
 
-pub shape_of-dst : goal.shape_of-dst
-shape_of-dst c = c.put_fields.auto.dst ∙ c.put_number-p.auto.dst ∙ simp length-set
-
 pub returns : goal.returns
 returns c =
     let a = c.args in

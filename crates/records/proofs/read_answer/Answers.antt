@@ -1,5 +1,5 @@
 -- `records::read_answer`: the head, then the messages behind it. Assumes nothing.
-use Rattle.std.proofs.Common.{◌≡◌, sym, ⊎_elim, ◌∙◌, arith, length-take}
+use Rattle.std.proofs.Common.{◌≡◌, sym, ⊎_elim, ◌∙◌, arith}
 use Rattle.std.proofs.lemmas.Result.{err_from_is_err_and}
 use Rattle.prelude.specs.Span.{span}
 use Rattle.words.specs.Laws.Windows.{window_16}
@@ -12,7 +12,7 @@ said : (c : After-get16) → c.get16.result ≡ length_in c.args.s.now
 said c = c.get16.ensures ∙ window_16 c.args.s.now 0
 
 pub returns-then-s-lt-HEAD-clause-err : goal.returns-then-s-lt-HEAD-clause-err
-returns-then-s-lt-HEAD-clause-err c = sym (answer_no c.args.s.now (head_short c.args.s.now c.if-s-lt-HEAD.true))
+returns-then-s-lt-HEAD-clause-err c = sym (answer_no c.args.s.now (head_short c.args.s.now c.if-s-lt-HEAD.true)).0
 
 pub returns-then-n-lt-HEAD-clause-err : goal.returns-then-n-lt-HEAD-clause-err
 returns-then-n-lt-HEAD-clause-err c =
@@ -20,10 +20,7 @@ returns-then-n-lt-HEAD-clause-err c =
     let n = said (goal.at.returns-then-n-lt-HEAD-clause-err c).After-get16 in
     sym (answer_no s
     (⊎_elim (λ h. head_small s c.if-s-lt-HEAD.false (omega arith))
-    (λ h. head_cut s c.if-s-lt-HEAD.false (omega arith) (omega arith)) c.then-n-lt-HEAD.either))
-
-pub read_messages-requires : goal.read_messages-requires
-read_messages-requires c = simp length-take (omega arith)
+    (λ h. head_cut s c.if-s-lt-HEAD.false (omega arith) (omega arith)) c.then-n-lt-HEAD.either)).0
 
 pub returns-in_err-messages-clause-err : goal.returns-in_err-messages-clause-err
 unfolding span

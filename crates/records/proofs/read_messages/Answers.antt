@@ -1,6 +1,6 @@
 -- `records::read_messages`: by their count. Assumes nothing.
-use borrow.Author.Tests.{eq-eqb, ne_eqb, lt-leb}
-use Rattle.std.proofs.Common.{refl, sym, arith}
+use Rattle.std.proofs.Common.{eq-eqb, ne_eqb, refl, sym, arith}
+use Rattle.std.proofs.lemmas.Bool.{lt-leb}
 use Rattle.prelude.specs.Cases.{if◌then◌otherwise◌}
 use Rattle.records.specs.Answer.{shaped_from, ranged_from, messages_from}
 use Rattle.records.specs.Laws.ReadingAnswer.{from_3}
@@ -21,7 +21,7 @@ returns-in-2-clause-err c = rw c.in-2.is c.read_two.ensures.err
 
 pub returns-in_default-clause-err : goal.returns-in_default-clause-err
 unfolding if◌then◌otherwise◌ shaped_from
-returns-in_default-clause-err c = rw c.in-0.is (sym (from_3 c.args.a.now 0 (ne_eqb _ _ (λ e. c.if-a-eq-HEAD.false (sym e)))))
+returns-in_default-clause-err c = rw c.in-0.is (sym (from_3 c.args.a.now 0 (ne_eqb _ _ (λ e. c.if-a-eq-HEAD.false (sym e)))).0)
 
 pub returns-in_default-2-clause-err : goal.returns-in_default-2-clause-err
 unfolding if◌then◌otherwise◌ shaped_from

@@ -1,6 +1,6 @@
 -- `records::write`: by how many messages there are. Assumes nothing.
-use borrow.Author.Tests.{le-leb, lt-leb}
-use Rattle.std.proofs.Common.{refl}
+use Rattle.std.proofs.Common.{le-leb, refl}
+use Rattle.std.proofs.lemmas.Bool.{lt-leb}
 use Rattle.prelude.specs.Cases.{if◌then◌otherwise◌}
 use Rattle.records.proofs.write.Goals as goal
 

@@ -1,9 +1,6 @@
 -- `records::write_answer`: the messages, then the head before them. Assumes nothing.
-use borrow.Author.Tests.{eq-eqb, ne_eqb, le-leb, lt-leb}
-use Rattle.std.proofs.Common.{refl, ◌∙◌}
-use mathlib.Core.List.{List}
-use Prim.Native.Nat.{ℕ}
-use native.Mathlib.Omega.{arith}
+use Rattle.std.proofs.Common.{eq-eqb, ne_eqb, le-leb, refl, ◌∙◌, List, ℕ, arith}
+use Rattle.std.proofs.lemmas.Bool.{lt-leb}
 use Rattle.prelude.specs.Cases.{if◌then◌otherwise◌}
 use Rattle.records.specs.Laws.Writing.{record_most, one_length, one_splice, two_length, two_splice}
 use Rattle.records.proofs.write_answer.Goals as goal

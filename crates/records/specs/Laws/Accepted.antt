@@ -1,21 +1,12 @@
 -- Only writings are accepted: bytes that are a record are the writing of the record that is read, and that record is right.
 -- Rests on Right, Reading and Back.
-use Prim.Native.Nat.{ℕ, suc, ◌+◌, ◌-◌, ◌≤◌, ◌<◌, min}
-use Rattle.std.specs.Prelude.{◌≡◌, Bool, ◌&&◌, ◌||◌, leb, ltb, take, drop, replicate}
-use Rattle.std.proofs.Math.Path.{refl, sym, ap}
-use Rattle.std.proofs.Common.{◌∙◌, ⊎_elim, lit<, length-append, length-take, take-append-drop, take-take, get_or-take, get_or-append-add}
-use mathlib.Core.List.{List, [], ◌∷◌, ◌++◌, append-nil}
-use Rattle.std.proofs.Math.Bool.{true, false}
-use Rattle.std.proofs.Math.Nat.{min-eq_left}
-use Rattle.std.proofs.Math.Numerals.{add-one}
+use Rattle.std.specs.Prelude.{ℕ, suc, ◌+◌, ◌-◌, ◌≤◌, ◌<◌, min, ◌≡◌, Bool, ◌&&◌, ◌||◌, leb, ltb, take, drop, replicate, refl, List, [], ◌∷◌, ◌++◌, true, false, eqb, length, get_or}
+use Rattle.std.proofs.Common.{sym, ap, ◌∙◌, ⊎_elim, lit<, length-append, length-take, take-append-drop, take-take, get_or-take, get_or-append-add, append-nil, add-one, arith, eqb-true, leb-true, eq-eqb, ne_eqb, le-leb, lt-ltb, le-ltb, length-drop, take_all}
 use Rattle.std.proofs.Math.Decide.{dec_lt, dec_le, ℕ_discrete}
-use native.Mathlib.Omega.{arith}
-use borrow.Author.Tests.{eqb-true, leb-true, eq-eqb, ne_eqb, le-leb, lt-ltb, le-ltb}
-use Rattle.std.proofs.Math.Dec.{eqb}
-use Rattle.std.proofs.Math.ListN.{length, get_or, length-drop}
+use Rattle.std.proofs.Math.Nat.{min-eq_left}
+use Rattle.std.proofs.lemmas.Bool.{and_parts, and_from, or_cases}
 use Rattle.std.proofs.lemmas.List.{length-replicate, get_or-replicate, take-append-le}
-use Rattle.std.proofs.Math.Seq.{take_all}
-use Rattle.prelude.specs.Cases.{if◌then◌otherwise◌, if_true, if_false, clash, both_true, both_hold, either_true}
+use Rattle.prelude.specs.Cases.{if◌then◌otherwise◌, if_true, if_false, clash}
 use Rattle.prelude.specs.Below.{all_below, all_elim, all_intro}
 use Rattle.prelude.specs.Lists.{list_below, get_list}
 use Rattle.prelude.specs.Span.{span, span_cons, length_span, span_join}
@@ -42,7 +33,7 @@ short_text l h = ap (take 32) (contents_text l h) ∙ take_all 32 l h
 
 right_short : (l : List ℕ) → length l ≤ 32 → is_short (text_of l) ≡ true
 unfolding is_short
-right_short l h = both_hold _ _ (eq-eqb _ _ (long_text l h)) (is_text_lem l h)
+right_short l h = and_from _ _ (eq-eqb _ _ (long_text l h)) (is_text_lem l h)
 
 long_text64 : (l : List ℕ) → length l ≤ 64 → long_bytes (long_of l) ≡ l
 unfolding long_bytes long_of
@@ -53,8 +44,8 @@ long_text64 l h =
 right_long64 : (l : List ℕ) → length l ≤ 64 → is_long (long_of l) ≡ true
 unfolding is_long long_of
 right_long64 l h =
-    both_hold _ _ (eq-eqb (length (take 64 (l ++ replicate 64 0))) 64 (simp (length-take, length-append, length-replicate) (omega arith)))
-    (both_hold _ _ (le-leb (length l) 64 h) (all_intro (λ k. ltb k (length l) || eqb (get_or (take 64 (l ++ replicate 64 0)) k 0) 0) 64 (λ k u. at k u (dec_lt k (length l)))))
+    and_from _ _ (eq-eqb (length (take 64 (l ++ replicate 64 0))) 64 (simp (length-take, length-append, length-replicate) (omega arith)))
+    (and_from _ _ (le-leb (length l) 64 h) (all_intro (λ k. ltb k (length l) || eqb (get_or (take 64 (l ++ replicate 64 0)) k 0) 0) 64 (λ k u. at k u (dec_lt k (length l)))))
   where
     at : (k : ℕ) → k < 64 → Dec (k < length l) → (ltb k (length l) || eqb (get_or (take 64 (l ++ replicate 64 0)) k 0) 0) ≡ true
     at k u (yes p) = rw (lt-ltb k (length l) p) refl
@@ -99,8 +90,8 @@ big_size b h t l =
     let all : (leb (size b) 8 || (is_text_bit b || eqb b 26)) ≡ true = all_elim (λ k. leb (size k) 8 || (is_text_bit k || eqb k 26)) 32 refl b h in
     ⊎_elim
     (λ p. absurd (omega (arith, leb-true (size b) 8 p)))
-    (λ p. ⊎_elim (λ q. clash (is_text_bit b) q t) (λ q. eqb-true b 26 q) (either_true (is_text_bit b) (eqb b 26) p))
-    (either_true (leb (size b) 8) (is_text_bit b || eqb b 26) all)
+    (λ p. ⊎_elim (λ q. clash (is_text_bit b) q t) (λ q. eqb-true b 26 q) (or_cases (is_text_bit b) (eqb b 26) p))
+    (or_cases (leb (size b) 8) (is_text_bit b || eqb b 26) all)
 
 -- ---- the numbers of a record that was read
 
@@ -123,7 +114,7 @@ module _ (s : List ℕ) (o : ℕ) (w : Bytes s) (shape : shaped s o ≡ true) (r
 
   all_right : all_below (right_at s o m) 32 ≡ true
   unfolding ranged
-  all_right = (both_true (all_below (right_at s o m) 32) _ right).0
+  all_right = (and_parts (all_below (right_at s o m) 32) _ right).0
 
   in_range_lem : (b : ℕ) → b < 32 → bit m b ≡ true → in_range (range b) (value b (f b)) ≡ true
   unfolding right_at
@@ -278,23 +269,23 @@ module _ (s : List ℕ) (o : ℕ) (w : Bytes s) (shape : shaped s o ≡ true) (r
           let z : size b ≡ 255 = eqb-true (size b) 255 t in
           let l : value b (f b) ≡ length (f b) = if_true (is_text_bit b) (length (f b)) (number (take 8 (f b))) t in
           if_true (bit m b) _ _ e
-          ∙ both_hold _ _ (ap (in_range (range b)) (number_read b h) ∙ in_range_lem b h e)
+          ∙ and_from _ _ (ap (in_range (range b)) (number_read b h) ∙ in_range_lem b h e)
           (lt-ltb v (bound (min (size b) 8)) (rw (number_read b h, l, z) (omega (arith, length_small b h e t))))
       go true e false t =
           if_true (bit m b) _ _ e
-          ∙ both_hold _ _ (ap (in_range (range b)) (number_read b h) ∙ in_range_lem b h e)
+          ∙ and_from _ _ (ap (in_range (range b)) (number_read b h) ∙ in_range_lem b h e)
           (lt-ltb v (bound (min (size b) 8)) (rw (number_read b h) (number_narrow s o m inside b h t w)))
 
   texts_right_lem : texts_right (record_at s o) ≡ true
   unfolding texts_right record_at size fields if◌then◌otherwise◌
   texts_right_lem =
-      both_hold _ _ (right_short (f 2) (text_room 2 (lit< tt) refl))
-      (both_hold _ _ (right_short (f 3) (text_room 3 (lit< tt) refl))
-      (both_hold _ _ (right_short (f 4) (text_room 4 (lit< tt) refl))
-      (both_hold _ _ (right_short (f 5) (text_room 5 (lit< tt) refl))
-      (both_hold _ _ (right_short (f 6) (text_room 6 (lit< tt) refl))
-      (both_hold _ _ (right_short (f 18) (text_room 18 (lit< tt) refl))
-      (both_hold _ _ (right_short (f 30) (text_room 30 (lit< tt) refl)) (right_long64 (f 20) (text_room 20 (lit< tt) refl))))))))
+      and_from _ _ (right_short (f 2) (text_room 2 (lit< tt) refl))
+      (and_from _ _ (right_short (f 3) (text_room 3 (lit< tt) refl))
+      (and_from _ _ (right_short (f 4) (text_room 4 (lit< tt) refl))
+      (and_from _ _ (right_short (f 5) (text_room 5 (lit< tt) refl))
+      (and_from _ _ (right_short (f 6) (text_room 6 (lit< tt) refl))
+      (and_from _ _ (right_short (f 18) (text_room 18 (lit< tt) refl))
+      (and_from _ _ (right_short (f 30) (text_room 30 (lit< tt) refl)) (right_long64 (f 20) (text_room 20 (lit< tt) refl))))))))
 
   price_right_lem : price_right (record_at s o) ≡ true
   unfolding price_right record_at size fields
@@ -316,10 +307,10 @@ module _ (s : List ℕ) (o : ℕ) (w : Bytes s) (shape : shaped s o ≡ true) (r
   record_right =
       let x : length (span s (o + 1) 4) ≡ 4 = length_span s (o + 1) 4 (omega (arith, whole.long)) in
       let y : m < bound 4 = rw (word32_number s (o + 1) (omega (arith, whole.long))) (rw x at (number_bound (span s (o + 1) 4) (bytes_span s (o + 1) 4 w))) in
-      both_hold _ _ whole.right
-      (both_hold _ _ (lt-ltb m (bound 4) y)
-      (both_hold _ _ (all_intro (field_right (record_at s o)) 32 fields_right)
-      (both_hold _ _ (both_true (all_below (right_at s o m) 32) _ right).1 (both_hold _ _ texts_right_lem price_right_lem))))
+      and_from _ _ whole.right
+      (and_from _ _ (lt-ltb m (bound 4) y)
+      (and_from _ _ (all_intro (field_right (record_at s o)) 32 fields_right)
+      (and_from _ _ (and_parts (all_below (right_at s o m) 32) _ right).1 (and_from _ _ texts_right_lem price_right_lem))))
 
 -- ---- messages and events
 
@@ -342,13 +333,13 @@ module _ (s : List ℕ) (o : ℕ) (w : Bytes s) (ok : message_refusal s o ≡ 0)
   pub message_right : is_message (message_of s o) ≡ true
   unfolding is_message message_shaped record_at
   message_right =
-      let p = both_true (shaped s o) _ accepted.0 in
-      ap is_message message_is ∙ both_hold _ _ (record_right s o w p.0 accepted.1) p.1
+      let p = and_parts (shaped s o) _ accepted.0 in
+      ap is_message message_is ∙ and_from _ _ (record_right s o w p.0 accepted.1) p.1
 
   pub message_writing : record_bytes (message_of s o) ≡ span s o (end_of s o - o)
   unfolding message_shaped
   message_writing =
-      ap record_bytes message_is ∙ writing s o w (both_true (shaped s o) _ accepted.0).0 accepted.1
+      ap record_bytes message_is ∙ writing s o w (and_parts (shaped s o) _ accepted.0).0 accepted.1
 
 module _ (s : List ℕ) (w : Bytes s) (ok : event_refusal s ≡ 0) where
   taken : (shaped s 0 && (leb (kind_at s 0) 9 && eqb (end_of s 0) (length s)) ≡ true) × (ranged s 0 ≡ true)
@@ -363,15 +354,15 @@ module _ (s : List ℕ) (w : Bytes s) (ok : event_refusal s ≡ 0) where
   pub event_right : is_event (event_in s) ≡ true
   unfolding is_event record_at
   event_right =
-      let p = both_true (shaped s 0) _ taken.0 in
-      let q = both_true (leb (kind_at s 0) 9) _ p.1 in
-      ap is_event event_is ∙ both_hold _ _ (record_right s 0 w p.0 taken.1) q.0
+      let p = and_parts (shaped s 0) _ taken.0 in
+      let q = and_parts (leb (kind_at s 0) 9) _ p.1 in
+      ap is_event event_is ∙ and_from _ _ (record_right s 0 w p.0 taken.1) q.0
 
   pub event_writing : record_bytes (event_in s) ≡ s
   unfolding span
   event_writing =
-      let p = both_true (shaped s 0) _ taken.0 in
-      let q = both_true (leb (kind_at s 0) 9) _ p.1 in
+      let p = and_parts (shaped s 0) _ taken.0 in
+      let q = and_parts (leb (kind_at s 0) 9) _ p.1 in
       let e : end_of s 0 ≡ length s = eqb-true _ _ q.1 in
       let n : end_of s 0 - 0 ≡ length s = omega arith in
       ap record_bytes event_is ∙ writing s 0 w p.0 taken.1 ∙ ap (span s 0) n ∙ take_all (length s) s (omega arith)

@@ -1,10 +1,9 @@
 -- The round trip of messages and answers: what was written is accepted, and read as it was. Rests on Back and Writing.
-use Rattle.std.specs.Prelude.{ℕ, ◌+◌, ◌/◌, ◌%◌, ◌≤◌, ◌<◌, ◌≡◌, List, [], ◌∷◌, ◌++◌, true, leb, drop}
-use Rattle.std.proofs.Math.Path.{refl}
-use Rattle.std.proofs.Common.{sym, ap, ◌∙◌, append-nil, append_assoc, arith, length-append}
-use borrow.Author.Tests.{le-leb, eq-eqb}
-use Rattle.std.proofs.Math.ListN.{length, get_or, get_or-append}
-use Rattle.prelude.specs.Cases.{if◌then◌otherwise◌, both_true, both_hold}
+use Rattle.std.specs.Prelude.{ℕ, ◌+◌, ◌/◌, ◌%◌, ◌≤◌, ◌<◌, ◌≡◌, List, [], ◌∷◌, ◌++◌, true, leb, drop, refl, length, get_or}
+use Rattle.std.proofs.Common.{sym, ap, ◌∙◌, append-nil, append_assoc, arith, length-append, le-leb, eq-eqb}
+use Rattle.std.proofs.Math.ListN.{get_or-append}
+use Rattle.std.proofs.lemmas.Bool.{and_parts, and_from}
+use Rattle.prelude.specs.Cases.{if◌then◌otherwise◌}
 use Rattle.prelude.specs.Span.{splice, length_splice, span_splice_same}
 use Rattle.format.specs.Places.{end_of}
 use Rattle.records.specs.declared.Record.{Record}
@@ -20,13 +19,13 @@ use Rattle.records.specs.Laws.Writing.{length_head, length_answer, answer_most}
 module _ (m : Record) (ok : is_message m ≡ true) (pre post : List ℕ) where
   is_right : Right m
   unfolding is_message
-  is_right = right m (both_true (is_record m) (leb 16 m.kind) ok).0
+  is_right = right m (and_parts (is_record m) (leb 16 m.kind) ok).0
 
   pub message_shaped_lem : message_shaped (pre ++ (record_bytes m ++ post)) (length pre) ≡ true
   unfolding message_shaped is_message
   message_shaped_lem =
-      both_hold _ _ (shaped_here m is_right pre post)
-      (ap (leb 16) (kind_here m is_right pre post) ∙ (both_true (is_record m) (leb 16 m.kind) ok).1)
+      and_from _ _ (shaped_here m is_right pre post)
+      (ap (leb 16) (kind_here m is_right pre post) ∙ (and_parts (is_record m) (leb 16 m.kind) ok).1)
 
   pub message_accepted : message_refusal (pre ++ (record_bytes m ++ post)) (length pre) ≡ 0
   unfolding message_refusal if◌then◌otherwise◌
@@ -47,7 +46,7 @@ from_back : (ms : List Record) → are_messages ms ≡ true → (pre : List ℕ)
 unfolding shaped_from ranged_from messages_from
 from_back [] ok pre = record { shapes = eq-eqb _ _ (ap length (sym (append-nil pre))); ranges = refl; messages = refl }
 from_back (m ∷ ms) ok pre =
-    let p = both_true (is_message m) (are_messages ms) ok in
+    let p = and_parts (is_message m) (are_messages ms) ok in
     let post = messages_bytes ms in
     let s = pre ++ (record_bytes m ++ post) in
     let w = is_right m p.0 pre post in
@@ -55,8 +54,8 @@ from_back (m ∷ ms) ok pre =
     let g : (pre ++ record_bytes m) ++ post ≡ s = append_assoc pre (record_bytes m) post in
     let f : From s (end_of s (length pre)) ms = rw (e, ← g) (from_back ms p.1 (pre ++ record_bytes m)) in
     record {
-      shapes = both_hold _ _ (message_shaped_lem m p.0 pre post) f.shapes;
-      ranges = both_hold _ _ (ranged_here m w pre post) f.ranges;
+      shapes = and_from _ _ (message_shaped_lem m p.0 pre post) f.shapes;
+      ranges = and_from _ _ (ranged_here m w pre post) f.ranges;
       messages = λ i. record_here m w pre post i ∷ f.messages i;
     }
 

@@ -1,13 +1,9 @@
 -- The round trip: a record that is right, written anywhere in a buffer, is read as that same record. Rests on Right and format's round trip.
-use Rattle.std.specs.Prelude.{ℕ, ◌+◌, ◌/◌, ◌%◌, ◌≤◌, ◌<◌, ◌≡◌, Bool, not, ◌||◌, eqb, get_or, drop}
-use Rattle.std.proofs.Math.Path.{refl, sym, ap}
-use Rattle.std.proofs.Common.{◌∙◌, ⊎_elim, add_assoc, arith, lit<, get_or-append-add}
-use mathlib.Core.List.{List, [], ◌∷◌, ◌++◌, append_assoc}
-use Rattle.std.proofs.Math.Bool.{true, false}
-use borrow.Author.Tests.{eqb-true, le-leb, not-true}
-use Rattle.std.proofs.Math.ListN.{length, length-append}
+use Rattle.std.specs.Prelude.{ℕ, ◌+◌, ◌/◌, ◌%◌, ◌≤◌, ◌<◌, ◌≡◌, Bool, not, ◌||◌, eqb, get_or, drop, refl, List, [], ◌∷◌, ◌++◌, true, false, length}
+use Rattle.std.proofs.Common.{sym, ap, ◌∙◌, ⊎_elim, add_assoc, arith, lit<, get_or-append-add, append_assoc, eqb-true, le-leb, length-append}
 use Rattle.std.proofs.Math.Seq.{get_or-append_seam}
-use Rattle.prelude.specs.Cases.{if◌then◌otherwise◌, if_true, if_false, clash, both_hold, either_true}
+use Rattle.std.proofs.lemmas.Bool.{not-true, and_from, or_cases}
+use Rattle.prelude.specs.Cases.{if◌then◌otherwise◌, if_true, if_false, clash}
 use Rattle.prelude.specs.Below.{all_below, all_elim, all_intro}
 use Rattle.prelude.specs.Number.{number, bytes_of, bound, length_bytes}
 use Rattle.prelude.specs.Texts.{text_of}
@@ -43,7 +39,7 @@ text_bits P p2 p3 p4 p5 p6 p18 p20 p30 b h t =
     step 30 p30 (λ e30. clash (is_text_bit b) t (not-true _ e30)) e20) e18) e6) e5) e4) e3) e2) all
   where
     step : {x : Bool} (n : ℕ) → P n → (x ≡ true → P b) → (eqb b n || x) ≡ true → P b
-    step {x} n p k e = ⊎_elim (λ q. rw (eqb-true b n q) p) k (either_true (eqb b n) x e)
+    step {x} n p k e = ⊎_elim (λ q. rw (eqb-true b n q) p) k (or_cases (eqb b n) x e)
 
 -- a text's length is its number
 spelled_length : (r : Record) → Right r → (b : ℕ) → b < 32 → is_text_bit b ≡ true → length (spelled r.ids r.text b) ≡ get_or (numbers_of r) b 0
@@ -210,7 +206,7 @@ module _ (r : Record) (h : Right r) (pre post : List ℕ) where
       let n : length whole ≡ here + (length (record_bytes r) + length post) = length-append pre (record_bytes r ++ post) ∙ ap (λ (k : ℕ). here + k) (length-append (record_bytes r) post) in
       let e : end_of whole here ≤ length whole = omega (arith, end_here) in
       let f : here + 5 ≤ length whole = omega (arith, n, five) in
-      rw (le-leb (here + 5) (length whole) f, le-leb (end_of whole here) (length whole) e, map_here, kind_here) (both_hold _ true h.bits refl)
+      rw (le-leb (here + 5) (length whole) f, le-leb (end_of whole here) (length whole) e, map_here, kind_here) (and_from _ true h.bits refl)
     where
       five : 5 ≤ length (record_bytes r)
       five = omega (arith, length_of)
@@ -221,7 +217,7 @@ module _ (r : Record) (h : Right r) (pre post : List ℕ) where
   pub ranged_here : ranged whole here ≡ true
   unfolding ranged right_at
   ranged_here =
-      rw map_here (both_hold _ _ (all_intro (right_at whole here r.map) 32 each) (ap (name_in r.map) (ap (λ (x : Record). x.ids.name) fields_here) ∙ h.named))
+      rw map_here (and_from _ _ (all_intro (right_at whole here r.map) 32 each) (ap (name_in r.map) (ap (λ (x : Record). x.ids.name) fields_here) ∙ h.named))
     where
       each : (b : ℕ) → b < 32 → right_at whole here r.map b ≡ true
       each b l = go (bit r.map b) refl

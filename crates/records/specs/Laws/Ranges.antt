@@ -1,11 +1,8 @@
 -- What the book's proofs take from a record that is right: each field's range by name, and the bits of its kind. Rests on Right and Accepted.
-use Rattle.std.specs.Prelude.{ℕ, ◌+◌, ◌≤◌, ◌<◌, min, ◌≡◌, List, Bool, ◌&&◌, ◌||◌, leb, length, get_or}
-use Rattle.std.proofs.Math.Path.{refl}
-use Rattle.std.proofs.Common.{◌∙◌, arith, lit<}
-use Rattle.std.proofs.Math.Bool.{true, false}
-use borrow.Author.Tests.{leb-true, eq-eqb, le-leb, lt-ltb}
-use Rattle.std.proofs.Math.Dec.{eqb, ltb}
-use Rattle.prelude.specs.Cases.{if◌then◌otherwise◌, if_true, if_false, clash, both_true, both_hold}
+use Rattle.std.specs.Prelude.{ℕ, ◌+◌, ◌≤◌, ◌<◌, min, ◌≡◌, List, Bool, ◌&&◌, ◌||◌, leb, length, get_or, refl, true, false, eqb, ltb}
+use Rattle.std.proofs.Common.{◌∙◌, arith, lit<, leb-true, eq-eqb, le-leb, lt-ltb}
+use Rattle.std.proofs.lemmas.Bool.{and_parts, and_from}
+use Rattle.prelude.specs.Cases.{if◌then◌otherwise◌, if_true, if_false, clash}
 use Rattle.prelude.specs.Below.{all_intro}
 use Rattle.prelude.specs.Number.{bound, Bytes, bound_le}
 use Rattle.prelude.specs.declared.Text.{Text}
@@ -92,8 +89,8 @@ module _ (r : Record) (h : Right r) where
   pub stands : (b : ℕ) → bit (required r.kind) b ≡ true → bit r.map b ≡ true
   unfolding bits_right
   stands b e =
-      let p = both_true (is_kind r.kind) _ h.bits in
-      let q = both_true (contains r.map (required r.kind)) _ p.1 in
+      let p = and_parts (is_kind r.kind) _ h.bits in
+      let q = and_parts (contains r.map (required r.kind)) _ p.1 in
       contains_bit r.map (required r.kind) b q.0 e
 
   pub barred : (b : ℕ) → bit (required r.kind + allowed r.kind) b ≡ false → bit r.map b ≡ false
@@ -101,10 +98,10 @@ module _ (r : Record) (h : Right r) where
   barred b e = go (bit r.map b) refl
     where
       p : (is_kind r.kind ≡ true) × (contains r.map (required r.kind) && (contains (required r.kind + allowed r.kind) r.map && joined r.kind r.map) ≡ true)
-      p = both_true (is_kind r.kind) _ h.bits
+      p = and_parts (is_kind r.kind) _ h.bits
 
       q : contains (required r.kind + allowed r.kind) r.map ≡ true
-      q = (both_true (contains (required r.kind + allowed r.kind) r.map) _ (both_true (contains r.map (required r.kind)) _ p.1).1).0
+      q = (and_parts (contains (required r.kind + allowed r.kind) r.map) _ (and_parts (contains r.map (required r.kind)) _ p.1).1).0
 
       go : (x : Bool) → bit r.map b ≡ x → bit r.map b ≡ false
       go false f = f
@@ -113,35 +110,35 @@ module _ (r : Record) (h : Right r) where
   -- the facts make the test
   short_test : (t : Text) → RightText t → is_short t ≡ true
   unfolding is_short
-  short_test t w = both_hold _ _ (eq-eqb _ _ w.long) w.stored
+  short_test t w = and_from _ _ (eq-eqb _ _ w.long) w.stored
 
   long_test : (t : LongText) → RightLong t → is_long t ≡ true
   unfolding is_long
   long_test t w =
-      both_hold _ _ (eq-eqb _ _ w.long)
-      (both_hold _ _ (le-leb _ _ w.short) (all_intro (λ k. ltb k t.len || eqb (get_or t.bytes k 0) 0) 64 w.filled))
+      and_from _ _ (eq-eqb _ _ w.long)
+      (and_from _ _ (le-leb _ _ w.short) (all_intro (λ k. ltb k t.len || eqb (get_or t.bytes k 0) 0) 64 w.filled))
 
   pub test : is_record r ≡ true
   unfolding is_record texts_right price_right
   test =
-      both_hold _ _ h.bits
-      (both_hold _ _ (lt-ltb r.map (bound 4) h.map)
-      (both_hold _ _ (all_intro (field_right r) 32 each)
-      (both_hold _ _ h.named
-      (both_hold _ _
-      (both_hold _ _ (short_test _ h.name)
-      (both_hold _ _ (short_test _ h.clordid)
-      (both_hold _ _ (short_test _ h.origclordid)
-      (both_hold _ _ (short_test _ h.downstream)
-      (both_hold _ _ (short_test _ h.symbol)
-      (both_hold _ _ (short_test _ h.venueorderid) (both_hold _ _ (short_test _ h.origdownstream) (long_test _ h.text))))))))
-      (both_hold _ _ (eq-eqb (length r.told.fillprice) 2 h.two) (high (bit r.map 26) refl))))))
+      and_from _ _ h.bits
+      (and_from _ _ (lt-ltb r.map (bound 4) h.map)
+      (and_from _ _ (all_intro (field_right r) 32 each)
+      (and_from _ _ h.named
+      (and_from _ _
+      (and_from _ _ (short_test _ h.name)
+      (and_from _ _ (short_test _ h.clordid)
+      (and_from _ _ (short_test _ h.origclordid)
+      (and_from _ _ (short_test _ h.downstream)
+      (and_from _ _ (short_test _ h.symbol)
+      (and_from _ _ (short_test _ h.venueorderid) (and_from _ _ (short_test _ h.origdownstream) (long_test _ h.text))))))))
+      (and_from _ _ (eq-eqb (length r.told.fillprice) 2 h.two) (high (bit r.map 26) refl))))))
     where
       each : (b : ℕ) → b < 32 → field_right r b ≡ true
       each b l = go (bit r.map b) refl
         where
           go : (x : Bool) → bit r.map b ≡ x → field_right r b ≡ true
-          go true e = if_true (bit r.map b) _ _ e ∙ both_hold _ _ (h.range b l e) (lt-ltb (get_or (numbers_of r) b 0) (bound (min (size b) 8)) (h.fits b l e))
+          go true e = if_true (bit r.map b) _ _ e ∙ and_from _ _ (h.range b l e) (lt-ltb (get_or (numbers_of r) b 0) (bound (min (size b) 8)) (h.fits b l e))
           go false e = if_false (bit r.map b) _ _ e ∙ eq-eqb (get_or (numbers_of r) b 0) 0 (h.absent b l e)
 
       high : (x : Bool) → bit r.map 26 ≡ x → (if bit r.map 26 then ltb (high_of r) (bound 8) otherwise eqb (high_of r) 0) ≡ true
@@ -151,4 +148,4 @@ module _ (r : Record) (h : Right r) where
 -- an event that is taken
 pub event_facts : (s : List ℕ) → Bytes s → event_refusal s ≡ 0 → Right (event_in s)
 unfolding is_event
-event_facts s w e = right (event_in s) (both_true (is_record (event_in s)) (leb (event_in s).kind 9) (event_right s w e)).0
+event_facts s w e = right (event_in s) (and_parts (is_record (event_in s)) (leb (event_in s).kind 9) (event_right s w e)).0

@@ -1,13 +1,9 @@
 -- Laws by which what code reads is what the definitions say. Rests on Record and format's laws.
-use Rattle.std.specs.Prelude.{ℕ, suc, ◌+◌, ◌-◌, ◌≤◌, ◌<◌, min, List, [], ◌∷◌, Bool, leb, take, drop}
-use Rattle.std.proofs.Math.Path.{◌≡◌, refl, ap}
-use Rattle.std.proofs.Common.{◌∙◌, arith, lit<, length-take}
-use Rattle.std.proofs.Math.Bool.{true, false}
-use borrow.Author.Tests.{leb-true, le-leb, lt-leb, eq-eqb, ne_eqb}
-use Rattle.records.specs.declared.Shape.{Shape}
+use Rattle.std.specs.Prelude.{ℕ, suc, ◌+◌, ◌-◌, ◌≤◌, ◌<◌, min, List, [], ◌∷◌, Bool, eqb, leb, take, drop, ◌≡◌, refl, true, false, length, get_or}
+use Rattle.std.proofs.Common.{sym, ap, ◌∙◌, arith, lit<, length-take, leb-true, le-leb, eq-eqb, ne_eqb, length-drop}
+use Rattle.std.proofs.lemmas.Bool.{lt-leb, and_parts}
 use Rattle.records.specs.Laws.Seen.{Shapes, Scanned, Numbered, Short, Narrow, built_from}
-use Rattle.std.proofs.Math.ListN.{length, get_or, length-drop}
-use Rattle.prelude.specs.Cases.{if◌then◌otherwise◌, if_false, both_true}
+use Rattle.prelude.specs.Cases.{if◌then◌otherwise◌, if_false}
 use Rattle.prelude.specs.Below.{all_below, all_elim, all_ext}
 use Rattle.prelude.specs.Number.{number, bound, Bytes, number_bound, bound_le}
 use Rattle.prelude.specs.Texts.{text_of}
@@ -18,12 +14,13 @@ use Rattle.format.specs.Format.{size, range, fields, is_text_bit, in_range, bits
 use Rattle.format.specs.Places.{extent, start, strip, part, content, value, kind_at, map_at, end_of, shaped, right_at}
 use Rattle.format.specs.Laws.Seen.{Rising, between, held_at, right_in, rising, between_part, held_value, right_right}
 use Rattle.format.specs.Laws.Places.{start_up, start_on, start_off, length_part, content_off, length_number, value_none}
-use Rattle.records.specs.Fields.{long_of, record_of}
+use Rattle.records.specs.Fields.{long_of, record_of, blank}
+use Rattle.records.specs.declared.Record.{Record}
 use Rattle.records.specs.Record.{record_at, event_in}
-use Rattle.format.specs.Refusal.{ranged, event_refusal}
+use Rattle.format.specs.Refusal.{ranged, record_refusal, event_refusal}
 
 pub within_most : (a b v : ℕ) → within a b v ≡ true → v ≤ b
-within_most a b v e = leb-true v b (both_true (leb a v) (leb v b) e).1
+within_most a b v e = leb-true v b (and_parts (leb a v) (leb v b) e).1
 
 module _ (s : List ℕ) (o m : ℕ) (inside : start s o m 32 ≤ length s) where
   pub in_field : (b : ℕ) → b < 32 → start s o m (suc b) ≤ length s
@@ -167,6 +164,13 @@ module _ (s : List ℕ) (o m : ℕ) (at : List ℕ) (places : (k : ℕ) → k �
           text = long_of (drop 1 (p 20 (lit< tt) i));
         }
 
+  -- what a scan finds: the record's ranges and numbers
+  pub scan_right : all_below (right_in s m at) 32 ≡ all_below (right_at s o m) 32
+  scan_right = all_ext (right_in s m at) (right_at s o m) 32 (λ b l. right_right s o m at places inside b l)
+
+  pub scan_numbers : (n : List ℕ) → ((b : ℕ) → b < 32 → get_or n b 0 ≡ held_at s m at b) → (b : ℕ) → b < 32 → get_or n b 0 ≡ value b (content s o m b)
+  scan_numbers n h b l = h b l ∙ held_value s o m at places inside b l
+
 -- ---- what a record that has shape has
 
 pub record Whole (s : List ℕ) (o : ℕ) : Type 0 where
@@ -177,90 +181,126 @@ pub record Whole (s : List ℕ) (o : ℕ) : Type 0 where
 pub whole_of : (s : List ℕ) (o : ℕ) → shaped s o ≡ true → Whole s o
 unfolding shaped end_of
 whole_of s o e =
-    let p = both_true (leb (o + 5) (length s)) _ e in
-    let q = both_true (bits_right (kind_at s o) (map_at s o)) _ p.1 in
+    let p = and_parts (leb (o + 5) (length s)) _ e in
+    let q = and_parts (bits_right (kind_at s o) (map_at s o)) _ p.1 in
     record { long = leb-true _ _ p.0; right = q.0; inside = leb-true _ _ q.1 }
 
-module _ (s : List ℕ) (x : Shape) (h : Shapes s x) where
-  abbrev m : ℕ
-  m = map_at s x.start
+-- ---- the record at o by its refusal: where it ends, and what it is
 
-  pub whole_shape : Whole s x.start
-  whole_shape = whole_of s x.start h.is
+abbrev pub end_read : List ℕ → ℕ → ℕ
+end_read s o = if shaped s o then end_of s o otherwise 0
 
-  pub rising_shape : Rising s x.at
-  rising_shape = rising s x.start m x.at h.places whole_shape.inside
+abbrev pub record_read : List ℕ → ℕ → Record
+record_read s o = if eqb (record_refusal s o) 0 then record_at s o otherwise blank
 
-  pub end_shape : get_or x.at 32 0 ≡ end_of s x.start
-  unfolding end_of
-  end_shape = h.places 32 (omega arith)
+module _ (s : List ℕ) (o : ℕ) where
+  pub reads_3 : shaped s o ≡ false → (record_refusal s o ≡ 3) × (end_read s o ≡ 0) × (record_read s o ≡ blank)
+  unfolding record_refusal if◌then◌otherwise◌
+  reads_3 h = rw h (refl, refl, refl)
 
-  pub end_from : (o : ℕ) → x.start ≡ o → get_or x.at 32 0 ≡ end_of s o
-  end_from o e = end_shape ∙ ap (end_of s) e
+  pub reads_4 : shaped s o ≡ true → ranged s o ≡ false → (record_refusal s o ≡ 4) × (end_read s o ≡ end_of s o) × (record_read s o ≡ blank)
+  unfolding record_refusal if◌then◌otherwise◌
+  reads_4 h g = rw (h, g) (refl, refl, refl)
 
-  pub shaped_from_start : (o : ℕ) → x.start ≡ o → shaped s o ≡ true
-  shaped_from_start o e = rw e at h.is
+  pub reads_0 : shaped s o ≡ true → ranged s o ≡ true → (record_refusal s o ≡ 0) × (end_read s o ≡ end_of s o) × (record_read s o ≡ record_at s o)
+  unfolding record_refusal if◌then◌otherwise◌
+  reads_0 h g = rw (h, g) (refl, refl, refl)
+
+  -- it has shape or not, and its end
+  pub read_shape : (record_refusal s o ≡ 3 → ⊥) → shaped s o ≡ true
+  unfolding record_refusal if◌then◌otherwise◌
+  read_shape n = go (shaped s o) refl
+    where
+      go : (x : Bool) → shaped s o ≡ x → shaped s o ≡ true
+      go true e = e
+      go false e = absurd (n (rw e refl))
+
+  pub read_end : shaped s o ≡ true → end_read s o ≡ end_of s o
+  unfolding if◌then◌otherwise◌
+  read_end e = rw e refl
+
+  pub read_none : record_refusal s o ≡ 3 → shaped s o ≡ false
+  unfolding record_refusal if◌then◌otherwise◌
+  read_none n = go (shaped s o) refl (ranged s o) refl
+    where
+      go : (x : Bool) → shaped s o ≡ x → (y : Bool) → ranged s o ≡ y → shaped s o ≡ false
+      go true e true f = let z : ◌≡◌ {A = ℕ} 3 0 = sym n ∙ (rw (e, f) refl) in absurd (omega arith)
+      go true e false f = let z : ◌≡◌ {A = ℕ} 3 4 = sym n ∙ (rw (e, f) refl) in absurd (omega arith)
+      go false e y f = e
+
+-- ---- the shape of a record as code holds it
+
+module _ {s : List ℕ} {o m : ℕ} {at : List ℕ} (h : Shapes s o m at) where
+  pub whole_shape : Whole s o
+  whole_shape = whole_of s o h.is
+
+  pub rising_shape : Rising s at
+  rising_shape = rising s o (map_at s o) at h.places whole_shape.inside
 
   -- what stands between two places is the field
-  part_shape : (b : ℕ) → b < 32 → between s x.at b ≡ part s x.start m b
-  part_shape = between_part s x.start m x.at h.places whole_shape.inside
+  part_shape : (b : ℕ) → b < 32 → between s at b ≡ part s o (map_at s o) b
+  part_shape = between_part s o (map_at s o) at h.places whole_shape.inside
 
-  pub name_shape : drop 1 (between s x.at 2) ≡ content s x.start m 2
+  pub name_shape : drop 1 (between s at 2) ≡ content s o (map_at s o) 2
   unfolding content strip size fields if◌then◌otherwise◌
   name_shape = ap (drop 1) (part_shape 2 (lit< tt))
 
-  pub high_shape : between s x.at 26 ≡ content s x.start m 26
+  pub high_shape : between s at 26 ≡ content s o (map_at s o) 26
   unfolding content strip size fields if◌then◌otherwise◌
   high_shape = part_shape 26 (lit< tt)
 
   -- the ranges and the numbers that a scan finds are the record's
-  pub ranges_shape : all_below (right_in s x.map x.at) 32 ≡ all_below (right_at s x.start m) 32
+  pub ranges_shape : all_below (right_in s m at) 32 ≡ all_below (right_at s o (map_at s o)) 32
   ranges_shape =
-      ap (λ (k : ℕ). all_below (right_in s k x.at) 32) h.map
-      ∙ all_ext (right_in s m x.at) (right_at s x.start m) 32 (λ b l. right_right s x.start m x.at h.places whole_shape.inside b l)
+      ap (λ (k : ℕ). all_below (right_in s k at) 32) h.map ∙ scan_right s o (map_at s o) at h.places whole_shape.inside
 
-  pub numbers_shape : (n : List ℕ) → Scanned s x n → (b : ℕ) → b < 32 → get_or n b 0 ≡ value b (content s x.start m b)
-  numbers_shape n g b l =
-      g.numbers b l ∙ ap (λ (k : ℕ). held_at s k x.at b) h.map ∙ held_value s x.start m x.at h.places whole_shape.inside b l
+  pub numbers_shape : (n : List ℕ) → Scanned s m at n → (b : ℕ) → b < 32 → get_or n b 0 ≡ value b (content s o (map_at s o) b)
+  numbers_shape n g =
+      scan_numbers s o (map_at s o) at h.places whole_shape.inside n (λ b l. g.numbers b l ∙ ap (λ (k : ℕ). held_at s k at b) h.map)
 
-  pub short_shape : all_below (right_at s x.start m) 32 ≡ true → Short x.at
-  short_shape = short_of s x.start m x.at h.places whole_shape.inside
+  pub short_shape : all_below (right_at s o (map_at s o)) 32 ≡ true → Short at
+  short_shape = short_of s o (map_at s o) at h.places whole_shape.inside
 
-  module _ (n : List ℕ) (g : Numbered s x n) where
-    pub short_numbered : Short x.at
+  module _ (n : List ℕ) (g : Numbered s o n) where
+    pub short_numbered : Short at
     unfolding ranged
-    short_numbered = short_shape (both_true (all_below (right_at s x.start m) 32) _ g.right).0
+    short_numbered = short_shape (and_parts (all_below (right_at s o (map_at s o)) 32) _ g.right).0
 
     pub narrow_numbered : Bytes s → Narrow n
-    narrow_numbered = narrow_of s x.start m x.at h.places whole_shape.inside n g.numbers
+    narrow_numbered = narrow_of s o (map_at s o) at h.places whole_shape.inside n g.numbers
 
-    pub built_numbered : built_from s (kind_at s x.start) x.map x.at n ≡ record_at s x.start
+    pub built_numbered : built_from s (kind_at s o) m at n ≡ record_at s o
     unfolding record_at
     built_numbered =
-        ap (λ (k : ℕ). built_from s (kind_at s x.start) k x.at n) h.map
-        ∙ built_record s x.start m x.at h.places whole_shape.inside n g.numbers (kind_at s x.start)
+        ap (λ (k : ℕ). built_from s (kind_at s o) k at n) h.map
+        ∙ built_record s o (map_at s o) at h.places whole_shape.inside n g.numbers (kind_at s o)
 
 -- ---- events
 
 module _ (s : List ℕ) where
-  pub event_shape : shaped s 0 ≡ false → event_refusal s ≡ 3
-  unfolding event_refusal if◌then◌otherwise◌
-  event_shape e = rw e refl
+  pub event_shape : shaped s 0 ≡ false → (event_refusal s ≡ 3) × (event_in s ≡ blank)
+  unfolding event_refusal event_in if◌then◌otherwise◌
+  event_shape e = rw e (refl, refl)
 
-  pub event_kind : shaped s 0 ≡ true → 9 < kind_at s 0 → event_refusal s ≡ 3
-  unfolding event_refusal if◌then◌otherwise◌
-  event_kind e h = rw (e, lt-leb (kind_at s 0) 9 h) refl
+  pub event_kind : shaped s 0 ≡ true → 9 < kind_at s 0 → (event_refusal s ≡ 3) × (event_in s ≡ blank)
+  unfolding event_refusal event_in if◌then◌otherwise◌
+  event_kind e h = rw (e, lt-leb (kind_at s 0) 9 h) (refl, refl)
 
   module _ (e : shaped s 0 ≡ true) (k : kind_at s 0 ≤ 9) where
-    pub event_over : (end_of s 0 ≡ length s → ⊥) → event_refusal s ≡ 3
-    unfolding event_refusal if◌then◌otherwise◌
-    event_over n = rw (e, le-leb (kind_at s 0) 9 k, ne_eqb (end_of s 0) (length s) n) refl
+    pub event_over : (end_of s 0 ≡ length s → ⊥) → (event_refusal s ≡ 3) × (event_in s ≡ blank)
+    unfolding event_refusal event_in if◌then◌otherwise◌
+    event_over n = rw (e, le-leb (kind_at s 0) 9 k, ne_eqb (end_of s 0) (length s) n) (refl, refl)
 
     module _ (n : end_of s 0 ≡ length s) where
-      pub event_range : ranged s 0 ≡ false → event_refusal s ≡ 4
-      unfolding event_refusal if◌then◌otherwise◌
-      event_range r = rw (e, le-leb (kind_at s 0) 9 k, eq-eqb (end_of s 0) (length s) n, r) refl
+      -- an event is read as a record is
+      pub event_taken : (record_refusal s 0 ≡ event_refusal s) × (record_read s 0 ≡ event_in s)
+      unfolding event_refusal event_in record_refusal if◌then◌otherwise◌
+      event_taken = rw (e, le-leb (kind_at s 0) 9 k, eq-eqb (end_of s 0) (length s) n) (refl, refl)
 
-      pub event_taken : ranged s 0 ≡ true → (event_refusal s ≡ 0) × (record_at s 0 ≡ event_in s)
+      pub event_range : ranged s 0 ≡ false → (event_refusal s ≡ 4) × (event_in s ≡ blank)
       unfolding event_refusal event_in if◌then◌otherwise◌
-      event_taken r = rw (e, le-leb (kind_at s 0) 9 k, eq-eqb (end_of s 0) (length s) n, r) (refl, refl)
+      event_range r = rw (e, le-leb (kind_at s 0) 9 k, eq-eqb (end_of s 0) (length s) n, r) (refl, refl)
+
+      pub event_read : ranged s 0 ≡ true → (event_refusal s ≡ 0) × (record_at s 0 ≡ event_in s)
+      unfolding event_refusal event_in if◌then◌otherwise◌
+      event_read r = rw (e, le-leb (kind_at s 0) 9 k, eq-eqb (end_of s 0) (length s) n, r) (refl, refl)

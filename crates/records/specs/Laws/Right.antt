@@ -1,14 +1,11 @@
 -- What a record that is right has, fact by fact, and its texts and numbers as they come back from their bytes. Rests on Record.
-use Rattle.std.specs.Prelude.{ℕ, ◌+◌, ◌-◌, ◌≤◌, ◌<◌, min, ◌≡◌, refl, true, false, ◌||◌, eqb, leb, ltb, get_or, drop}
-use Rattle.std.proofs.Common.{sym, ◌∙◌, ⊎_elim, arith, length-append, take_at, drop_at, ext_get_or, get_or-take, get_or-append-add}
-use Rattle.std.proofs.Math.Path.{ap}
-use mathlib.Core.List.{List, [], ◌∷◌, ◌++◌, append-nil}
+use Rattle.std.specs.Prelude.{ℕ, ◌+◌, ◌-◌, ◌≤◌, ◌<◌, min, ◌≡◌, refl, true, false, ◌||◌, eqb, leb, ltb, get_or, drop, List, [], ◌∷◌, ◌++◌, length, take, replicate}
+use Rattle.std.proofs.Common.{sym, ◌∙◌, ⊎_elim, arith, length-append, take_at, drop_at, ext_get_or, get_or-take, get_or-append-add, ap, append-nil, eqb-true, leb-true, ltb-true, length-take, take_all, length-take-le}
 use Rattle.std.proofs.Math.Decide.{dec_lt, dec_le}
-use borrow.Author.Tests.{eqb-true, leb-true, ltb-true}
-use Rattle.std.proofs.Math.ListN.{length, take, replicate, length-take, get_or-append}
+use Rattle.std.proofs.Math.ListN.{get_or-append}
+use Rattle.std.proofs.lemmas.Bool.{and_parts, or_cases}
 use Rattle.std.proofs.lemmas.List.{length-replicate, get_or-replicate}
-use Rattle.std.proofs.Math.Seq.{take_all, length-take-le}
-use Rattle.prelude.specs.Cases.{if◌then◌otherwise◌, both_true, either_true}
+use Rattle.prelude.specs.Cases.{if◌then◌otherwise◌}
 use Rattle.prelude.specs.Below.{all_below, all_elim}
 use Rattle.prelude.specs.Number.{number, bytes_of, bound, length_bytes, number_bytes}
 use Rattle.prelude.specs.Texts.{contents, text_of, is_text, text_contents}
@@ -56,25 +53,25 @@ pub record Right (r : Record) : Type 0 where
 right_text : (t : Text) → is_short t ≡ true → RightText t
 unfolding is_short is_text
 right_text t e =
-    let p = both_true (eqb (length t.bytes) 32) _ e in
+    let p = and_parts (eqb (length t.bytes) 32) _ e in
     record {
       long = eqb-true _ _ p.0;
-      short = leb-true _ _ (both_true (leb t.len 32) _ p.1).0;
+      short = leb-true _ _ (and_parts (leb t.len 32) _ p.1).0;
       stored = p.1;
     }
 
 right_long : (t : LongText) → is_long t ≡ true → RightLong t
 unfolding is_long
 right_long t e =
-    let p = both_true (eqb (length t.bytes) 64) _ e in
-    let q = both_true (leb t.len 64) _ p.1 in
+    let p = and_parts (eqb (length t.bytes) 64) _ e in
+    let q = and_parts (leb t.len 64) _ p.1 in
     record { long = eqb-true _ _ p.0; short = leb-true _ _ q.0; filled = all_elim (λ k. ltb k t.len || eqb (get_or t.bytes k 0) 0) 64 q.1 }
 
 module _ (r : Record) (b : ℕ) (h : field_right r b ≡ true) where
   field_on : bit r.map b ≡ true → (in_range (range b) (get_or (numbers_of r) b 0) ≡ true) × (get_or (numbers_of r) b 0 < bound (min (size b) 8))
   unfolding if◌then◌otherwise◌
   field_on e =
-      let p = both_true (in_range (range b) (get_or (numbers_of r) b 0)) _ (rw e at h) in
+      let p = and_parts (in_range (range b) (get_or (numbers_of r) b 0)) _ (rw e at h) in
       (p.0, ltb-true _ _ p.1)
 
   field_off : bit r.map b ≡ false → get_or (numbers_of r) b 0 ≡ 0
@@ -84,19 +81,19 @@ module _ (r : Record) (b : ℕ) (h : field_right r b ≡ true) where
 pub right : (r : Record) → is_record r ≡ true → Right r
 unfolding is_record texts_right price_right if◌then◌otherwise◌
 right r e =
-    let a = both_true (bits_right r.kind r.map) _ e in
-    let b = both_true (ltb r.map (bound 4)) _ a.1 in
-    let c = both_true (all_below (field_right r) 32) _ b.1 in
-    let d = both_true (name_in r.map r.ids.name) _ c.1 in
-    let f = both_true (texts_right r) (price_right r) d.1 in
-    let t1 = both_true (is_short r.ids.name) _ f.0 in
-    let t2 = both_true (is_short r.ids.clordid) _ t1.1 in
-    let t3 = both_true (is_short r.ids.origclordid) _ t2.1 in
-    let t4 = both_true (is_short r.ids.downstream) _ t3.1 in
-    let t5 = both_true (is_short r.ids.symbol) _ t4.1 in
-    let t6 = both_true (is_short r.ids.venueorderid) _ t5.1 in
-    let t7 = both_true (is_short r.ids.origdownstream) _ t6.1 in
-    let p = both_true (eqb (length r.told.fillprice) 2) _ f.1 in
+    let a = and_parts (bits_right r.kind r.map) _ e in
+    let b = and_parts (ltb r.map (bound 4)) _ a.1 in
+    let c = and_parts (all_below (field_right r) 32) _ b.1 in
+    let d = and_parts (name_in r.map r.ids.name) _ c.1 in
+    let f = and_parts (texts_right r) (price_right r) d.1 in
+    let t1 = and_parts (is_short r.ids.name) _ f.0 in
+    let t2 = and_parts (is_short r.ids.clordid) _ t1.1 in
+    let t3 = and_parts (is_short r.ids.origclordid) _ t2.1 in
+    let t4 = and_parts (is_short r.ids.downstream) _ t3.1 in
+    let t5 = and_parts (is_short r.ids.symbol) _ t4.1 in
+    let t6 = and_parts (is_short r.ids.venueorderid) _ t5.1 in
+    let t7 = and_parts (is_short r.ids.origdownstream) _ t6.1 in
+    let p = and_parts (eqb (length r.told.fillprice) 2) _ f.1 in
     let each : (k : ℕ) → k < 32 → field_right r k ≡ true = all_elim (field_right r) 32 c.0 in
     record {
       bits = a.0;
@@ -156,7 +153,7 @@ refilled n len l long short f =
         let d : ℕ = k - len in
         let e : k ≡ length (take len l) + d = omega (arith, q) in
         let z : get_or l k 0 ≡ 0 =
-        ⊎_elim (λ w. absurd (p (ltb-true k len w))) (λ w. eqb-true (get_or l k 0) 0 w) (either_true (ltb k len) (eqb (get_or l k 0) 0) (f k u)) in
+        ⊎_elim (λ w. absurd (p (ltb-true k len w))) (λ w. eqb-true (get_or l k 0) 0 w) (or_cases (ltb k len) (eqb (get_or l k 0) 0) (f k u)) in
         get_or-take n (take len l ++ replicate n 0) k 0 u
         ∙ ap (λ (i : ℕ). get_or (take len l ++ replicate n 0) i 0) e
         ∙ get_or-append-add (take len l) (replicate n 0) d 0

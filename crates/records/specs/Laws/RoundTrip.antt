@@ -1,13 +1,8 @@
 -- The round trip, put together. Rests on Back, AnswerBack, Accepted and Writing.
-use Rattle.std.specs.Prelude.{ℕ, ◌+◌, ◌≡◌}
-use Rattle.std.proofs.Math.Path.{refl, ap}
-use Rattle.std.proofs.Common.{subst, ◌∙◌, arith}
-use mathlib.Core.List.{List, [], ◌++◌, append-nil}
-use Rattle.std.proofs.Math.Bool.{true}
-use borrow.Author.Tests.{eq-eqb}
-use Rattle.std.proofs.Math.Dec.{eqb, leb}
-use Rattle.std.proofs.Math.ListN.{length}
-use Rattle.prelude.specs.Cases.{if◌then◌otherwise◌, both_true}
+use Rattle.std.specs.Prelude.{ℕ, ◌+◌, ◌≡◌, refl, List, [], ◌++◌, true, eqb, leb, length}
+use Rattle.std.proofs.Common.{ap, subst, ◌∙◌, arith, append-nil, eq-eqb}
+use Rattle.std.proofs.lemmas.Bool.{and_parts}
+use Rattle.prelude.specs.Cases.{if◌then◌otherwise◌}
 use Rattle.format.specs.Places.{kind_at, end_of, shaped}
 use Rattle.format.specs.Refusal.{ranged, event_refusal}
 use Rattle.records.specs.declared.Record.{Record}
@@ -22,7 +17,7 @@ use Rattle.records.specs.Laws.Accepted.{message_right, message_writing, event_ri
 module _ (r : Record) (ok : is_event r ≡ true) where
   parts : (is_record r ≡ true) × (leb r.kind 9 ≡ true)
   unfolding is_event
-  parts = both_true (is_record r) (leb r.kind 9) ok
+  parts = and_parts (is_record r) (leb r.kind 9) ok
 
   is_right : Right r
   is_right = right r parts.0

@@ -11,7 +11,6 @@ use Rattle.format.specs.Places.{start, strip, content, value, map_at, shaped}
 use Rattle.format.specs.Refusal.{refusal_by, ranged}
 use Rattle.records.specs.declared.Messages.{Messages}
 use Rattle.records.specs.declared.Record.{Record}
-use Rattle.records.specs.declared.Shape.{Shape}
 use Rattle.records.specs.Answer.{head_size, messages_of, messages_from, shaped_from, ranged_from}
 use Rattle.records.specs.Fields.{record_from, ids_of, long_of}
 
@@ -63,21 +62,21 @@ built_from s k m at n = record_from k m n (number (drop 8 (between s at 26))) (i
 
 -- ---- records
 
--- the shape of a record that has one
-pub record Shapes (s : List ℕ) (r : Shape) : Type 0 where
-  pub is : shaped s r.start ≡ true
-  pub map : r.map ≡ map_at s r.start
-  pub places : (k : ℕ) → k ≤ 32 → get_or r.at k 0 ≡ start s r.start (map_at s r.start) k
+-- the map and the places of a record that has shape
+pub record Shapes (s : List ℕ) (o m : ℕ) (at : List ℕ) : Type 0 where
+  pub is : shaped s o ≡ true
+  pub map : m ≡ map_at s o
+  pub places : (k : ℕ) → k ≤ 32 → get_or at k 0 ≡ start s o (map_at s o) k
 
 -- the numbers of its fields, each in its range
-pub record Scanned (s : List ℕ) (r : Shape) (n : List ℕ) : Type 0 where
-  pub right : all_below (right_in s r.map r.at) 32 ≡ true
-  pub numbers : (b : ℕ) → b < 32 → get_or n b 0 ≡ held_at s r.map r.at b
+pub record Scanned (s : List ℕ) (m : ℕ) (at n : List ℕ) : Type 0 where
+  pub right : all_below (right_in s m at) 32 ≡ true
+  pub numbers : (b : ℕ) → b < 32 → get_or n b 0 ≡ held_at s m at b
 
 -- and the name is one
-pub record Numbered (s : List ℕ) (r : Shape) (n : List ℕ) : Type 0 where
-  pub right : ranged s r.start ≡ true
-  pub numbers : (b : ℕ) → b < 32 → get_or n b 0 ≡ value b (content s r.start (map_at s r.start) b)
+pub record Numbered (s : List ℕ) (o : ℕ) (n : List ℕ) : Type 0 where
+  pub right : ranged s o ≡ true
+  pub numbers : (b : ℕ) → b < 32 → get_or n b 0 ≡ value b (content s o (map_at s o) b)
 
 -- ---- messages: n of them that fill s behind the head
 

@@ -1,10 +1,7 @@
 -- Laws by which what code writes is what the definitions say, and the most that a record takes. Rests on Record and Answer.
-use Rattle.std.specs.Prelude.{ℕ, zero, suc, ◌+◌, ◌*◌, ◌-◌, ◌≤◌, ◌<◌, min, ◌≡◌, List, [], ◌∷◌, ◌++◌, Bool, true, false, eqb, length, get_or, take, set}
-use Rattle.std.proofs.Math.Path.{refl, ap}
-use Rattle.std.proofs.Common.{sym, ◌∙◌, append-nil, length-append, length-take}
+use Rattle.std.specs.Prelude.{ℕ, zero, suc, ◌+◌, ◌*◌, ◌-◌, ◌≤◌, ◌<◌, min, ◌≡◌, List, [], ◌∷◌, ◌++◌, Bool, true, false, eqb, length, get_or, take, set, refl}
+use Rattle.std.proofs.Common.{ap, sym, ◌∙◌, append-nil, length-append, length-take, take_all, take-take, length-take-le, arith, eq-eqb, ne_eqb}
 use Rattle.std.proofs.Math.Nat.{min-eq_left, min-eq_right}
-use native.Mathlib.Omega.{arith}
-use borrow.Author.Tests.{eq-eqb, ne_eqb}
 use Rattle.prelude.specs.Cases.{if◌then◌otherwise◌, if_false}
 use Rattle.prelude.specs.Span.{splice, splice_append, splice_before, set_splice}
 use Rattle.prelude.specs.Number.{bytes_of, length_bytes}
@@ -18,6 +15,23 @@ use Rattle.records.specs.declared.Record.{Record}
 use Rattle.records.specs.Fields.{numbers_of, high_of, text_by, short_bytes, long_bytes, spelled, words, held_by, held}
 use Rattle.records.specs.Record.{record_bytes}
 use Rattle.records.specs.Answer.{head_size, most_record, most_answer, messages_bytes, head_bytes, answer_bytes}
+
+-- ---- texts in their room
+
+pub record Cut (n len : ℕ) (l w : List ℕ) (k : ℕ) : Type 0 where
+  pub is : w ≡ take k l
+  pub long : length w ≡ k
+
+pub cut_fits : (n len : ℕ) (l : List ℕ) → length l ≡ n → len ≤ n → Cut n len l (take n (take len l)) len
+cut_fits n len l e h =
+    let k : length (take len l) ≡ len = length-take-le len l (omega arith) in
+    let q : take n (take len l) ≡ take len l = take_all n (take len l) (omega arith) in
+    record { is = q; long = ap length q ∙ k }
+
+pub cut_over : (n len : ℕ) (l : List ℕ) → length l ≡ n → n < len → Cut n len l (take n (take len l)) n
+cut_over n len l e h =
+    let q : take n (take len l) ≡ take n l = take-take n len l (omega arith) in
+    record { is = q; long = ap length q ∙ length-take-le n l (omega arith) }
 
 -- ---- a field by its bit
 

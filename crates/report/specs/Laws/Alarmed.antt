@@ -1,8 +1,5 @@
 -- An alarm may be raised before a report's requests are answered and its message is told, or after. Rests on machine's Report.
-use Rattle.std.specs.Prelude.{ℕ, ◌≡◌, true, false, ◌&&◌}
-use Rattle.std.proofs.Math.Path.{refl}
-use Rattle.std.proofs.Math.Bool.{Bool}
-use Rattle.std.proofs.Math.Dec.{eqb}
+use Rattle.std.specs.Prelude.{ℕ, ◌≡◌, true, false, ◌&&◌, refl, Bool, eqb}
 use Rattle.prelude.specs.Cases.{if◌then◌otherwise◌}
 use Rattle.format.specs.Codes.{canceled}
 use Rattle.store.specs.declared.Order.{Order}

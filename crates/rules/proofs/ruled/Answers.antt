@@ -1,6 +1,6 @@
 -- `ruled` meets its contract: the length, the counts, then the rules. Rests on Ruled.
 use Rattle.std.proofs.Common.{◌≡◌, sym, ◌∙◌, eq-eqb, ne_eqb, le-leb}
-use borrow.Author.Tests.{lt-leb}
+use Rattle.std.proofs.lemmas.Bool.{lt-leb}
 use Rattle.prelude.specs.Number.{word16}
 use Rattle.store.specs.Layout.{header·orders, header·requests}
 use Rattle.rules.specs.Ruled.{ruled_of}

@@ -1,13 +1,12 @@
 -- The rules on the book's bytes, and that they are the rules of the book that the bytes are. Rests on machine's Rules and store's Laws.
 -- n is how many orders are in use, m how many requests.
-use Rattle.std.specs.Prelude.{◌≡◌, ℕ, ◌+◌, ◌-◌, ◌<◌, ◌≤◌, Bool, true, false, not, ◌&&◌, ◌||◌, List, ◌==◌, nat_eq, nat_le, nat_lt, slice_index}
-use Rattle.std.proofs.Math.Path.{refl}
-use Rattle.std.proofs.Common.{ap, ◌∙◌, arith}
+use Rattle.std.specs.Prelude.{◌≡◌, ℕ, ◌+◌, ◌-◌, ◌<◌, ◌≤◌, Bool, true, false, not, ◌&&◌, ◌||◌, List, ◌==◌, nat_eq, nat_le, nat_lt, slice_index, refl}
+use Rattle.std.proofs.Common.{ap, ◌∙◌, arith, ltb-true, leb-true, lt-ltb, le-ltb, le-leb, eqb-true}
 use Rattle.std.proofs.Math.Bool.{and_assoc}
+use Rattle.std.proofs.lemmas.Bool.{lt-leb, eqb-false, and_parts}
 use Rattle.std.specs.Bool.{beq}
-use borrow.Author.Tests.{ltb-true, leb-true, lt-ltb, le-ltb, le-leb, lt-leb, eqb-true, eqb-false}
 use Rattle.prelude.specs.Below.{all_below, count_below, all_ext, all_elim, count_ext}
-use Rattle.prelude.specs.Cases.{if◌then◌otherwise◌, clash, both_true}
+use Rattle.prelude.specs.Cases.{if◌then◌otherwise◌, clash}
 use Rattle.prelude.specs.Texts.{same_text, filled_at, is_text}
 use Rattle.prelude.specs.declared.Text.{Text}
 use Rattle.store.specs.declared.Order.{Order}
@@ -59,8 +58,8 @@ links_of b m i = links_at b m (count_below (of_order_at b i) m) i
 pub own_link : (b : List ℕ) (m i link : ℕ) → own_at b m i link ≡ true → (0 < link) × (link ≤ m)
 unfolding own_at
 own_link b m i link e =
-    let s = both_true (nat_lt 0 link && nat_le link m) ((request_at b (link - 1)).order == i) e in
-    let u = both_true (nat_lt 0 link) (nat_le link m) s.0 in
+    let s = and_parts (nat_lt 0 link && nat_le link m) ((request_at b (link - 1)).order == i) e in
+    let u = and_parts (nat_lt 0 link) (nat_le link m) s.0 in
     (ltb-true 0 link u.0, leb-true link m u.1)
 
 -- ---- requests
@@ -216,7 +215,7 @@ module _ (b : List ℕ) where
   -- each of the first m requests is of a booked order
   pub booked : (n m : ℕ) → all_below (request_rule_at b n) m ≡ true → (j : ℕ) → j < m → (request_at b j).order < n
   unfolding request_rule_at
-  booked n m e j h = ltb-true _ _ (both_true _ _ (all_elim (request_rule_at b n) m e j h)).0
+  booked n m e j h = ltb-true _ _ (and_parts _ _ (all_elim (request_rule_at b n) m e j h)).0
 
   module _ (e : all_below (request_rule_at b (order_count b)) (request_count b) ≡ true) where
     client_here : (j : ℕ) → j < request_count b → client_of (book_of b) j ≡ client_at b j

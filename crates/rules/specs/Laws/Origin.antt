@@ -1,12 +1,12 @@
 -- A request's fields as they are decided in one pass: an OrigClOrdID that is there needs no range of its own, since the ClOrdID that it is the same as is in
 -- range. Rests on Beside and Here.
 use Rattle.std.specs.Prelude.{◌≡◌, ℕ, ◌+◌, ◌-◌, ◌<◌, Bool, true, false, ◌&&◌, ◌||◌, List, length, ◌==◌, nat_le, nat_lt, refl}
-use Rattle.std.proofs.Common.{sym, ◌∙◌, arith}
-use Rattle.std.proofs.Math.Path.{ap, subst}
+use Rattle.std.proofs.Common.{sym, ◌∙◌, arith, ap, subst, eq-eqb, ne_eqb, ltb-true, leb-true}
+use Rattle.std.proofs.Math.Bool.{and-false}
+use Rattle.std.proofs.lemmas.Bool.{and_parts}
 use Rattle.std.specs.Bool.{beq}
-use borrow.Author.Tests.{eq-eqb, ne_eqb, ltb-true, leb-true}
 use Rattle.prelude.specs.Below.{count_below}
-use Rattle.prelude.specs.Cases.{if◌then◌otherwise◌, both_true, both_false}
+use Rattle.prelude.specs.Cases.{if◌then◌otherwise◌}
 use Rattle.prelude.specs.Span.{length_span}
 use Rattle.prelude.specs.Texts.{is_text, same_text, same_text_lem}
 use Rattle.prelude.specs.declared.Text.{Text}
@@ -38,7 +38,7 @@ origin_here b k =
 
 regroup : (f r n i u l : Bool) → f && r && n && i && (u && l) ≡ f && n && i && (u && (r && l))
 regroup false r n i u l = refl
-regroup true false n i u l = sym (ap (λ (v : Bool). n && i && v) (both_false u) ∙ both_false (n && i))
+regroup true false n i u l = sym (ap (λ (v : Bool). n && i && v) (and-false u) ∙ and-false (n && i))
 regroup true true false i u l = refl
 regroup true true true false u l = refl
 regroup true true true true u l = refl
@@ -88,21 +88,21 @@ unfolding request_rule_at request_here request_range
 pass_text b n i e =
     let q : Request = request_at b i in
     let k : ℕ = count_below (of_order_at b q.order) i in
-    let p = (both_true (request_rule_at b n i) (beside_at b i) e).0 in
-    let h = (both_true (nat_lt q.order n) (request_here b i q.order k) p).1 in
-    let x = (both_true (request_range q && number_rule (order_at b q.order).names.name k q) (in_flight_rule (i + 1) q (order_at b q.order)) h).0 in
-    let r = (both_true (request_range q) (number_rule (order_at b q.order).names.name k q) x).0 in
-    let y = (both_true (nat_le q.kind 3 && nat_le q.answered 1 && or_absent (is_gateway q) q.clordid) (or_absent (is_first q || is_gateway q) q.origclordid) r).0 in
-    let c = (both_true (nat_le q.kind 3 && nat_le q.answered 1) (or_absent (is_gateway q) q.clordid) y).1 in
-    (both_true (is_text q.clordid) (beq (q.clordid.len == 0) (is_gateway q)) (optional_text q.clordid (is_gateway q) ∙ c)).0
+    let p = (and_parts (request_rule_at b n i) (beside_at b i) e).0 in
+    let h = (and_parts (nat_lt q.order n) (request_here b i q.order k) p).1 in
+    let x = (and_parts (request_range q && number_rule (order_at b q.order).names.name k q) (in_flight_rule (i + 1) q (order_at b q.order)) h).0 in
+    let r = (and_parts (request_range q) (number_rule (order_at b q.order).names.name k q) x).0 in
+    let y = (and_parts (nat_le q.kind 3 && nat_le q.answered 1 && or_absent (is_gateway q) q.clordid) (or_absent (is_first q || is_gateway q) q.origclordid) r).0 in
+    let c = (and_parts (nat_le q.kind 3 && nat_le q.answered 1) (or_absent (is_gateway q) q.clordid) y).1 in
+    (and_parts (is_text q.clordid) (beq (q.clordid.len == 0) (is_gateway q)) (optional_text q.clordid (is_gateway q) ∙ c)).0
 
 module _ (b : List ℕ) (l : length b ≡ book_size) where
   pub linked_text : (k link : ℕ) → k < most_requests → ((i : ℕ) → i < k → is_text (request_at b i).clordid ≡ true) → link_at b k link ≡ true
       → is_text (request_at b k).origclordid ≡ true
   unfolding link_at
   linked_text k link h texts e =
-      let s = both_true (nat_lt 0 link && nat_le link k && (request_at b (link - 1)).order == (request_at b k).order) (same_text (request_at b (link - 1)).clordid (request_at b k).origclordid) e in
-      let u = both_true (nat_lt 0 link) (nat_le link k) (both_true (nat_lt 0 link && nat_le link k) ((request_at b (link - 1)).order == (request_at b k).order) s.0).0 in
+      let s = and_parts (nat_lt 0 link && nat_le link k && (request_at b (link - 1)).order == (request_at b k).order) (same_text (request_at b (link - 1)).clordid (request_at b k).origclordid) e in
+      let u = and_parts (nat_lt 0 link) (nat_le link k) (and_parts (nat_lt 0 link && nat_le link k) ((request_at b (link - 1)).order == (request_at b k).order) s.0).0 in
       let i : link - 1 < k = omega (arith, ltb-true 0 link u.0, leb-true link k u.1) in
       let x : length (request_at b (link - 1)).clordid.bytes ≡ 32 =
       ap (λ (t : Text). length t.bytes) (request_clordid b (link - 1)) ∙ length_span b (request_base (link - 1) + request·clordid) 32 (omega arith) in

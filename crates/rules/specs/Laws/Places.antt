@@ -1,11 +1,11 @@
 -- Texts in a buffer, by words and parts: two of them compared, the zeros behind one, and its cell. Rests on text's ByWords.
 use Rattle.std.specs.Prelude.{◌≡◌, ℕ, zero, suc, ◌+◌, ◌-◌, ◌%◌, ◌^◌, ◌<◌, ◌≤◌, Bool, true, false, ◌&&◌, List, [], ◌∷◌, length, ◌==◌, nat_eq, nat_le, slice_index, slice_index_or, refl}
-use Rattle.std.proofs.Common.{sym, ap, ap₂, ◌∙◌, eqb-true, eq-eqb, lt-ltb, le-ltb, le-leb}
+use Rattle.std.proofs.Common.{sym, ap, ap₂, ◌∙◌, eqb-true, eq-eqb, lt-ltb, le-ltb, le-leb, arith}
 use Rattle.std.proofs.Math.Bool.{and-true, and-false, and_assoc}
 use Rattle.std.proofs.Math.Decide.{dec_lt}
-use native.Mathlib.Omega.{arith}
+use Rattle.std.proofs.lemmas.Bool.{and_parts, and_from}
+use Rattle.std.specs.Cmp.{both_ways}
 use Rattle.prelude.specs.Below.{all_below, all_intro, all_elim}
-use Rattle.prelude.specs.Cases.{both_true, both_hold, test_same}
 use Rattle.prelude.specs.Number.{Bytes, number, word64, word64_number}
 use Rattle.prelude.specs.Span.{span, length_span, get_span}
 use Rattle.prelude.specs.Texts.{text_at, same_text, filled_at, is_text}
@@ -13,25 +13,28 @@ use Rattle.prelude.specs.Bytes.{bytes_span}
 use Rattle.prelude.specs.declared.Text.{Text}
 use Rattle.text.specs.Laws.ByWords.{word_in, word_first, same_words}
 
--- two words at two indexes agree, and all four of the texts there
+-- the words of the texts at two indexes agree
+abbrev pub words_agree : List ℕ → ℕ → ℕ → Bool
+words_agree s x y =
+    (word64 s x == word64 s y) && word64 s (x + 8) == word64 s (y + 8) && word64 s (x + 16) == word64 s (y + 16)
+    && word64 s (x + 24) == word64 s (y + 24)
+
+-- two words agree, as they are looked at
 abbrev pub pair_agrees : List ℕ → ℕ → ℕ → Bool
 pair_agrees s x y = (word64 s x == word64 s y) && word64 s (x + 8) == word64 s (y + 8)
 
-abbrev pub words_agree : List ℕ → ℕ → ℕ → Bool
-words_agree s x y = pair_agrees s x y && pair_agrees s (x + 16) (y + 16)
+pub words_pairs : (s : List ℕ) (x y : ℕ) → words_agree s x y ≡ pair_agrees s x y && pair_agrees s (x + 16) (y + 16)
+words_pairs s x y =
+    let p : x + 16 + 8 ≡ x + 24 = omega arith in
+    let q : y + 16 + 8 ≡ y + 24 = omega arith in
+    rw (p, q) (and_assoc (pair_agrees s x y) (word64 s (x + 16) == word64 s (y + 16)) (word64 s (x + 24) == word64 s (y + 24)))
 
 module _ (s : List ℕ) (bytes : Bytes s) (x y : ℕ) (hx : x + 33 ≤ length s) (hy : y + 33 ≤ length s) where
   -- THE LAW of two texts compared by words
   pub same_here : nat_eq (slice_index s (x + 32)) (slice_index s (y + 32)) && words_agree s x y ≡ same_text (text_at s x) (text_at s y)
   same_here =
-      let t = text_at s y in
-      let p : x + 16 + 8 ≡ x + 24 = omega arith in
-      let q : y + 16 + 8 ≡ y + 24 = omega arith in
-      let two : Bool = nat_eq (word64 s x) (word64 t.bytes 0) && nat_eq (word64 s (x + 8)) (word64 t.bytes 8) in
-      rw (p, q, sym (word_first s y), sym (word_in s y 8 (omega arith)), sym (word_in s y 16 (omega arith)), sym (word_in s y 24 (omega arith)))
-      (ap (λ (v : Bool). nat_eq (slice_index s (x + 32)) (slice_index s (y + 32)) && v)
-      (sym (and_assoc two (nat_eq (word64 s (x + 16)) (word64 t.bytes 16)) (nat_eq (word64 s (x + 24)) (word64 t.bytes 24))))
-      ∙ same_words s x t bytes hx (length_span s y 32 (omega arith)) (bytes_span s y 32 bytes))
+      rw (sym (word_first s y), sym (word_in s y 8 (omega arith)), sym (word_in s y 16 (omega arith)), sym (word_in s y 24 (omega arith)))
+      (same_words s x (text_at s y) bytes hx (length_span s y 32 (omega arith)) (bytes_span s y 32 bytes))
 
   -- the words one by one: one that differs, or all the same
   pub other_word : words_agree s x y ≡ false → same_text (text_at s x) (text_at s y) ≡ false
@@ -61,7 +64,7 @@ zero_bytes (b ∷ bs) h =
 module _ (s : List ℕ) where
   zero_word : (x : ℕ) → x + 8 ≤ length s → (word64 s x == 0) ≡ all_below (zero_at s x) 8
   zero_word x h =
-      test_same (word64 s x == 0) (all_below (zero_at s x) 8)
+      both_ways (word64 s x == 0) (all_below (zero_at s x) 8)
       (λ e. all_intro (zero_at s x) 8
       (λ k u. eq-eqb _ _ (sym (get_span s x 8 k u) ∙ zero_byte (span s x 8) (sym (word64_number s x h) ∙ eqb-true _ _ e) k)))
       (λ e. eq-eqb _ _ (word64_number s x h ∙ zero_bytes (span s x 8) (λ k u. each e k (omega (arith, length_span s x 8 h)))))
@@ -73,9 +76,9 @@ module _ (s : List ℕ) where
   pub zero_words : (x : ℕ) → x + 16 ≤ length s → (word64 s x == 0) && (word64 s (x + 8) == 0) ≡ all_below (zero_at s x) 16
   zero_words x h =
       ap₂ ◌&&◌ (zero_word x (omega arith)) (zero_word (x + 8) (omega arith))
-      ∙ test_same (all_below (zero_at s x) 8 && all_below (zero_at s (x + 8)) 8) (all_below (zero_at s x) 16)
-      (λ e. all_intro (zero_at s x) 16 (λ k u. there (both_true _ _ e) k u (dec_lt k 8)))
-      (λ e. both_hold _ _
+      ∙ both_ways (all_below (zero_at s x) 8 && all_below (zero_at s (x + 8)) 8) (all_below (zero_at s x) 16)
+      (λ e. all_intro (zero_at s x) 16 (λ k u. there (and_parts _ _ e) k u (dec_lt k 8)))
+      (λ e. and_from _ _
       (all_intro (zero_at s x) 8 (λ k u. all_elim (zero_at s x) 16 e k (omega arith)))
       (all_intro (zero_at s (x + 8)) 8 (λ k u. let z : x + 8 + k ≡ x + (8 + k) = omega arith in rw z (all_elim (zero_at s x) 16 e (8 + k) (omega arith)))))
     where
@@ -93,7 +96,7 @@ module _ (s : List ℕ) (at : ℕ) where
 
   pub zero_behind : is_text (text_at s at) ≡ true → (k : ℕ) → k < 32 → slice_index s (at + 32) ≤ k → slice_index s (at + k) ≡ 0
   unfolding is_text
-  zero_behind e k h l = behind k h l (all_elim (filled_at (text_at s at)) 32 (both_true (nat_le (slice_index s (at + 32)) 32) (all_below (filled_at (text_at s at)) 32) e).1 k h)
+  zero_behind e k h l = behind k h l (all_elim (filled_at (text_at s at)) 32 (and_parts (nat_le (slice_index s (at + 32)) 32) (all_below (filled_at (text_at s at)) 32) e).1 k h)
 
   -- THE LAW of a text of at most 16 bytes: two parts of 16 bytes are zeros
   pub filled_parts : (n : ℕ) → n ≡ slice_index s (at + 32) → n ≤ 16 → all_below (zero_at s (at + n)) 16 && all_below (zero_at s (at + 16)) 16 ≡ is_text (text_at s at)
@@ -101,9 +104,9 @@ module _ (s : List ℕ) (at : ℕ) where
   filled_parts n q h =
       let l : slice_index_or s (at + 32) 0 ≤ 32 = omega arith in
       rw (le-leb (slice_index s (at + 32)) 32 l)
-      (test_same (all_below (zero_at s (at + n)) 16 && all_below (zero_at s (at + 16)) 16) (all_below (filled_at (text_at s at)) 32)
-      (λ e. all_intro (filled_at (text_at s at)) 32 (λ k u. there (both_true _ _ e) k u (dec_lt k n) (dec_lt k 16)))
-      (λ e. both_hold _ _ (part e n (omega arith) (omega arith)) (part e 16 (omega arith) (omega arith))))
+      (both_ways (all_below (zero_at s (at + n)) 16 && all_below (zero_at s (at + 16)) 16) (all_below (filled_at (text_at s at)) 32)
+      (λ e. all_intro (filled_at (text_at s at)) 32 (λ k u. there (and_parts _ _ e) k u (dec_lt k n) (dec_lt k 16)))
+      (λ e. and_from _ _ (part e n (omega arith) (omega arith)) (part e 16 (omega arith) (omega arith))))
     where
       moved : (m k : ℕ) → m ≤ k → zero_at s (at + m) (k - m) ≡ true → (slice_index s (at + k) == 0) ≡ true
       moved m k u e = let z : at + m + (k - m) ≡ at + k = omega arith in rw z at e

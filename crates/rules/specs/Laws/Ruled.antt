@@ -2,8 +2,9 @@
 use Rattle.std.specs.Prelude.{◌≡◌, ℕ, ◌≤◌, min, Bool, true, false, not, ◌&&◌, List, length, nat_le, refl}
 use Rattle.std.proofs.Common.{sym, ap, ap₂, ◌∙◌, arith, eqb-true, leb-true, eq-eqb, le-leb}
 use Rattle.std.proofs.Math.Bool.{and-true, and-false}
+use Rattle.std.proofs.lemmas.Bool.{and_parts}
 use Rattle.prelude.specs.Below.{all_below, all_ext, all_both}
-use Rattle.prelude.specs.Cases.{if_true, both_true}
+use Rattle.prelude.specs.Cases.{if_true}
 use Rattle.prelude.specs.Number.{word16}
 use Rattle.store.specs.Layout.{book_size, header·orders, header·requests, most_orders, most_requests}
 use Rattle.store.specs.Book.{is_book, book_of, count_at, order_count, request_count}
@@ -33,9 +34,9 @@ count_raw b at most l h = sym (if_true (is_book b) (min most (word16 b at)) 0 (e
 pub ruled_held : (b : List ℕ) → ruled_of b ≡ true → Held b
 unfolding ruled_of
 ruled_held b e =
-    let r = both_true (is_book b && nat_le (word16 b header·orders) most_orders && nat_le (word16 b header·requests) most_requests) (rules (book_of b)) e in
-    let m = both_true (is_book b && nat_le (word16 b header·orders) most_orders) (nat_le (word16 b header·requests) most_requests) r.0 in
-    let n = both_true (is_book b) (nat_le (word16 b header·orders) most_orders) m.0 in
+    let r = and_parts (is_book b && nat_le (word16 b header·orders) most_orders && nat_le (word16 b header·requests) most_requests) (rules (book_of b)) e in
+    let m = and_parts (is_book b && nat_le (word16 b header·orders) most_orders) (nat_le (word16 b header·requests) most_requests) r.0 in
+    let n = and_parts (is_book b) (nat_le (word16 b header·orders) most_orders) m.0 in
     let l : length b ≡ book_size = eqb-true (length b) book_size n.0 in
     record {
       long = l;

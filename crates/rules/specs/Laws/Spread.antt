@@ -1,12 +1,9 @@
 -- Things spread over cells by a function of what they are: those in other cells are others. Laws for any such function,
 -- and for a loop that marks each thing's cell in a map of bits and notes it in a list. Rests on prelude and bits' Map.
 use Rattle.std.specs.Prelude.{◌≡◌, ℕ, ◌+◌, ◌/◌, ◌%◌, ◌^◌, ◌<◌, ◌≤◌, max, Bool, true, false, not, List, length, ◌≢◌, bit_or, slice_index, slice_set, refl}
-use Rattle.std.proofs.Math.Path.{sym, ap}
-use Rattle.std.proofs.Common.{◌∙◌, eq-or-lt_of_le, zero-lt-suc, pow_pos, eqb-true, eq-eqb, get_or-set_same, get_or-set_other}
-use Rattle.std.proofs.Math.Logic.{⊎_elim}
-use Rattle.std.proofs.Math.Nat.{mod-lt, div_self}
+use Rattle.std.proofs.Common.{sym, ap, ◌∙◌, eq-or-lt_of_le, zero-lt-suc, pow_pos, eqb-true, eq-eqb, get_or-set_same, get_or-set_other, ⊎_elim, mod-lt, arith}
 use Rattle.std.proofs.Math.Decide.{ℕ_discrete}
-use native.Mathlib.Omega.{arith}
+use Rattle.std.proofs.Math.Nat.{div_self}
 use Rattle.std.proofs.lemmas.Nat.{or_shr}
 use Rattle.std.specs.Int.Bits.{or_step}
 use Rattle.prelude.specs.Below.{all_below, all_intro}

@@ -1,10 +1,10 @@
 -- A name with a number, in place: the name's bytes, the dash and the digits as one word, zeros after them. Rests on Places and text's NameLaws.
 use Rattle.std.specs.Prelude.{◌≡◌, ℕ, suc, ◌+◌, ◌-◌, ◌*◌, ◌/◌, ◌%◌, ◌<◌, ◌≤◌, Bool, true, false, not, ◌&&◌, List, [], ◌∷◌, ◌++◌, length, take, drop, ◌==◌, ◌≢◌, nat_le, slice_index, slice_index_or, refl}
-use Rattle.std.proofs.Common.{sym, ap, ap₂, subst, ◌∙◌, mul_assoc, add-one, arith, ext_get_or, take_at, drop_at, take-take}
+use Rattle.std.proofs.Common.{sym, ap, ap₂, subst, ◌∙◌, mul_assoc, add-one, arith, ext_get_or, take_at, drop_at, take-take, eqb-true, eq-eqb, ne_eqb, leb-true}
 use Rattle.std.proofs.Math.Decide.{dec_lt}
-use borrow.Author.Tests.{eqb-true, eq-eqb, ne_eqb, leb-true}
+use Rattle.std.proofs.lemmas.Bool.{and_parts, and_from}
+use Rattle.std.specs.Cmp.{both_ways}
 use Rattle.prelude.specs.Below.{all_below, all_intro, all_elim}
-use Rattle.prelude.specs.Cases.{both_true, both_hold, test_same}
 use Rattle.prelude.specs.Number.{Bytes, number, bytes_of, bound, word64, word64_number, bytes_number, number_bytes, length_bytes}
 use Rattle.prelude.specs.Span.{span, length_span, get_span, span_join}
 use Rattle.prelude.specs.Texts.{text_at, same_text, same_text_lem, same_self, is_text, contents, text_of, text_contents}
@@ -114,9 +114,9 @@ module _ (s : List ℕ) (bytes : Bytes s) (x y : ℕ) where
   start_words n low high hx hy =
       let mid : ℕ = (n - 8) / 2 in
       let last : ℕ = n - 8 in
-      test_same (word64 s x == word64 s y && word64 s (x + mid) == word64 s (y + mid) && word64 s (x + last) == word64 s (y + last)) (all_below (alike_at s x y) n)
-      (λ e. let c = both_true (word64 s x == word64 s y && word64 s (x + mid) == word64 s (y + mid)) (word64 s (x + last) == word64 s (y + last)) e in
-      let d = both_true (word64 s x == word64 s y) (word64 s (x + mid) == word64 s (y + mid)) c.0 in
+      both_ways (word64 s x == word64 s y && word64 s (x + mid) == word64 s (y + mid) && word64 s (x + last) == word64 s (y + last)) (all_below (alike_at s x y) n)
+      (λ e. let c = and_parts (word64 s x == word64 s y && word64 s (x + mid) == word64 s (y + mid)) (word64 s (x + last) == word64 s (y + last)) e in
+      let d = and_parts (word64 s x == word64 s y) (word64 s (x + mid) == word64 s (y + mid)) c.0 in
       all_intro (alike_at s x y) n
       (λ p h. there n low high hx hy (eqb-true _ _ d.0) (eqb-true _ _ d.1) (eqb-true _ _ c.1) p h (dec_lt p 8) (dec_lt p (mid + 8))))
       (λ e. let f : (p : ℕ) → p < n → alike_at s x y p ≡ true = all_elim (alike_at s x y) n e in
@@ -155,14 +155,14 @@ number_zeros (x ∷ l) h =
 module _ (t : Text) (r : name_range t ≡ true) where
   pub name_text : is_text t ≡ true
   unfolding name_range
-  name_text = (both_true (is_text t) (is_name t) r).0
+  name_text = (and_parts (is_text t) (is_name t) r).0
 
   pub name_short : t.len ≤ 20
   unfolding name_range is_name
   name_short =
-      let a = both_true (is_text t) (is_name t) r in
-      let b = both_true (nat_le 1 t.len && nat_le t.len 20) (all_below (alnum_at t) t.len && not (is_none t)) a.1 in
-      leb-true t.len 20 (both_true (nat_le 1 t.len) (nat_le t.len 20) b.0).1
+      let a = and_parts (is_text t) (is_name t) r in
+      let b = and_parts (nat_le 1 t.len && nat_le t.len 20) (all_below (alnum_at t) t.len && not (is_none t)) a.1 in
+      leb-true t.len 20 (and_parts (nat_le 1 t.len) (nat_le t.len 20) b.0).1
 
 -- the text at an index, as far as it goes
 contents_here : (s : List ℕ) (at : ℕ) → slice_index s (at + 32) ≤ 32 → contents (text_at s at) ≡ span s at (slice_index s (at + 32))
@@ -256,9 +256,9 @@ module _ (s : List ℕ) (bytes : Bytes s) (at from k w t : ℕ) (ha : at + 33 �
         let lb : length (span s from n) ≡ n = length_span s from n (omega arith) in
         let D : Text = text_at s at in
         let E : Text = numbered_text (text_at s from) k in
-        test_same (all_below (alike_at s at from) n && word64 s (at + n) == w && is_text D) (same_text D E)
-        (λ e. let c = both_true (all_below (alike_at s at from) n && word64 s (at + n) == w) (is_text D) e in
-        let d = both_true (all_below (alike_at s at from) n) (word64 s (at + n) == w) c.0 in
+        both_ways (all_below (alike_at s at from) n && word64 s (at + n) == w && is_text D) (same_text D E)
+        (λ e. let c = and_parts (all_below (alike_at s at from) n && word64 s (at + n) == w) (is_text D) e in
+        let d = and_parts (all_below (alike_at s at from) n) (word64 s (at + n) == w) c.0 in
         subst (λ (u : Text). same_text D u ≡ true) (numbered_is (starts d.0) (ends c.1 (eqb-true _ _ d.1)) c.1) (same_self D))
         (λ e. let q : D ≡ E = same_text_lem D E (length_span s at 32 (omega arith)) (numbered_long (text_at s from) k) e in
         let f : is_text D ≡ true = subst (λ (u : Text). is_text u ≡ true) (sym q) (numbered_is_text (text_at s from) k) in
@@ -267,8 +267,8 @@ module _ (s : List ℕ) (bytes : Bytes s) (at from k w t : ℕ) (ha : at + 33 �
         sym (take_at (span s at n) (span s (at + n) t) n la) ∙ ap (take n) g ∙ take_at (span s from n) (45 ∷ decimal k) n lb in
         let b : span s (at + n) t ≡ 45 ∷ decimal k =
         sym (drop_at (span s at n) (span s (at + n) t) n la) ∙ ap (drop n) g ∙ drop_at (span s from n) (45 ∷ decimal k) n lb in
-        both_hold _ _
-        (both_hold _ _
+        and_from _ _
+        (and_from _ _
         (all_intro (alike_at s at from) n (λ p u. eq-eqb _ _ (sym (get_span s at n p u) ∙ ap (λ (l : List ℕ). slice_index l p) a ∙ get_span s from n p u)))
         (eq-eqb _ _ (end_word f ∙ ap number b ∙ suffix_number)))
         f)

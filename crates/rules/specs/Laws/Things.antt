@@ -1,11 +1,9 @@
 -- What is to be distinct: the ClOrdIDs of the requests, each with its client, where `keyed`; else the names of the orders. Rests on Here, Places and Spread.
 use Rattle.std.specs.Prelude.{◌≡◌, ℕ, ◌+◌, ◌<◌, ◌≤◌, Bool, true, false, not, ◌&&◌, List, length, ◌==◌, ◌≢◌, nat_lt, refl}
-use Rattle.std.proofs.Common.{sym, ap, ◌∙◌}
-use Rattle.std.proofs.Math.Path.{ap₂}
-use native.Mathlib.Omega.{arith}
-use borrow.Author.Tests.{eqb-true, ltb-true, lt-ltb}
+use Rattle.std.proofs.Common.{sym, ap, ◌∙◌, ap₂, arith, eqb-true, ltb-true, lt-ltb}
+use Rattle.std.proofs.lemmas.Bool.{and_parts, and_from}
 use Rattle.prelude.specs.Below.{all_below, all_intro, all_elim, all_both}
-use Rattle.prelude.specs.Cases.{if◌then◌otherwise◌, both_true, both_hold}
+use Rattle.prelude.specs.Cases.{if◌then◌otherwise◌}
 use Rattle.prelude.specs.Span.{length_span}
 use Rattle.prelude.specs.Texts.{text_at, same_text, same_text_lem}
 use Rattle.prelude.specs.declared.Text.{Text}
@@ -62,7 +60,7 @@ cell_of b keyed i = cell (client_in b keyed i) (text_in b keyed i)
 module _ (b : List ℕ) (i : ℕ) where
   pub placed_key : placed b true i ≡ true → (i < most_requests) × ((request_at b i).order < most_orders)
   unfolding placed if◌then◌otherwise◌
-  placed_key e = let s = both_true (nat_lt i most_requests) (nat_lt (request_at b i).order most_orders) e in (ltb-true _ _ s.0, ltb-true _ _ s.1)
+  placed_key e = let s = and_parts (nat_lt i most_requests) (nat_lt (request_at b i).order most_orders) e in (ltb-true _ _ s.0, ltb-true _ _ s.1)
 
   placed_name : placed b false i ≡ true → i < most_orders
   unfolding placed if◌then◌otherwise◌
@@ -92,7 +90,7 @@ module _ (b : List ℕ) (n : ℕ) (few : n ≤ most_orders) where
   unfolding placed if◌then◌otherwise◌
   keys_placed m h e =
       all_intro (placed b true) m
-      (λ j k. let u : (request_at b j).order < n = booked b n m (both_true _ _ (sym (all_both (request_rule_at b n) (beside_at b) m) ∙ e)).0 j k in both_hold _ _ (lt-ltb j most_requests (omega arith)) (lt-ltb (request_at b j).order most_orders (omega arith)))
+      (λ j k. let u : (request_at b j).order < n = booked b n m (and_parts _ _ (sym (all_both (request_rule_at b n) (beside_at b) m) ∙ e)).0 j k in and_from _ _ (lt-ltb j most_requests (omega arith)) (lt-ltb (request_at b j).order most_orders (omega arith)))
 
 -- a key is one of the rules' keys, and a name a name
 pub same_keyed : (b : List ℕ) (i j : ℕ) → same_key_at b i j ≡ same_at b true i j
@@ -112,8 +110,8 @@ module _ (b : List ℕ) (l : length b ≡ book_size) where
   same_cell : (keyed : Bool) (i j : ℕ) → placed b keyed i ≡ true → placed b keyed j ≡ true → same_at b keyed i j ≡ true → cell_of b keyed i ≡ cell_of b keyed j
   unfolding same_at cell_of
   same_cell keyed i j p q e =
-      let s = both_true (not (lone_at b keyed i) && client_in b keyed i == client_in b keyed j) (same_text (text_in b keyed i) (text_in b keyed j)) e in
-      let c = both_true (not (lone_at b keyed i)) (client_in b keyed i == client_in b keyed j) s.0 in
+      let s = and_parts (not (lone_at b keyed i) && client_in b keyed i == client_in b keyed j) (same_text (text_in b keyed i) (text_in b keyed j)) e in
+      let c = and_parts (not (lone_at b keyed i)) (client_in b keyed i == client_in b keyed j) s.0 in
       ap₂ cell (eqb-true _ _ c.1) (same_text_lem (text_in b keyed i) (text_in b keyed j) (length_in_lem keyed i p) (length_in_lem keyed j q) s.1)
 
   module _ (keyed : Bool) (i : ℕ) (here : all_below (placed b keyed) (i + 1) ≡ true) where

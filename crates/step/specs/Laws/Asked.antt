@@ -1,12 +1,12 @@
 -- The questions as the code comes to them: what a call is once some are asked. Rests on Entries.
-use Rattle.std.specs.Prelude.{ℕ, ◌≤◌, ◌<◌, ◌≡◌, ◌≢◌, Bool, not, List, leb, ltb}
-use Rattle.std.proofs.Math.Path.{refl}
-use Rattle.std.proofs.Common.{arith}
-use Rattle.std.proofs.Math.Bool.{true, false}
+use Rattle.std.specs.Prelude.{ℕ, ◌≤◌, ◌<◌, ◌≡◌, ◌≢◌, Bool, not, List, leb, ltb, refl, true, false, eqb}
+use Rattle.std.proofs.Common.{sym, subst, arith, le-leb, le-ltb, lt-ltb}
 use Rattle.std.proofs.Math.Decide.{dec_lt}
-use Rattle.std.proofs.Math.Dec.{eqb}
-use borrow.Author.Tests.{le-leb, le-ltb, lt-ltb, not-true, not-false}
+use Rattle.std.proofs.lemmas.Bool.{not-true, not-false}
 use Rattle.prelude.specs.Cases.{if◌then◌otherwise◌, split_if, clash}
+use Rattle.prelude.specs.declared.Refusal.{Refusal}
+use Rattle.prelude.specs.declared.Refusal.TheVariants.{BadBook}
+use Rattle.prelude.specs.Refusal.{number_of}
 use Rattle.format.specs.Refusal.{event_refusal}
 use Rattle.records.specs.Record.{event_in}
 use Rattle.store.specs.Book.{book_of}
@@ -15,6 +15,26 @@ use Rattle.machine.specs.Changes.{Event, refusing}
 use Rattle.machine.specs.Machine.{step_of}
 use Rattle.opens.specs.Keeps.{keeps_of}
 use Rattle.step.specs.Entries.{call_of}
+use Rattle.step.specs.Laws.Taken.{numbered}
+
+-- a test that the code has negated
+pub found_not : (x y : Bool) → x ≡ y → not x ≡ true → y ≡ false
+found_not true y e h = clash false h refl
+found_not false y e h = sym e
+
+pub found_so : (x y : Bool) → x ≡ y → not x ≡ false → y ≡ true
+found_so true y e h = sym e
+found_so false y e h = clash true refl h
+
+-- what a record is refused with fits a byte
+few : (r : List ℕ) → event_refusal r ≤ 4
+unfolding event_refusal
+few r =
+    let P : ℕ → Type 0 = λ n. n ≤ 4 in
+    split_if P _ (λ t. split_if P _ (λ u. omega arith) (λ u. omega arith)) (λ t. omega arith)
+
+pub read_few : (r : List ℕ) (n : ℕ) → n ≡ event_refusal r → n ≤ 4
+read_few r n e = omega (arith, few r)
 
 -- a record that is refused gets 3 or 4
 abbrev ThreeFour : ℕ → Type 0
@@ -54,6 +74,21 @@ module _ (b r : List ℕ) (room : ℕ) where
       unfolding call_of if◌then◌otherwise◌
       call_5 z v f c s = rw (k, le-ltb room 1024 l, ← e, z, ← f) s
 
+  -- the same as the code has it: the book that was asked for is `k`, and a refusal is an enum's
+  pub call_bad : (q : Refusal) → q ≡ BadBook → keeps_of b ≡ false → refusing (number_of q) ≡ call_of b r room
+  call_bad q e k = rw e (call_1 k)
+
+  module _ (k : List ℕ) (same : k ≡ b) (kept : keeps_of k ≡ true) where
+    pub call_short : room < 1024 → refusing 2 ≡ call_of b r room
+    call_short l = call_2 (subst (λ (s : List ℕ). keeps_of s ≡ true) same kept) l
+
+    pub call_unread : 1024 ≤ room → (q : Refusal) → number_of q ≡ event_refusal r → refusing (number_of q) ≡ call_of b r room
+    call_unread l q e = call_3 (subst (λ (s : List ℕ). keeps_of s ≡ true) same kept) l (number_of q) e (numbered q)
+
+    pub call_read : 1024 ≤ room → 0 ≡ event_refusal r → (v : Event) → v ≡ event_in r → (c : Change) → c ≡ step_of (book_of k) v → c ≡ call_of b r room
+    call_read l z v f c s =
+        call_5 (subst (λ (x : List ℕ). keeps_of x ≡ true) same kept) l 0 z refl v f c (rw (← same) s)
+
   -- a call that is taken has room for its answer
   short : (k : Bool) → keeps_of b ≡ k → room < 1024 → eqb (call_of b r room).refusal 0 ≡ false
   unfolding call_of refusing if◌then◌otherwise◌
@@ -75,3 +110,6 @@ module _ (b r : List ℕ) (room : ℕ) where
       go : Dec (room < 1024) → leb 1024 room ≡ true
       go (yes h) = clash _ z (short (keeps_of b) refl h)
       go (no h) = le-leb 1024 room (omega arith)
+
+-- how a call ends, for the tactic of the function that asks
+pub ruleset questions = (call_bad, call_short, call_unread, call_read)

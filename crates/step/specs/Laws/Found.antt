@@ -1,8 +1,6 @@
--- What a lookup finds, and that its index and the order of a request fit the code's numbers. Rests on store's lookups, outcomes' Found and opens' Keeps.
-use Rattle.std.specs.Prelude.{◌≡◌, false, List, ℕ, ◌≤◌, ◌<◌, ◌&&◌, ◌||◌, eqb, leb, ltb, length, Option, None, Some}
-use Rattle.std.proofs.Math.Path.{refl}
+-- What a lookup finds, and that its index and the order of a request fit the code's numbers. Rests on store's lookups and opens' Keeps.
+use Rattle.std.specs.Prelude.{◌≡◌, false, List, ℕ, ◌≤◌, ◌<◌, ◌&&◌, ◌||◌, eqb, leb, ltb, length, Option, None, Some, refl, true}
 use Rattle.std.proofs.Common.{sym, ap, ◌∙◌, arith}
-use Rattle.std.proofs.Math.Bool.{true}
 use Rattle.std.proofs.Math.Decide.{dec_lt}
 use Rattle.std.proofs.Math.ListN.{get_or-eq_default}
 use Rattle.prelude.specs.Below.{first_some}
@@ -24,11 +22,11 @@ use Rattle.machine.proofs.Kept.Lift.{book_kept}
 module _ {A : Type 0} (d : A) (f : ℕ → A) (x : Option ℕ) where
   pub found_some : (k : ℕ) → x ≡ Some k → f k ≡ maybe d f x
   unfolding maybe
-  found_some k e = rw (e) refl
+  found_some k e = rw e refl
 
   pub found_nothing : x ≡ None → d ≡ maybe d f x
   unfolding maybe
-  found_nothing e = rw (e) refl
+  found_nothing e = rw e refl
 
 -- a count that the code has read
 pub below_count : (i n m : ℕ) → n ≡ m → i < n → i < m
@@ -55,11 +53,11 @@ module _ (b : List ℕ) where
   pub request_past : (k : ℕ) → request_count b ≤ k → request_in (book_of b) k ≡ no_request
   request_past k h = get_or-eq_default (book_of b).requests no_request (omega (arith, length_requests b))
 
-  pub name_few : (t : Text) (i : ℕ) → (find_name (book_of b) t) ≡ Some i → i < 64
+  pub name_few : (t : Text) (i : ℕ) → find_name (book_of b) t ≡ Some i → i < 64
   unfolding find_name
   name_few t i e = omega (arith, (first_some _ _ i e).below, length_orders b, count_most 0 64 b)
 
-  pub downstream_few : (t : Text) (k : ℕ) → (find_downstream (book_of b) t) ≡ Some k → k < 256
+  pub downstream_few : (t : Text) (k : ℕ) → find_downstream (book_of b) t ≡ Some k → k < 256
   unfolding find_downstream
   downstream_few t k e = omega (arith, (first_some _ _ k e).below, length_requests b, count_most 2 256 b)
 
@@ -78,11 +76,11 @@ module _ (b : List ℕ) where
 
 -- a booking's name is used, or not: then its ClOrdID is asked for
 module _ (b : Book) (e : Event) where
-  pub name_used : (i : ℕ) → (find_name b e.ids.name) ≡ Some i → false ≡ unused b e
+  pub name_used : (i : ℕ) → find_name b e.ids.name ≡ Some i → false ≡ unused b e
   unfolding unused
   name_used i h = rw (← found_some true (λ k. false) (find_name b e.ids.name) i h) refl
 
-  pub name_unused : (place : ℕ) → (find_name b e.ids.name) ≡ None → place ≡ order_of b e.client e.ids.clordid → eqb place 0 ≡ unused b e
+  pub name_unused : (place : ℕ) → find_name b e.ids.name ≡ None → place ≡ order_of b e.client e.ids.clordid → eqb place 0 ≡ unused b e
   unfolding unused
   name_unused place h p = rw (← found_nothing true (λ k. false) (find_name b e.ids.name) h, p) refl
 

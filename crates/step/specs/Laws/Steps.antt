@@ -1,10 +1,8 @@
 -- The parts of a step are together machine's. Rests on Steps and machine's Machine.
-use Rattle.std.specs.Prelude.{ℕ, ◌+◌, ◌<◌, ◌≡◌, Bool, true, false, ◌||◌, eqb}
-use Rattle.std.proofs.Math.Path.{refl, sym}
-use Rattle.std.proofs.Common.{ap, ◌∙◌, arith}
+use Rattle.std.specs.Prelude.{ℕ, ◌+◌, ◌<◌, ◌≡◌, Bool, true, false, ◌||◌, eqb, refl, ltb}
+use Rattle.std.proofs.Common.{sym, ap, ◌∙◌, arith, eqb-true, eq-eqb, ne_eqb, lt-ltb, le-ltb}
 use Rattle.std.proofs.Math.Decide.{dec_lt}
-use borrow.Author.Tests.{eqb-true, eqb-false, eq-eqb, ne_eqb, lt-ltb, le-ltb}
-use Rattle.std.proofs.Math.Dec.{ltb}
+use Rattle.std.proofs.lemmas.Bool.{eqb-false}
 use Rattle.prelude.specs.Cases.{if◌then◌otherwise◌}
 use Rattle.store.specs.declared.Order.{Order}
 use Rattle.store.specs.declared.Request.{Request}
@@ -65,33 +63,54 @@ module _ (b : Book) (e : Event) where
       (λ k4. at_kind 5 (λ k. rw k refl) (λ k5. at_kind 6 (λ k. rw k refl) (λ k6. at_kind 7 (λ k. rw k refl) (λ k7. at_kind 8 (λ k. rw k refl)
       (λ k8. other k1 k2 k3 k4 k5 k6 k7 k8))))))))
 
--- the change of each kind
+-- the change of each kind, once it is asked for
 module _ (b : Book) (e : Event) where
-  pub kind_1 : e.kind ≡ 1 → book_order b e ≡ change_of b e
+  pub kind_1 : eqb e.kind 1 ≡ true → book_order b e ≡ change_of b e
   unfolding by_kind if◌then◌otherwise◌
-  kind_1 h = sym (by_kind_lem b e ∙ rw (eq-eqb e.kind 1 h) refl)
+  kind_1 h = sym (by_kind_lem b e ∙ (rw h refl))
 
-  pub kind_2 : 1 < e.kind → e.kind < 4 → amended b e ≡ change_of b e
+  pub kind_2 : eqb e.kind 1 ≡ false → eqb e.kind 2 || eqb e.kind 3 ≡ true → amended b e ≡ change_of b e
   unfolding by_kind if◌then◌otherwise◌
-  kind_2 low high = sym (by_kind_lem b e ∙ rw (ne_eqb e.kind 1 (omega arith), asks (dec_lt e.kind 3)) refl)
+  kind_2 h g = sym (by_kind_lem b e ∙ (rw (h, g) refl))
+
+  pub kind_9 : eqb e.kind 1 ≡ false → eqb e.kind 2 || eqb e.kind 3 ≡ false → ltb e.kind 4 || ltb 8 e.kind ≡ true → on_name b e ≡ change_of b e
+  unfolding by_kind if◌then◌otherwise◌
+  kind_9 h g f = sym (by_kind_lem b e ∙ (rw (h, g, f) refl))
+
+  pub kind_4 : eqb e.kind 1 ≡ false → eqb e.kind 2 || eqb e.kind 3 ≡ false → ltb e.kind 4 || ltb 8 e.kind ≡ false
+      → on_request (unknown_of e) (handled e) b e ≡ change_of b e
+  unfolding by_kind if◌then◌otherwise◌
+  kind_4 h g f = sym (by_kind_lem b e ∙ (rw (h, g, f) refl))
+
+-- the change of each kind, by the arms of a match
+module _ (b : Book) (e : Event) where
+  pub kind_is_1 : e.kind ≡ 1 → book_order b e ≡ change_of b e
+  kind_is_1 h = kind_1 b e (eq-eqb e.kind 1 h)
+
+  pub kind_2_to_3 : 1 < e.kind → e.kind < 4 → amended b e ≡ change_of b e
+  kind_2_to_3 low high = kind_2 b e (ne_eqb e.kind 1 (omega arith)) (asks (dec_lt e.kind 3))
     where
       asks : Dec (e.kind < 3) → eqb e.kind 2 || eqb e.kind 3 ≡ true
       asks (yes h) = rw (eq-eqb e.kind 2 (omega arith)) refl
       asks (no h) = rw (ne_eqb e.kind 2 (omega arith), eq-eqb e.kind 3 (omega arith)) refl
 
-  pub kind_4 : 3 < e.kind → e.kind < 9 → on_request (unknown_of e) (handled e) b e ≡ change_of b e
-  unfolding by_kind if◌then◌otherwise◌
-  kind_4 low high =
-      sym (by_kind_lem b e ∙ rw (ne_eqb e.kind 1 (omega arith), ne_eqb e.kind 2 (omega arith), ne_eqb e.kind 3 (omega arith), le-ltb e.kind 4 (omega arith), le-ltb 8 e.kind (omega arith)) refl)
+  pub kind_4_to_8 : 3 < e.kind → e.kind < 9 → on_request (unknown_of e) (handled e) b e ≡ change_of b e
+  kind_4_to_8 low high =
+      kind_4 b e (ne_eqb e.kind 1 (omega arith)) (rw (ne_eqb e.kind 2 (omega arith), ne_eqb e.kind 3 (omega arith)) refl)
+      (rw (le-ltb e.kind 4 (omega arith), le-ltb 8 e.kind (omega arith)) refl)
 
-  pub kind_0 : e.kind < 1 → on_name b e ≡ change_of b e
-  unfolding by_kind if◌then◌otherwise◌
-  kind_0 low = sym (by_kind_lem b e ∙ rw (ne_eqb e.kind 1 (omega arith), ne_eqb e.kind 2 (omega arith), ne_eqb e.kind 3 (omega arith), lt-ltb e.kind 4 (omega arith)) refl)
+  pub kind_below_1 : e.kind < 1 → on_name b e ≡ change_of b e
+  kind_below_1 low =
+      kind_9 b e (ne_eqb e.kind 1 (omega arith)) (rw (ne_eqb e.kind 2 (omega arith), ne_eqb e.kind 3 (omega arith)) refl)
+      (rw (lt-ltb e.kind 4 (omega arith)) refl)
 
-  pub kind_9 : 8 < e.kind → on_name b e ≡ change_of b e
-  unfolding by_kind if◌then◌otherwise◌
-  kind_9 high =
-      sym (by_kind_lem b e ∙ rw (ne_eqb e.kind 1 (omega arith), ne_eqb e.kind 2 (omega arith), ne_eqb e.kind 3 (omega arith), le-ltb e.kind 4 (omega arith), lt-ltb 8 e.kind high) refl)
+  pub kind_past_8 : 8 < e.kind → on_name b e ≡ change_of b e
+  kind_past_8 high =
+      kind_9 b e (ne_eqb e.kind 1 (omega arith)) (rw (ne_eqb e.kind 2 (omega arith), ne_eqb e.kind 3 (omega arith)) refl)
+      (rw (le-ltb e.kind 4 (omega arith), lt-ltb 8 e.kind high) refl)
+
+-- the same, for the tactic of the function that has the match
+pub ruleset kinds = (kind_is_1, kind_2_to_3, kind_4_to_8, kind_below_1, kind_past_8)
 
 -- ---- what the code has found is what the definitions take
 
@@ -117,16 +136,31 @@ pub has_room_lem : (b : Book) (c : Change) → has_room_for b c.place c.requests
 unfolding has_room_for has_room
 has_room_lem b c = refl
 
+module _ (b : Book) (e : Event) (c : Change) (h : c ≡ change_of b e) where
+  pub step_refused : eqb c.refusal 0 ≡ false → c ≡ step_of b e
+  unfolding step_of if◌then◌otherwise◌
+  step_refused r = rw (← h, r) refl
+
+  pub step_taken : eqb c.refusal 0 ≡ true → has_room_for b c.place c.requests.added ≡ true → c ≡ step_of b e
+  unfolding step_of if◌then◌otherwise◌
+  step_taken r g = rw (← h, r, sym (has_room_lem b c) ∙ g) refl
+
+  pub step_full : eqb c.refusal 0 ≡ true → has_room_for b c.place c.requests.added ≡ false → refusing 7 ≡ step_of b e
+  unfolding step_of if◌then◌otherwise◌
+  step_full r g = rw (← h, r, sym (has_room_lem b c) ∙ g) refl
+
+-- the same of what the code has as a result: a refusal has a number, and what is no refusal has 0
 module _ (b : Book) (e : Event) where
   pub step_err : (r : Refusal) → refusing (number_of r) ≡ change_of b e → refusing (number_of r) ≡ step_of b e
-  unfolding step_of refusing if◌then◌otherwise◌
-  step_err r h = rw (← h, numbered r) refl
+  unfolding refusing
+  step_err r h = step_refused b e _ h (numbered r)
 
   module _ (c : Change) (h : c ≡ change_of b e) (taken : c.refusal ≡ 0) where
-    pub step_taken : has_room_for b c.place c.requests.added ≡ true → c ≡ step_of b e
-    unfolding step_of if◌then◌otherwise◌
-    step_taken g = rw (← h, eq-eqb c.refusal 0 taken, sym (has_room_lem b c) ∙ g) refl
+    pub step_ok : has_room_for b c.place c.requests.added ≡ true → c ≡ step_of b e
+    step_ok g = step_taken b e c h (eq-eqb c.refusal 0 taken) g
 
-    pub step_full : has_room_for b c.place c.requests.added ≡ false → refusing 7 ≡ step_of b e
-    unfolding step_of if◌then◌otherwise◌
-    step_full g = rw (← h, eq-eqb c.refusal 0 taken, sym (has_room_lem b c) ∙ g) refl
+    pub step_no_room : has_room_for b c.place c.requests.added ≡ false → refusing 7 ≡ step_of b e
+    step_no_room g = step_full b e c h (eq-eqb c.refusal 0 taken) g
+
+-- how a step ends, for the tactic of the function that takes it
+pub ruleset stepped = (step_err, step_ok, step_no_room)

@@ -1,7 +1,5 @@
 -- `clear` meets its contract: zeros, and the setting. Assumes nothing.
-use Rattle.std.specs.Prelude.{ℕ}
-use Rattle.std.proofs.Common.{ap}
-use borrow.Author.Tests.{eq-eqb, ne_eqb}
+use Rattle.std.proofs.Common.{ℕ, ap, eq-eqb, ne_eqb}
 use Rattle.prelude.specs.Cases.{if◌then◌otherwise◌}
 use Rattle.prelude.specs.Number.{bytes_of}
 use Rattle.prelude.specs.Span.{splice}

@@ -1,6 +1,5 @@
 -- `count_at` meets its contract: the number in its place, at most `most`. Rests on Loaded.
-use Rattle.std.specs.Prelude.{◌≡◌, ℕ, List, min}
-use Rattle.std.proofs.Common.{rules, ap, ◌∙◌}
+use Rattle.std.proofs.Common.{◌≡◌, ℕ, List, min, rules, ap, ◌∙◌}
 use Rattle.prelude.specs.Number.{word16}
 use Rattle.store.specs.Book.{count_at}
 use Rattle.store.proofs.Loaded.{loaded}

@@ -1,7 +1,5 @@
 -- `load_open` meets its contract: the word in its place, or 0. Rests on Loaded.
-use Rattle.std.specs.Prelude.{◌≡◌, ℕ, List}
-use Rattle.std.proofs.Common.{rules, ap, ◌∙◌, add-zero, arith}
-use borrow.Author.Tests.{tests}
+use Rattle.std.proofs.Common.{◌≡◌, ℕ, List, rules, ap, ◌∙◌, add-zero, arith, tests}
 use Rattle.prelude.specs.Number.{word64}
 use Rattle.words.specs.Laws.Windows.{within_64}
 use Rattle.store.specs.Layout.{open_base}

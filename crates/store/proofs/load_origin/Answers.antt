@@ -1,6 +1,5 @@
 -- `load_origin` meets its contract: the number in its place, or 0. Rests on Loaded.
-use Rattle.std.specs.Prelude.{◌≡◌, ℕ, List}
-use Rattle.std.proofs.Common.{rules, ap, ◌∙◌, arith}
+use Rattle.std.proofs.Common.{◌≡◌, ℕ, List, rules, ap, ◌∙◌, arith}
 use Rattle.prelude.specs.Number.{word16}
 use Rattle.words.specs.Laws.Windows.{within_16}
 use Rattle.store.specs.Layout.{request_base, request_size, request·origin}

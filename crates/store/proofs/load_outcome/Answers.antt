@@ -1,6 +1,5 @@
 -- `load_outcome` meets its contract: the byte in its place, or 0. Rests on Loaded.
-use Rattle.std.specs.Prelude.{◌≡◌, ℕ, List, get_or}
-use Rattle.std.proofs.Common.{rules, ap, ◌∙◌, arith}
+use Rattle.std.proofs.Common.{◌≡◌, ℕ, List, get_or, rules, ap, ◌∙◌, arith}
 use Rattle.words.specs.Laws.Windows.{within_8}
 use Rattle.store.specs.Layout.{request_base, request_size, request·outcome}
 use Rattle.store.specs.Book.{load_outcome}

@@ -1,6 +1,5 @@
 -- `setting` meets its contract: the number in its place, or 0. Rests on Loaded.
-use Rattle.std.specs.Prelude.{◌≡◌, ℕ, List}
-use Rattle.std.proofs.Common.{rules, ap, ◌∙◌}
+use Rattle.std.proofs.Common.{◌≡◌, ℕ, List, rules, ap, ◌∙◌}
 use Rattle.prelude.specs.Number.{word32}
 use Rattle.store.specs.Layout.{header·setting}
 use Rattle.store.specs.Book.{setting_of}

@@ -1,16 +1,9 @@
 -- Records added, a request marked, and an empty book: each is the update of the book that its name says. Rests on Laws.
-use Rattle.std.specs.Prelude.{◌≡◌, refl, ◌⊎◌}
-use Rattle.std.proofs.Common.{sym, subst, ◌∙◌, ⊎_elim}
-use Rattle.std.proofs.Math.Path.{ap}
-use Rattle.std.proofs.Math.Logic.{inl, inr}
-use mathlib.Core.List.{List, [], ◌∷◌, ◌++◌}
-use Prim.Native.Nat.{ℕ, ◌+◌, ◌≤◌, ◌<◌}
+use Rattle.std.specs.Prelude.{◌≡◌, refl, ◌⊎◌, List, [], ◌∷◌, ◌++◌, ℕ, ◌+◌, ◌≤◌, ◌<◌, length}
+use Rattle.std.proofs.Common.{sym, subst, ◌∙◌, ⊎_elim, ap, inl, inr, arith, eq-eqb, lt-ltb}
 use Rattle.std.proofs.Math.Decide.{dec_lt, ℕ_discrete}
-use native.Mathlib.Omega.{arith}
-use borrow.Author.Tests.{eq-eqb, lt-ltb}
-use Rattle.std.proofs.Math.ListN.{length}
-use Rattle.std.proofs.lemmas.List.{length-replicate}
 use Rattle.std.proofs.Math.Seq.{set_out}
+use Rattle.std.proofs.lemmas.List.{length-replicate}
 use Rattle.prelude.specs.Cases.{if◌then◌otherwise◌}
 use Rattle.prelude.specs.Lists.{list_below, list_ext, list_more, list_set_any}
 use Rattle.prelude.specs.Span.{span, splice, span_byte, length_splice, span_splice_same, span_splice_before, span_splice_after}

@@ -1,8 +1,7 @@
 -- Each field of a record in the book is a read of the bytes at the record's base and the field's place: for rules that are decided in place.
 -- Rests on Book and Cells.
 use Rattle.std.specs.Prelude.{◌≡◌, List, ℕ, ◌+◌, get_or}
-use Rattle.std.proofs.Math.Path.{ap}
-use Rattle.std.proofs.Common.{◌∙◌, arith}
+use Rattle.std.proofs.Common.{ap, ◌∙◌, arith}
 use Rattle.prelude.specs.Number.{word16, word32, word64}
 use Rattle.prelude.specs.Texts.{text_at}
 use Rattle.prelude.specs.Span.{span}

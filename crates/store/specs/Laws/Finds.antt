@@ -1,9 +1,9 @@
 -- Lookups as loops over the bytes, and that they are the book's. Rests on Finds.
 use Rattle.std.specs.Prelude.{◌≡◌, refl, Bool, true, false, not, ◌&&◌, List, ℕ, ◌+◌, eqb, ltb, get_or}
-use Rattle.std.proofs.Common.{sym, ap, ◌∙◌, add-one}
-use borrow.Author.Tests.{ltb-true, eqb-true, eq-eqb, ne_eqb}
+use Rattle.std.proofs.Common.{sym, ap, ◌∙◌, add-one, ltb-true, eqb-true, eq-eqb, ne_eqb}
+use Rattle.std.proofs.lemmas.Bool.{and_parts}
 use Rattle.prelude.specs.Below.{all_below, first_below, count_below, first_ext, count_ext}
-use Rattle.prelude.specs.Cases.{if◌then◌otherwise◌, both_true}
+use Rattle.prelude.specs.Cases.{if◌then◌otherwise◌}
 use Rattle.prelude.specs.Lists.{list_below, first_list, count_list, length_list, get_list}
 use Rattle.prelude.specs.Texts.{agree_at, same_text}
 use Rattle.prelude.specs.declared.Text.{Text}
@@ -78,7 +78,7 @@ count_step p i = rw add-one
 module _ (r : Request) (t : Text) (e : same_text r.clordid t ≡ true) where
   same_len : r.clordid.len ≡ t.len
   unfolding same_text
-  same_len = eqb-true r.clordid.len t.len (both_true (eqb r.clordid.len t.len) (all_below (agree_at r.clordid.bytes t.bytes) 32) e).0
+  same_len = eqb-true r.clordid.len t.len (and_parts (eqb r.clordid.len t.len) (all_below (agree_at r.clordid.bytes t.bytes) 32) e).0
 
   pub has_clordid_lem : (t.len ≡ 0 → ⊥) → has_clordid r ≡ true
   has_clordid_lem n = ap not (ne_eqb r.clordid.len 0 (λ z. n (sym same_len ∙ z)))

@@ -1,7 +1,6 @@
 -- What every function keeps, on any buffer: its length, and that its elements are bytes. Rests on Laws.
 use Rattle.std.specs.Prelude.{◌≡◌, refl, List, [], ◌∷◌, ◌++◌, ℕ, ◌+◌, ◌≤◌, ◌<◌, eqb, length}
-use Rattle.std.proofs.Math.Path.{sym}
-use Rattle.std.proofs.Common.{◌∙◌, arith}
+use Rattle.std.proofs.Common.{sym, ◌∙◌, arith}
 use Rattle.prelude.specs.Cases.{if◌then◌otherwise◌, split_if}
 use Rattle.prelude.specs.Number.{Bytes, bytes_of}
 use Rattle.prelude.specs.Span.{splice, length_splice}

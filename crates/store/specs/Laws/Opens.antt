@@ -1,12 +1,7 @@
 -- The words behind the tables: a store of one leaves the book as it was, and no other store touches them. Rests on Tables and Stored.
-use Rattle.std.specs.Prelude.{◌≡◌, refl, ◌⊎◌}
-use Rattle.std.proofs.Math.Path.{ap}
-use Rattle.std.proofs.Common.{◌∙◌, inl, inr, ⊎_elim, arith}
-use mathlib.Core.List.{List}
-use Prim.Native.Nat.{ℕ, ◌+◌, ◌≤◌, ◌<◌}
+use Rattle.std.specs.Prelude.{◌≡◌, refl, ◌⊎◌, List, ℕ, ◌+◌, ◌≤◌, ◌<◌, length}
+use Rattle.std.proofs.Common.{ap, ◌∙◌, inl, inr, ⊎_elim, arith, eq-eqb, lt-ltb}
 use Rattle.std.proofs.Math.Decide.{dec_lt}
-use borrow.Author.Tests.{eq-eqb, lt-ltb}
-use Rattle.std.proofs.Math.ListN.{length}
 use Rattle.prelude.specs.Cases.{if◌then◌otherwise◌}
 use Rattle.prelude.specs.Lists.{list_below, list_ext}
 use Rattle.prelude.specs.Number.{bound, bytes_of}

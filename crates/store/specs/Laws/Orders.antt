@@ -1,17 +1,12 @@
 -- What is written of an order is read back, and what is read is in range. Rests on Orders.
-use Rattle.std.specs.Prelude.{◌≡◌, Bool, ◌&&◌}
-use Rattle.std.proofs.Math.Path.{refl, sym, ap}
-use Rattle.std.proofs.Common.{◌∙◌, arith, eqb-true, eq-eqb}
-use Rattle.std.proofs.Math.Bool.{true, false}
-use mathlib.Core.List.{List, []}
-use Prim.Native.Nat.{ℕ}
+use Rattle.std.specs.Prelude.{◌≡◌, Bool, ◌&&◌, refl, true, false, List, [], ℕ, eqb, length, get_or}
+use Rattle.std.proofs.Common.{sym, ap, ◌∙◌, arith, eqb-true, eq-eqb}
 use Rattle.std.proofs.lemmas.Bool.{not-false}
-use Rattle.std.proofs.Math.Dec.{eqb}
-use Rattle.std.proofs.Math.ListN.{length, get_or}
+use Rattle.std.specs.List.{concat}
 use Rattle.prelude.specs.Cases.{if◌then◌otherwise◌, clash}
 use Rattle.prelude.specs.Span.{span, span_byte, splice_whole}
 use Rattle.prelude.specs.Number.{Bytes, word16}
-use Rattle.prelude.specs.Pieces.{joined, offset, Sized, writes, writes_joined, length_joined, piece_at}
+use Rattle.prelude.specs.Pieces.{offset, Sized, writes, writes_joined, length_joined, piece_at}
 use Rattle.store.specs.declared.GatewayCancel.{GatewayCancel}
 use Rattle.store.specs.declared.Order.{Order}
 use Rattle.store.specs.Layout.{order_size, order·client, order·venue, names·name, names·clordid, names·downstream, names·symbol, names·venueorderid, terms·side, terms·ordtype, terms·timeinforce, terms·qty, terms·price, state·status, state·cumqty, state·avgpx, state·execseq, links·amendments, links·current, links·cancel, pending·request, pending·qty, pending·price, pending·ordtype, pending·timeinforce, gateway·stage, gateway·tries, gateway·origdownstream, gateway·refusedsends}
@@ -84,13 +79,13 @@ module _ (o : Order) (h : FitsOrder o) where
   pub write_order : (s : List ℕ) → length s ≡ order_size → writes s order·client widths_order (pieces_order o) ≡ encode_order o
   unfolding encode_order
   write_order s l =
-      let e : length (joined (pieces_order o)) ≡ length s = length_joined widths_order (pieces_order o) sized ∙ sym l in
-      writes_joined widths_order (pieces_order o) s 0 sized (omega arith) ∙ splice_whole s (joined (pieces_order o)) e
+      let e : length (concat (pieces_order o)) ≡ length s = length_joined widths_order (pieces_order o) sized ∙ sym l in
+      writes_joined widths_order (pieces_order o) s 0 sized (omega arith) ∙ splice_whole s (concat (pieces_order o)) e
 
   pub decode_order_lem : OneStage o.gateway → decode_order (encode_order o) ≡ o
   unfolding encode_order decode_order
   decode_order_lem one =
-      let j : List ℕ = joined (pieces_order o) in
+      let j : List ℕ = concat (pieces_order o) in
       let l : length j ≡ order_size = length_joined widths_order (pieces_order o) sized in
       let at : (k : ℕ) → span j (offset widths_order k) (get_or widths_order k 0) ≡ get_or (pieces_order o) k [] =
       λ k. piece_at widths_order (pieces_order o) k sized in

@@ -1,13 +1,10 @@
 -- What is written of a request is read back, and what is read is in range. Rests on Requests.
-use Rattle.std.specs.Prelude.{◌≡◌, refl}
-use Rattle.std.proofs.Math.Path.{sym, ap}
-use Rattle.std.proofs.Common.{◌∙◌, arith}
-use mathlib.Core.List.{List, [], ◌∷◌}
-use Prim.Native.Nat.{ℕ, ◌+◌, ◌≤◌}
-use Rattle.std.proofs.Math.ListN.{length, get_or}
+use Rattle.std.specs.Prelude.{◌≡◌, refl, List, [], ◌∷◌, ℕ, ◌+◌, ◌≤◌, length, get_or}
+use Rattle.std.proofs.Common.{sym, ap, ◌∙◌, arith}
+use Rattle.std.specs.List.{concat}
 use Rattle.prelude.specs.Span.{span, span_byte, span_span, splice_whole}
 use Rattle.prelude.specs.Number.{Bytes, bytes_of}
-use Rattle.prelude.specs.Pieces.{joined, offset, Sized, writes, writes_joined, length_joined, piece_at}
+use Rattle.prelude.specs.Pieces.{offset, Sized, writes, writes_joined, length_joined, piece_at}
 use Rattle.store.specs.declared.Request.{Request}
 use Rattle.store.specs.Layout.{request_size, request·order, request·kind, request·answered, request·clordid, request·origclordid, request·downstream, request·outcome, request·origin}
 use Rattle.store.specs.Laws.Cells.{length_text, read_16, read_text, fits_16, fits_text}
@@ -39,13 +36,13 @@ module _ (origin : ℕ) (r : Request) (h : WholeRequest r) where
   pub write_request : (s : List ℕ) → length s ≡ request_size → writes s request·order widths_request (pieces_request origin r) ≡ encode_request origin r
   unfolding encode_request
   write_request s l =
-      let e : length (joined (pieces_request origin r)) ≡ length s = length_joined widths_request (pieces_request origin r) sized ∙ sym l in
-      writes_joined widths_request (pieces_request origin r) s 0 sized (omega arith) ∙ splice_whole s (joined (pieces_request origin r)) e
+      let e : length (concat (pieces_request origin r)) ≡ length s = length_joined widths_request (pieces_request origin r) sized ∙ sym l in
+      writes_joined widths_request (pieces_request origin r) s 0 sized (omega arith) ∙ splice_whole s (concat (pieces_request origin r)) e
 
   pub decode_request_lem : decode_request (encode_request origin r) ≡ r
   unfolding encode_request decode_request
   decode_request_lem =
-      let j : List ℕ = joined (pieces_request origin r) in
+      let j : List ℕ = concat (pieces_request origin r) in
       let l : length j ≡ request_size = length_joined widths_request (pieces_request origin r) sized in
       let at : (k : ℕ) → span j (offset widths_request k) (get_or widths_request k 0) ≡ get_or (pieces_request origin r) k [] =
       λ k. piece_at widths_request (pieces_request origin r) k sized in
@@ -62,7 +59,7 @@ module _ (origin : ℕ) (r : Request) (h : WholeRequest r) where
   beside_piece : (at n : ℕ) → at + n ≤ 25 → span (encode_request origin r) (request·outcome + at) n ≡ span (beside_bytes origin) at n
   unfolding encode_request
   beside_piece at n p =
-      let j : List ℕ = joined (pieces_request origin r) in
+      let j : List ℕ = concat (pieces_request origin r) in
       sym (span_span j request·outcome 25 at n p) ∙ ap (λ (s : List ℕ). span s at n) (piece_at widths_request (pieces_request origin r) 6 sized)
 
   pub outcome_piece : span (encode_request origin r) request·outcome 1 ≡ 0 ∷ []

@@ -1,10 +1,6 @@
 -- The two tables and the header in one buffer: what a store leaves as it was, and what it makes anew. Rests on Book and prelude's Table.
-use Rattle.std.specs.Prelude.{◌≡◌, ◌⊎◌, List, ℕ, ◌+◌, ◌≤◌, ◌<◌, min}
-use Rattle.std.proofs.Math.Path.{refl, ap}
-use Rattle.std.proofs.Common.{◌∙◌, inl, inr, arith}
-use Rattle.std.proofs.Math.Logic.{⊎_elim}
-use borrow.Author.Tests.{eq-eqb}
-use Rattle.std.proofs.Math.ListN.{length}
+use Rattle.std.specs.Prelude.{◌≡◌, ◌⊎◌, List, ℕ, ◌+◌, ◌≤◌, ◌<◌, min, refl, length}
+use Rattle.std.proofs.Common.{ap, ◌∙◌, inl, inr, arith, ⊎_elim, eq-eqb}
 use Rattle.prelude.specs.Cases.{if◌then◌otherwise◌}
 use Rattle.prelude.specs.Span.{span, splice, length_splice, span_splice_same, span_splice_before, span_splice_after}
 use Rattle.prelude.specs.Number.{bytes_of}

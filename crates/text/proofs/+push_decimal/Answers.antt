@@ -1,6 +1,5 @@
 -- `push_decimal` pushes the last digit behind the others. Rests on Numbered.
-use mathlib.Core.Path.{sym, ap, ◌∙◌}
-use Prim.Native.Nat.{◌+◌, ◌/◌, ◌%◌}
+use Rattle.std.proofs.Common.{sym, ap, ◌∙◌, ◌+◌, ◌/◌, ◌%◌}
 use Rattle.prelude.specs.declared.Text.{Text}
 use Rattle.text.specs.Words.{push_text, push_all}
 use Rattle.text.specs.Numbered.{decimal}

@@ -1,6 +1,5 @@
 -- `stored` meets its contract: no bit stands behind the text. Rests on InPlace.
-use Rattle.std.specs.Prelude.{ℕ, eqb, drop}
-use Rattle.std.proofs.Common.{rules, take_all, length-drop, ap, ◌∙◌, arith}
+use Rattle.std.proofs.Common.{ℕ, eqb, drop, rules, take_all, length-drop, ap, ◌∙◌, arith}
 use Rattle.std.proofs.lemmas.Bool.{lt-leb}
 use Rattle.std.proofs.lemmas.Iterator.{YieldsList-from_slice}
 use Rattle.std.proofs.lemmas.Iterator.Consumers.{fold_from_yields_List}

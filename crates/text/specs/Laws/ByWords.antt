@@ -1,10 +1,11 @@
 -- Two texts compared by words of 8 bytes. Rests on words' Windows.
 use Rattle.std.specs.Prelude.{◌≡◌, refl, Bool, true, ◌&&◌, List, ◌++◌, ℕ, ◌+◌, ◌≤◌, eqb, length, get_or}
 use Rattle.std.proofs.Common.{sym, ap, ap₂, ◌∙◌, add-zero, arith, eqb-true, eq-eqb}
+use Rattle.std.proofs.lemmas.Bool.{and_parts}
 use Rattle.std.specs.Str.{bytes_eq}
 use Rattle.std.proofs.lemmas.Slice.Eq.{bytes_eq-Decides}
+use Rattle.std.specs.Cmp.{both_ways}
 use Rattle.prelude.specs.Below.{all_below, all_intro}
-use Rattle.prelude.specs.Cases.{both_true, test_same}
 use Rattle.prelude.specs.Number.{Bytes, number, bytes_of, word64, word64_number, bytes_number}
 use Rattle.prelude.specs.Span.{span, length_span, span_join, span_whole}
 use Rattle.prelude.specs.Texts.{text_at, agree_at, same_text, same_text_lem}
@@ -52,7 +53,7 @@ alike a b la lb e = same_text_lem (bare a) (bare b) la lb (rw (eq-eqb 0 0 refl) 
 -- `==` of two texts' bytes
 pub bytes_agree : (a b : List ℕ) → length a ≡ 32 → length b ≡ 32 → bytes_eq a b ≡ all_below (agree_at a b) 32
 bytes_agree a b la lb =
-    test_same (bytes_eq a b) (all_below (agree_at a b) 32)
+    both_ways (bytes_eq a b) (all_below (agree_at a b) 32)
     (λ e. all_intro (agree_at a b) 32 (λ k h. eq-eqb _ _ (ap (λ (l : List ℕ). get_or l k 0) ((bytes_eq-Decides a b).0 e))))
     (λ e. (bytes_eq-Decides a b).1 (ap (λ (t : Text). t.bytes) (alike a b la lb e)))
 
@@ -63,9 +64,9 @@ module _ (a b : List ℕ) (la : length a ≡ 32) (lb : length b ≡ 32) (ba : By
 
   words_equal : words_same a b ≡ true → a ≡ b
   words_equal e =
-      let p = both_true (eqb (word64 a 0) (word64 b 0) && eqb (word64 a 8) (word64 b 8) && eqb (word64 a 16) (word64 b 16)) (eqb (word64 a 24) (word64 b 24)) e in
-      let q = both_true (eqb (word64 a 0) (word64 b 0) && eqb (word64 a 8) (word64 b 8)) (eqb (word64 a 16) (word64 b 16)) p.0 in
-      let r = both_true (eqb (word64 a 0) (word64 b 0)) (eqb (word64 a 8) (word64 b 8)) q.0 in
+      let p = and_parts (eqb (word64 a 0) (word64 b 0) && eqb (word64 a 8) (word64 b 8) && eqb (word64 a 16) (word64 b 16)) (eqb (word64 a 24) (word64 b 24)) e in
+      let q = and_parts (eqb (word64 a 0) (word64 b 0) && eqb (word64 a 8) (word64 b 8)) (eqb (word64 a 16) (word64 b 16)) p.0 in
+      let r = and_parts (eqb (word64 a 0) (word64 b 0)) (eqb (word64 a 8) (word64 b 8)) q.0 in
       four a la
       ∙ ap₂ (λ (u v : List ℕ). u ++ v)
       (ap₂ (λ (u v : List ℕ). u ++ v) (word_same 0 (omega arith) r.0) (word_same 8 (omega arith) r.1))
@@ -79,7 +80,7 @@ module _ (a b : List ℕ) (la : length a ≡ 32) (lb : length b ≡ 32) (ba : By
 
   pub words_same_lem : words_same a b ≡ all_below (agree_at a b) 32
   words_same_lem =
-      test_same (words_same a b) (all_below (agree_at a b) 32)
+      both_ways (words_same a b) (all_below (agree_at a b) 32)
       (λ e. all_intro (agree_at a b) 32 (λ k h. eq-eqb _ _ (ap (λ (l : List ℕ). get_or l k 0) (words_equal e))))
       (λ e. equal_words (ap (λ (t : Text). t.bytes) (alike a b la lb e)))
 

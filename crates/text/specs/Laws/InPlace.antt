@@ -1,8 +1,8 @@
 -- Comparison and range of a text in place, and its range byte by byte: what loops over its bytes show. Rests on Words.
 use Rattle.std.specs.Prelude.{◌≡◌, refl, Bool, true, false, ◌&&◌, List, [], ◌∷◌, ◌++◌, ℕ, suc, ◌+◌, ◌≤◌, eqb, length, get_or, take, drop, replicate}
-use Rattle.std.specs.List.{fold}
 use Rattle.std.proofs.Common.{sym, ap, ◌∙◌, arith, add-one, drop-cons, length-drop, length-take-le, eqb-true, ne_eqb, lt-ltb, le-ltb, le-leb}
 use Rattle.std.proofs.lemmas.Bool.{eqb-false}
+use Rattle.std.specs.List.{fold}
 use Rattle.std.specs.Int.Bits.{bit_or, or_add_and}
 use Rattle.std.proofs.lemmas.Nat.{and_le_l, and_le_r}
 use Rattle.prelude.specs.Below.{all_below, all_intro, all_step}
@@ -35,11 +35,11 @@ or_zero a b = go (eqb a 0) (eqb b 0) refl refl
 
 module _ (t : Text) where
   -- the bytes of the text itself are not looked at
-  fill_none : all_below (filled_at t) t.len ≡ true
+  pub fill_none : all_below (filled_at t) t.len ≡ true
   fill_none = all_intro (filled_at t) t.len (λ k h. rw (lt-ltb k t.len h))
 
   -- one byte more
-  fill_more : (k a x : ℕ) → t.len ≤ k → get_or t.bytes k 0 ≡ x → eqb a 0 ≡ all_below (filled_at t) k
+  pub fill_more : (k a x : ℕ) → t.len ≤ k → get_or t.bytes k 0 ≡ x → eqb a 0 ≡ all_below (filled_at t) k
       → eqb (bit_or a x) 0 ≡ all_below (filled_at t) (k + 1)
   fill_more k a x l g e =
       or_zero a x

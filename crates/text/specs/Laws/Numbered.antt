@@ -1,11 +1,8 @@
 -- Decimal digits and numbered names: how many digits, that they tell the number, and bytes pushed behind a text. Rests on Numbered.
-use Rattle.std.specs.Prelude.{◌≡◌, refl, ℕ, zero, suc, ◌+◌, ◌-◌, ◌*◌, ◌/◌, ◌%◌, ◌≤◌, ◌<◌, min, ltb, length, take, set}
-use Rattle.std.proofs.Math.Path.{sym, ap}
-use Rattle.std.proofs.Common.{◌∙◌, arith, lt-ltb, le-ltb, ltb-true, ltb-false, length-append, length-take}
-use mathlib.Core.List.{List, [], ◌∷◌, ◌++◌, append_assoc, append-nil}
-use Rattle.std.proofs.Math.ListN.{replicate}
-use Rattle.std.proofs.lemmas.List.{replicate-append-replicate, take-append-le}
+use Rattle.std.specs.Prelude.{◌≡◌, refl, ℕ, zero, suc, ◌+◌, ◌-◌, ◌*◌, ◌/◌, ◌%◌, ◌≤◌, ◌<◌, min, ltb, length, take, set, List, [], ◌∷◌, ◌++◌, replicate}
+use Rattle.std.proofs.Common.{sym, ap, ◌∙◌, arith, lt-ltb, le-ltb, ltb-true, ltb-false, length-append, length-take, append_assoc, append-nil}
 use Rattle.std.proofs.Math.Seq.{take-set-lt, set-append_seam}
+use Rattle.std.proofs.lemmas.List.{replicate-append-replicate, take-append-le}
 use Rattle.prelude.specs.Cases.{if◌then◌otherwise◌, split_if}
 use Rattle.prelude.specs.Texts.{contents, text_of}
 use Rattle.prelude.specs.declared.Text.{Text}

@@ -1,26 +1,22 @@
 -- `put_body`: what is left to be written are the rows not yet passed. Assumes nothing.
-use Rattle.std.proofs.Common.{◌≡◌, ℕ, ◌<◌, true, false, leb, length, get_or, sym, ap, subst, ◌∙◌, le-leb, arith}
+use Rattle.std.proofs.Common.{◌≡◌, ℕ, ◌<◌, true, false, length, get_or, sym, ap, subst, ◌∙◌, arith, Option}
 use Rattle.std.proofs.lemmas.List.{length-map}
-use Rattle.prelude.specs.Cases.{both_hold}
 use Rattle.fix_words.specs.Rows.{in_rows}
 use Rattle.fix_words.specs.Values.{rows}
-use Rattle.fix_words.proofs.Laws.Kinds.{row_small}
 use Rattle.fix.specs.Laws.Plan.{planned, Sound, rows_shown}
 use Rattle.fix_table.specs.declared.Row as code
 use Rattle.fix_table.specs.Table.{row_at, as_row}
-use Rattle.fix_table.specs.Laws.Rows.{IsRow, row_is, bit_small}
+use Rattle.fix_table.specs.Laws.Rows.{IsRow, row_is, bit_small, bit_in_rows}
 use Rattle.fix.specs.Laws.Putting.{rows_long_lem, shown_last, Rest, rest_start, rest_end, row_room, row_next}
 use Rattle.fix.specs.declared.value.Value.{Value}
 use Rattle.fix.proofs.put.put_body.Goals as goal
 use Rattle.fix.proofs.put.put_body.Goals.{After-value_at-v, In-loop-row, Start}
 
-abbrev plan : Start → ℕ → Value
+abbrev plan : Start → ℕ → Option Value
 plan s = let a = s.args in planned a.kind a.parts.now.map a.parts.now.at a.parts.now.numbers a.parts.now.high
 
 sounds : (s : Start) (b : ℕ) → in_rows (rows s.args.kind) b ≡ true → Sound s.args.s.now (plan s b)
-sounds s b i =
-    let k = s.args.kind in
-    s.requires.2 b (row_small k (both_hold (leb 16 k) (leb k 20) (le-leb 16 k s.requires.0) (le-leb k 20 s.requires.1)) b i)
+sounds s b i = s.requires.0 b (bit_in_rows s.args.kind b i)
 
 -- what a row is read as past the last
 abbrev blank : code.Row
@@ -43,13 +39,13 @@ the_value : (c : After-value_at-v) → c.value_at-v.result ≡ plan (start c) (r
 the_value c = c.value_at-v.ensures ∙ ap (plan (start c)) (this (goal.at.After-value_at-v c).In-loop-row).bit
 
 sound : (c : After-value_at-v) → Sound c.args.s.now c.value_at-v.result
-sound c = subst (λ (v : Value). Sound c.args.s.now v) (sym c.value_at-v.ensures) (c.requires.2 _ (small (goal.at.After-value_at-v c).In-loop-row))
+sound c = subst (λ (v : Option Value). Sound c.args.s.now v) (sym c.value_at-v.ensures) (c.requires.0 _ (small (goal.at.After-value_at-v c).In-loop-row))
 
 pub loop-row-init : goal.loop-row-init
 loop-row-init c =
     let a = c.args in
     let s = (goal.at.loop-row-init c).Start in
-    rest_start a.out.now a.start (rows_shown a.s.now (rows a.kind) (plan s)) (omega (arith, c.requires.3, rows_long_lem a.s.now (plan s) (rows a.kind) (sounds s)))
+    rest_start a.out.now a.start (rows_shown a.s.now (rows a.kind) (plan s)) (omega (arith, c.requires.1, rows_long_lem a.s.now (plan s) (rows a.kind) (sounds s)))
 
 pub value_at-v-requires : goal.value_at-v-requires
 value_at-v-requires c = small (goal.at.value_at-v-requires c).In-loop-row

@@ -1,9 +1,5 @@
 -- `fix::put::put_exec`: the name, a point, the digits. Assumes nothing.
-use mathlib.Core.Path.{◌≡◌, ap, ◌∙◌}
-use mathlib.Core.List.{List, ◌∷◌, ◌++◌}
-use Prim.Native.Nat.{ℕ, ◌+◌}
-use native.Mathlib.Omega.{arith}
-use lib.ListN.{length, set, length-set}
+use Rattle.std.proofs.Common.{◌≡◌, ap, ◌∙◌, List, ◌∷◌, ◌++◌, ℕ, ◌+◌, arith, length, set, length-set}
 use Rattle.prelude.specs.Span.{span, splice, length_span}
 use Rattle.decimal.specs.Decimal.{decimal}
 use Rattle.decimal.specs.Laws.Width.{three}
@@ -14,11 +10,6 @@ pub put_digits-requires : goal.put_digits-requires
 put_digits-requires c =
     let p = c.put_part-a in
     omega (arith, p.ensures.0, p.auto.out, length-set p.new.out p.result 46, ap length (decimal_none c.args.n))
-
-pub shape_of-out : goal.shape_of-out
-shape_of-out c =
-    let p = c.put_part-a in
-    c.put_digits.auto.out ∙ length-set p.new.out p.result 46 ∙ p.auto.out
 
 pub returns : goal.returns
 returns c =

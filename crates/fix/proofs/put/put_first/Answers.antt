@@ -1,7 +1,5 @@
 -- `fix::put::put_first`: 8, then 9. Assumes nothing.
-use mathlib.Core.List.{List, [], ◌∷◌}
-use Prim.Native.Nat.{ℕ}
-use native.Mathlib.Omega.{arith}
+use Rattle.std.proofs.Common.{List, [], ◌∷◌, ℕ, arith}
 use Rattle.decimal.specs.Decimal.{digits}
 use Rattle.fix_words.specs.Spelling.{Field, field, spellings}
 use Rattle.fix_words.specs.Message.{version}

@@ -1,9 +1,5 @@
 -- `fix::put::put_head`: one field behind the other. Assumes nothing.
-use mathlib.Core.Path.{◌≡◌, ap, ◌∙◌}
-use mathlib.Core.List.{List, [], ◌∷◌}
-use Prim.Native.Nat.{ℕ, ◌+◌}
-use native.Mathlib.Omega.{arith}
-use lib.ListN.{length}
+use Rattle.std.proofs.Common.{◌≡◌, ap, ◌∙◌, List, [], ◌∷◌, ℕ, ◌+◌, arith, length}
 use Rattle.prelude.specs.Span.{splice}
 use Rattle.decimal.specs.Decimal.{digits}
 use Rattle.fix_words.specs.Spelling.{Field, field, spellings}

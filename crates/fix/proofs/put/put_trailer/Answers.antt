@@ -1,9 +1,5 @@
 -- `fix::put::put_trailer`: the sum as three digits. Assumes nothing.
-use mathlib.Core.Path.{◌≡◌, ap, ◌∙◌}
-use mathlib.Core.List.{List, [], ◌∷◌}
-use Prim.Native.Nat.{ℕ, ◌+◌, ◌%◌}
-use native.Mathlib.Omega.{arith}
-use lib.ListN.{length}
+use Rattle.std.proofs.Common.{◌≡◌, ap, ◌∙◌, List, [], ◌∷◌, ℕ, ◌+◌, ◌%◌, length}
 use Rattle.prelude.specs.Span.{span, splice}
 use Rattle.decimal.specs.Decimal.{low_digits}
 use Rattle.fix_words.specs.Spelling.{field, spellings}
@@ -23,10 +19,6 @@ long c = ten_long (told c) (length_low 3 (sum (span c.args.out.now 0 c.args.at) 
 digits_are : (c : After-sum_digits-digits) → c.sum_digits-digits.result ≡ told (goal.at.After-sum_digits-digits c).Start
 unfolding span
 digits_are c = c.sum_digits-digits.ensures
-
-pub put_text-requires : goal.put_text-requires
-put_text-requires c =
-    rw (digits_are (goal.at.put_text-requires c).After-sum_digits-digits) (omega (arith, long (goal.at.put_text-requires c).Start))
 
 pub returns : goal.returns
 returns c =

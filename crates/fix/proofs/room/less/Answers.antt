@@ -1,8 +1,7 @@
 -- `less`: what is left, where it fits. Assumes nothing.
-use Rattle.std.proofs.Common.{◌≡◌, ℕ, ◌-◌, ◌≤◌, leb, None, Some, sym, ap, ◌∙◌, le-leb, arith}
-use Rattle.std.specs.Prelude.{Option}
-use Rattle.std.specs.Option.{SomeIff}
+use Rattle.std.proofs.Common.{◌≡◌, ℕ, ◌-◌, ◌≤◌, leb, None, Some, sym, ap, ◌∙◌, le-leb, arith, Option}
 use Rattle.std.proofs.lemmas.Bool.{lt-leb}
+use Rattle.std.specs.Option.{SomeIff}
 use Rattle.prelude.specs.Cases.{if_true, if_false}
 use Rattle.fix.specs.Laws.Plan.{less_by}
 use Rattle.fix.proofs.room.less.Goals as goal

@@ -1,6 +1,5 @@
 -- `less_body`: behind the rows that are left there is as much room as behind all. Assumes nothing.
-use Rattle.std.proofs.Common.{◌≡◌, ℕ, ◌+◌, ◌<◌, length, drop, false, refl, sym, ap, ◌∙◌, arith}
-use Rattle.std.specs.Prelude.{Option}
+use Rattle.std.proofs.Common.{◌≡◌, ℕ, ◌+◌, ◌<◌, length, drop, false, sym, ap, ◌∙◌, arith, Option}
 use Rattle.std.proofs.lemmas.List.{length-map}
 use Rattle.fix_words.specs.Values.{rows}
 use Rattle.fix.specs.Laws.Plan.{planned, field_long, rows_long, less_by}
@@ -15,9 +14,6 @@ use Rattle.fix.proofs.room.less_body.Goals as goal
 abbrev blank : Row
 blank = record { tag = 0; bit = 0; must = false }
 
-pub loop-row-init : goal.loop-row-init
-loop-row-init c = refl
-
 pub value_at-v-requires : goal.value_at-v-requires
 value_at-v-requires c =
     let l = c.loop-row in
@@ -28,7 +24,7 @@ loop-row-preserved c =
     let a = c.args in
     let l = c.loop-row in
     let i = l.row-index in
-    let f : ℕ → Value = planned a.kind a.parts.now.map a.parts.now.at a.parts.now.numbers a.parts.now.high in
+    let f : ℕ → Option Value = planned a.kind a.parts.now.map a.parts.now.at a.parts.now.numbers a.parts.now.high in
     let h : i < length (rows a.kind) = omega (arith, sym (length-map c.rows-row-items.result.now as_row) ∙ ap length c.rows-row-items.ensures) in
     let t : ℕ = (row_at a.kind i).tag in
     let b : ℕ = (row_at a.kind i).bit in
@@ -43,6 +39,6 @@ pub returns : goal.returns
 returns c =
     let a = c.args in
     let l = c.loop-row in
-    let f : ℕ → Value = planned a.kind a.parts.now.map a.parts.now.at a.parts.now.numbers a.parts.now.high in
+    let f : ℕ → Option Value = planned a.kind a.parts.now.map a.parts.now.at a.parts.now.numbers a.parts.now.high in
     let e : l.row-index ≡ length (rows a.kind) = omega (arith, sym (length-map c.rows-row-items.result.now as_row) ∙ ap length c.rows-row-items.ensures) in
     sym (less_none l.left) ∙ ap (less_by l.left) (sym (long_last f (rows a.kind) l.row-index e)) ∙ l.invariant

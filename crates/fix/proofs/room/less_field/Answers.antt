@@ -1,21 +1,17 @@
--- `less_field`: the tag, =, the value, SOH. Assumes nothing.
+-- `less_field`: nothing where there is no value, else the tag, =, the value, SOH. Assumes nothing.
 use Rattle.std.proofs.Common.{◌≡◌, ℕ, ◌+◌, List, [], length, sym, ap, ◌∙◌, arith}
-use Rattle.std.specs.Prelude.{Option}
 use Rattle.decimal.specs.Decimal.{decimal}
 use Rattle.fix.specs.Laws.Plan.{long_of, field_long, less_by}
-use Rattle.fix.specs.Laws.Putting.{standing, field_some, shown_none, less_three}
+use Rattle.fix.specs.Laws.Putting.{less_none, less_three, shown_none, field_some}
 use Rattle.fix.proofs.room.less_field.Goals as goal
 
-pub returns-in-Nothing : goal.returns-in-Nothing
-returns-in-Nothing c = c.less.ensures ∙ ap (less_by c.args.room) (sym (ap (field_long c.args.tag) c.in-Nothing.is ∙ (shown_none [] c.args.tag).1))
+pub returns-in_default : goal.returns-in_default
+returns-in_default c = sym (ap (less_by c.args.room) (shown_none [] c.args.tag c.args.v c.in_default.is).1 ∙ less_none c.args.room)
 
 pub returns : goal.returns
 returns c =
     let a = c.args in
+    let w = c.in-Some.value in
     let d : List ℕ = decimal 0 a.tag in
-    let z : length d + long_of a.v + 2 ≡ field_long a.tag a.v = omega (arith, field_some a.tag a.v (standing a.v c.in_default.not-Nothing)) in
-    c.less-3.ensures
-    ∙ ap (λ (t : Option ℕ). less_by t 2) c.less_value.ensures
-    ∙ ap (λ (t : Option ℕ). less_by (less_by t (long_of a.v)) 2) (c.less-2.ensures ∙ ap (less_by a.room) c.decimal_length.ensures.0)
-    ∙ less_three a.room (length d) (long_of a.v) 2
-    ∙ ap (less_by a.room) z
+    let z : length d + long_of w + 2 ≡ field_long a.tag a.v = omega (arith, field_some a.tag a.v w c.in-Some.is) in
+    rw (← z, ← less_three a.room (length d) (long_of w) 2, ← c.decimal_length.ensures.0, ← c.less.ensures, ← c.less_value.ensures) c.less-2.ensures

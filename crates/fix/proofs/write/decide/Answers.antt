@@ -1,16 +1,7 @@
 -- `fix::write::decide`: the questions in their order. Assumes nothing.
-use borrow.Author.Tests.{leb-true, leb-false}
-use mathlib.Core.Path.{◌≡◌, sym, ap, ◌∙◌}
-use mathlib.Core.List.{List}
-use mathlib.Core.Bool.{true, not}
-use Prim.Native.Nat.{ℕ, ◌+◌, ◌-◌, ◌≤◌}
-use native.Mathlib.Omega.{arith}
-use lib.Dec.{leb}
-use lib.ListN.{length}
+use Rattle.std.proofs.Common.{leb-true, leb-false, ◌≡◌, sym, ap, ◌∙◌, List, true, not, ℕ, ◌+◌, ◌-◌, ◌≤◌, arith, leb, length, Some}
 use Rattle.std.specs.Option.{is_some}
-use Rattle.std.specs.Prelude.{Some}
 use Rattle.std.proofs.lemmas.Result.{err_from_is_err_and}
-use Rattle.prelude.specs.Cases.{both_true}
 use Rattle.format.specs.Codes.{within}
 use Rattle.format.specs.Places.{kind_at}
 use Rattle.records.specs.Parts.{parts_refusal}
@@ -92,13 +83,6 @@ returns-then-not-texted-clause-err c =
 
 pub bounds-record-0 : goal.bounds-record-0
 bounds-record-0 c = omega (arith, (kind (goal.at.bounds-record-0 c).In_ok-parts).1)
-
-pub inside-left-requires : goal.inside-left-requires
-inside-left-requires c =
-    let e = (goal.at.inside-left-requires c).In_ok-parts in
-    let k = kind_at (src (begun e)) 0 in
-    let b = both_true (leb 16 k) (leb k 20) (kind e).0 in
-    (leb-true 16 k b.0, leb-true k 20 b.1)
 
 pub returns-in_default-clause-err : goal.returns-in_default-clause-err
 returns-in_default-clause-err c =

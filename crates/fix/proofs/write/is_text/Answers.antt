@@ -1,6 +1,5 @@
 -- `is_text`: of every byte. Rests on Laws.Whole.
-use Rattle.std.proofs.Common.{not, nat_eq, length, rules, sym, ap, ◌∙◌, eq-eqb, eqb-true}
-use borrow.Author.Tests.{tests}
+use Rattle.std.proofs.Common.{not, nat_eq, length, rules, sym, ap, ◌∙◌, eq-eqb, eqb-true, tests}
 use Rattle.std.proofs.lemmas.Iterator.{YieldsList-from_slice}
 use Rattle.std.proofs.lemmas.Iterator.Search.{all_from_yields_List}
 use Rattle.prelude.specs.Cases.{clash}

@@ -1,13 +1,5 @@
 -- `fix::write::put_message`: each part behind the other. Assumes nothing.
-use borrow.Author.Tests.{leb-true}
-use mathlib.Core.Path.{◌≡◌, sym, ap, subst, ◌∙◌}
-use mathlib.Core.List.{List, [], ◌∷◌, ◌++◌}
-use mathlib.Core.Bool.{true}
-use Prim.Native.Nat.{ℕ, ◌+◌, ◌≤◌}
-use native.Mathlib.Omega.{arith}
-use lib.Dec.{leb}
-use lib.ListN.{length}
-use Rattle.prelude.specs.Cases.{both_true}
+use Rattle.std.proofs.Common.{◌≡◌, sym, ap, subst, ◌∙◌, List, [], ◌∷◌, ◌++◌, true, ℕ, ◌+◌, ◌≤◌, arith, length, Option}
 use Rattle.prelude.specs.Span.{span, splice}
 use Rattle.format.specs.Codes.{within}
 use Rattle.format.specs.Places.{kind_at}
@@ -41,13 +33,10 @@ parted s = s.requires.parted
 kind : (s : Start) → (within 16 20 (k s) ≡ true) × (5 ≤ length (src s))
 kind s = whole_kind (src s) (parted s).whole
 
-kinds : (s : Start) → (16 ≤ k s) × (k s ≤ 20)
-kinds s = let b = both_true (leb 16 (k s)) (leb (k s) 20) (kind s).0 in (leb-true 16 (k s) b.0, leb-true (k s) 20 b.1)
-
 abbrev L : Start → ℕ
 L s = length (spellings (inner (writing_of (src s) (told s))))
 
-abbrev f : Start → ℕ → Value
+abbrev f : Start → ℕ → Option Value
 f s = let p = s.args.p.now.parts in planned (k s) p.map p.at p.numbers p.high
 
 abbrev front10 : Start → List ℕ
@@ -119,13 +108,11 @@ put_first-a-requires c =
 
 pub put_head-b-requires : goal.put_head-b-requires
 put_head-b-requires c =
-    ((kinds (goal.at.put_head-b-requires c).Start).0, (kinds (goal.at.put_head-b-requires c).Start).1, rest_room (head (goal.at.put_head-b-requires c).Start) (tail2 (goal.at.put_head-b-requires c).Start) (first (goal.at.put_head-b-requires c).After-put_first-a))
+    rest_room (head (goal.at.put_head-b-requires c).Start) (tail2 (goal.at.put_head-b-requires c).Start) (first (goal.at.put_head-b-requires c).After-put_first-a)
 
 pub put_body-c-requires : goal.put_body-c-requires
 put_body-c-requires c =
     let p = c.args.p.now.parts in (
-      (kinds (goal.at.put_body-c-requires c).Start).0,
-      (kinds (goal.at.put_body-c-requires c).Start).1,
       λ b h. plan_sound (src (goal.at.put_body-c-requires c).Start) p.map p.at p.numbers p.high (parted (goal.at.put_body-c-requires c).Start) (k (goal.at.put_body-c-requires c).Start) b h,
       omega (arith, rest_room (rows_shown (src (goal.at.put_body-c-requires c).Start) (rows (k (goal.at.put_body-c-requires c).Start)) (f (goal.at.put_body-c-requires c).Start)) (tail3 (goal.at.put_body-c-requires c).Start) (second (goal.at.put_body-c-requires c).After-put_head-b), body_is (goal.at.put_body-c-requires c).Start),
     )

@@ -1,9 +1,5 @@
 -- `fix::write::write`: a refusal, or the message. Assumes nothing.
-use borrow.Author.Tests.{eq-eqb, ne_eqb}
-use mathlib.Core.Path.{◌∙◌}
-use mathlib.Core.List.{List}
-use Prim.Native.Nat.{ℕ}
-use lib.ListN.{length}
+use Rattle.std.proofs.Common.{eq-eqb, ne_eqb, ◌∙◌, List, ℕ, length}
 use Rattle.prelude.specs.Cases.{if◌then◌otherwise◌}
 use Rattle.records.specs.Laws.Refused.{number_not}
 use Rattle.fix_words.specs.Record.{Session, session, write_refusal}
@@ -16,9 +12,6 @@ src s = s.args.«record».now
 
 abbrev told : Start → Session
 told s = session s.args.header.now.sender.now s.args.header.now.target.now s.args.header.now.sequence s.args.header.now.time.now
-
-pub put_message-end-requires : goal.put_message-end-requires
-put_message-end-requires c = c.in-Ok.ensures.ok
 
 pub returns-in-Ok : goal.returns-in-Ok
 unfolding write_call if◌then◌otherwise◌

@@ -1,6 +1,6 @@
 -- `behind_point`: by the place of the first point. Rests on Laws.Special.
-use Rattle.std.proofs.Common.{rules, length, ◌-◌, ◌+◌, drop, sym, ◌∙◌, arith, take_all, length-drop}
-use borrow.Author.Tests.{tests}
+use Rattle.std.proofs.Common.{rules, ◌+◌, sym, ◌∙◌, tests}
+use Rattle.std.proofs.lemmas.List.{take_rest}
 use Rattle.std.proofs.lemmas.Iterator.{YieldsList-from_slice}
 use Rattle.std.proofs.lemmas.Iterator.Search.{position_from_yields_List}
 use Rattle.fix_reader.specs.Laws.Special.{is_point, behind_some, behind_none}
@@ -11,7 +11,7 @@ returns-in-Some c =
     let v = c.args.v.now in
     let n = c.in-Some.i + 1 in
     let e = position_from_yields_List is_point _ _ _ c.position.ensures.ran (YieldsList-from_slice c.args.v.now (cc)) (λ x b q k. search (rules, tests)) in
-    take_all (length v - n) (drop n v) (omega (arith, length-drop n v)) ∙ behind_some v c.in-Some.i (sym c.in-Some.is ∙ e)
+    take_rest v n ∙ behind_some v c.in-Some.i (sym c.in-Some.is ∙ e)
 
 pub returns-in-None : goal.returns-in-None
 returns-in-None c =

@@ -1,6 +1,7 @@
 -- `exec_fits`: the name, the point, then the number behind the first point, spelled again. Rests on Laws.Special.
-use Rattle.std.proofs.Common.{◌≡◌, ℕ, suc, ◌+◌, ◌-◌, ◌%◌, ◌<◌, Bool, true, false, ◌&&◌, eqb, List, ◌∷◌, ◌++◌, length, get_or, take, drop, sym, ap, ◌∙◌, arith, add-one, length-append, length-drop, take_all, eq-eqb, ne_eqb}
-use Rattle.prelude.specs.Cases.{both_false}
+use Rattle.std.proofs.Common.{◌≡◌, ℕ, suc, ◌+◌, ◌%◌, ◌<◌, Bool, true, false, ◌&&◌, eqb, List, ◌∷◌, ◌++◌, length, get_or, take, drop, sym, ap, ◌∙◌, arith, add-one, length-append, eq-eqb, ne_eqb}
+use Rattle.std.proofs.Math.Bool.{and-false}
+use Rattle.std.proofs.lemmas.List.{take_rest}
 use Rattle.decimal.specs.Decimal.{decimal, digits, number_in}
 use Rattle.fix_words.specs.Lists.{same, after}
 use Rattle.fix_reader.specs.Laws.Numbers.{word, same_long, told_other, told_same}
@@ -31,7 +32,7 @@ returns-then-v-k-ne46 c =
     let s = (goal.at.returns-then-v-k-ne46 c).Start in
     let nm = c.args.name.now in
     let v = c.args.v.now in
-    sym (parts s (omega arith) ∙ ap (three s (same nm (take (length nm) v))) (ne_eqb 46 (get_or v (length nm) 0) (λ e. c.if-v-k-ne46.true (sym e))) ∙ both_false (same nm (take (length nm) v)))
+    sym (parts s (omega arith) ∙ ap (three s (same nm (take (length nm) v))) (ne_eqb 46 (get_or v (length nm) 0) (λ e. c.if-v-k-ne46.true (sym e))) ∙ and-false (same nm (take (length nm) v)))
 
 pub returns-then-ne : goal.returns-then-ne
 returns-then-ne c =
@@ -52,6 +53,6 @@ returns c =
     let x : eqb 46 (get_or v (length nm) 0) ≡ true = eq-eqb 46 (get_or v (length nm) 0) (sym c.if-v-k-ne46.false) in
     let n : c.wrapped.result ≡ number_in (after 46 v) % word = c.wrapped.ensures ∙ ap (λ (u : List ℕ). number_in u % word) c.behind_point.ensures in
     c.spelled.ensures
-    ∙ (λ i. same (digits (n i)) (take_all (length v - k) (drop k v) (omega (arith, length-drop k v)) i))
+    ∙ (λ i. same (digits (n i)) (take_rest v k i))
     ∙ ap (λ (j : ℕ). same (tail s) (drop j v)) (add-one (length nm))
     ∙ sym (parts s (omega arith) ∙ (λ i. three s (e i) (x i)))

@@ -1,5 +1,6 @@
 -- `split`: what has been cut, `Split`. Rests on Laws.Split.
-use Rattle.std.proofs.Common.{◌≡◌, ◌+◌, ◌-◌, ◌<◌, length, take, drop, arith, length-drop, take_all}
+use Rattle.std.proofs.Common.{◌≡◌, ◌+◌, ◌<◌, arith}
+use Rattle.std.proofs.lemmas.List.{take_rest}
 use Rattle.fix_reader.specs.Laws.Split.{split_start, split_more, split_full, split_stop, split_done}
 use Rattle.fix_reader.proofs.pieces.split.Goals as goal
 
@@ -15,18 +16,16 @@ pub returns-in_err-g : goal.returns-in_err-g
 returns-in_err-g c =
     let l = c.loop-p in
     let s = c.args.m.now in
-    let e : take (length s - l.p) (drop l.p s) ≡ drop l.p s = take_all (length s - l.p) (drop l.p s) (simp length-drop (omega arith)) in
-    rw c.from_residual.ensures (split_stop s l.p l.n l.tag l.at l.length l.invariant (omega arith) (rw e at c.in_err-g.ensures))
+    rw c.from_residual.ensures (split_stop s l.p l.n l.tag l.at l.length l.invariant (omega arith) (rw (take_rest s l.p) at c.in_err-g.ensures))
 
 pub loop-p-preserved : goal.loop-p-preserved
 loop-p-preserved c =
     let l = c.loop-p in
     let s = c.args.m.now in
     let g = c.in_ok-g.g in
-    let e : take (length s - l.p) (drop l.p s) ≡ drop l.p s = take_all (length s - l.p) (drop l.p s) (simp length-drop (omega arith)) in
     let more : l.n < 32 = omega (arith, l.invariant.few) in
     let z : l.p + (g.end + 1) ≡ l.p + g.end + 1 = omega arith in
-    rw z (split_more s l.p l.n l.tag l.at l.length l.invariant g.tag g.at g.end (rw e at c.in_ok-g.ensures) more)
+    rw z (split_more s l.p l.n l.tag l.at l.length l.invariant g.tag g.at g.end (rw (take_rest s l.p) at c.in_ok-g.ensures) more)
 
 pub returns : goal.returns
 returns c =

@@ -2,8 +2,8 @@
 use Rattle.std.proofs.Common.{◌≡◌, ℕ, ◌+◌, ◌-◌, ◌*◌, ◌/◌, ◌%◌, true, false, get_or, sym, ap, ◌∙◌, arith, w64, Fits, rules}
 use Rattle.prelude.specs.Cases.{if_true, if_false}
 use Rattle.decimal.specs.Decimal.{is_digit}
-use Rattle.fix_reader.specs.Laws.Numbers.{word, step_other, step_digit}
-use Rattle.fix_reader.specs.Laws.Wrapping.{step_high, ten_wraps}
+use Rattle.fix_reader.specs.Laws.Numbers.{word, step_other, step_more}
+use Rattle.fix_reader.specs.Laws.Wrapping.{step_high, tenfold_wraps}
 use Rattle.fix_reader.proofs.price.step.Goals as goal
 
 high_same : (low high c : ℕ) → is_digit c ≡ false → step_high low high c ≡ high
@@ -29,6 +29,6 @@ returns c =
     let t = c.times_ten-low in
     let yes : is_digit a.c ≡ true = sym c.is_ascii_digit.ensures.value ∙ c.if-not-is_ascii_digit.false in
     let d = c.from.ensures in (
-      t.ensures.0 ∙ ap (λ (x : ℕ). (n0 * 10 + x) % word) d ∙ sym (ap (λ (x : ℕ). x % word) (step_digit n0 a.c yes)),
-      ten_wraps n1 t.result.over ∙ ap (λ (x : ℕ). (n1 * 10 + x) % word) (t.ensures.1 ∙ ap (λ (x : ℕ). (n0 * 10 + x) / word) d) ∙ sym (high_more n0 n1 a.c yes),
+      t.ensures.0 ∙ ap (λ (x : ℕ). (n0 * 10 + x) % word) d ∙ sym (ap (λ (x : ℕ). x % word) (step_more n0 a.c yes)),
+      tenfold_wraps n1 t.result.over ∙ ap (λ (x : ℕ). (n1 * 10 + x) % word) (t.ensures.1 ∙ ap (λ (x : ℕ). (n0 * 10 + x) / word) d) ∙ sym (high_more n0 n1 a.c yes),
     )

@@ -1,6 +1,5 @@
 -- `all_digits`: of every byte. Assumes nothing.
-use Rattle.std.proofs.Common.{rules, ◌∙◌}
-use borrow.Author.Tests.{tests}
+use Rattle.std.proofs.Common.{rules, ◌∙◌, tests}
 use Rattle.std.proofs.lemmas.Iterator.{YieldsList-from_slice}
 use Rattle.std.proofs.lemmas.Iterator.Search.{all_from_yields_List}
 use Rattle.decimal.specs.Decimal.{is_digit}

@@ -1,16 +1,12 @@
 -- `alnums`: of every byte. Assumes nothing.
-use Rattle.std.proofs.Common.{◌≡◌, ℕ, Bool, true, false, ◌||◌, refl, rules, ◌∙◌}
-use borrow.Author.Tests.{tests}
+use Rattle.std.proofs.Common.{◌≡◌, ℕ, rules, ◌∙◌, tests}
+use Rattle.std.proofs.Math.Bool.{or_assoc}
 use Rattle.std.specs.Char.{is_ascii_alphanumeric}
 use Rattle.std.proofs.lemmas.Iterator.{YieldsList-from_slice}
 use Rattle.std.proofs.lemmas.Iterator.Search.{all_from_yields_List}
 use Rattle.format.specs.Codes.{within, is_alnum}
 use Rattle.fix_words.specs.Laws.Lists.{every_list}
 use Rattle.fix_reader.proofs.values.alnums.Goals as goal
-
-or_assoc : (a b c : Bool) → ((a || b) || c) ≡ (a || (b || c))
-or_assoc true b c = refl
-or_assoc false b c = refl
 
 ascii : (c : ℕ) → is_ascii_alphanumeric c ≡ is_alnum c
 unfolding is_alnum

@@ -6,4 +6,4 @@ use Rattle.fix_reader.specs.Laws.Taking.{walk_on, walk_all}
 use Rattle.fix_reader.proofs.walk.walk.Given as goal
 
 abbrev pub invariant-loop-row : goal.invariant-loop-row
-invariant-loop-row l = walk_on (fields_in l.f.message.now) l.kind (Some l.t) (drop l.row-index (rows l.kind)) ≡ walk_all (fields_in l.f.message.now) l.kind
+invariant-loop-row l = walk_on (fields_in l.f.message.now) l.kind.number (Some l.t) (drop l.row-index (rows l.kind.number)) ≡ walk_all (fields_in l.f.message.now) l.kind.number

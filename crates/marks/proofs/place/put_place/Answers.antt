@@ -7,10 +7,10 @@ use Rattle.marks.proofs.place.put_place.Goals as goal
 
 pub returns : goal.returns
 returns c =
-    let b = c.args.book.now in
+    let b = c.args.book.now.bytes.now in
     let at = place c.args.i in
     part_splice _ _ (at + name_size) _ (search rules)
     ∙ ap₂ (λ (s w : List ℕ). splice s (at + name_size) w)
     (part_splice c.args.places.now _ at name_size (search rules) ∙ ap (splice c.args.places.now at) c.copy_from_slice.ensures.after)
     c.copy_from_slice-2.ensures.after
-    ∙ name_then_book c.args.places.now c.args.name.now b c.name_bytes.result c.args.i c.requires.0 c.name_bytes.ensures
+    ∙ name_then_book c.args.places.now c.args.name.now.letters.now b c.bytes.result c.args.i c.requires c.bytes.ensures

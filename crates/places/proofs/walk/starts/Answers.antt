@@ -1,10 +1,5 @@
 -- `places::walk::starts`: the loop's invariant is that each place so far holds where its field starts. Assumes nothing.
-use borrow.Author.Count.{below_none}
-use mathlib.Core.Path.{◌≡◌, refl, ap, ◌∙◌}
-use Prim.Native.Nat.{ℕ}
-use native.Mathlib.Numerals.{add-one}
-use native.Mathlib.Omega.{arith}
-use lib.ListN.{length-set}
+use Rattle.std.proofs.Common.{below_none, refl, ap, ◌∙◌, ℕ, add-one, arith, length-set}
 use Rattle.prelude.specs.Lists.{fill}
 use Rattle.format.specs.Places.{next, start}
 use Rattle.places.proofs.walk.starts.Goals as goal
@@ -26,11 +21,3 @@ loop-b-preserved c =
       rw add-one (c.next_at-at.ensures.0 ∙ ap (next a.s.now a.map l.b) q),
       fill f l.out l.b l.at (omega arith) q l.invariant.4,
     )
-
-pub returns : goal.returns
-returns c =
-    let a = c.args in
-    let l = c.loop-b in
-    let e : l.b ≡ 32 = omega arith in
-    let f : ℕ → ℕ = start a.s.now a.o a.map in
-    λ k h. fill f l.out 32 l.at (omega arith) (rw e at l.invariant.3) (rw e at l.invariant.4) k (omega arith)

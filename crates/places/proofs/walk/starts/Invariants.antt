@@ -1,7 +1,5 @@
 -- `places::walk::starts`: the loop's invariant is that each place so far holds where its field starts. Assumes nothing.
-use mathlib.Core.Path.{◌≡◌}
-use Prim.Native.Nat.{ℕ, ◌≤◌, ◌<◌, ◌+◌, ◌*◌}
-use lib.ListN.{length, get_or}
+use Rattle.std.proofs.Common.{◌≡◌, ℕ, ◌≤◌, ◌<◌, ◌+◌, ◌*◌, length, get_or}
 use Rattle.format.specs.Places.{start}
 use Rattle.places.proofs.walk.starts.Given as goal
 

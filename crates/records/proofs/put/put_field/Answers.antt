@@ -1,15 +1,16 @@
 -- `put::put_field`: what a field is, by the table. Assumes nothing.
-use borrow.Author.Tests.{eq-eqb, ne_eqb}
-use Rattle.std.proofs.Common.{◌≡◌, ◌∷◌, ◌++◌, ◌+◌, ◌-◌, ℕ, List, true, false, length, get_or, sym, ap, ◌∙◌, arith, length-append}
+use Rattle.std.proofs.Common.{eq-eqb, ne_eqb, ◌≡◌, ◌∷◌, ◌++◌, ◌+◌, ◌-◌, ℕ, List, true, false, length, get_or, take, sym, ap, ◌∙◌, arith, rules, length-append, length-take, take_all}
 use Rattle.prelude.specs.Span.{splice_nil, splice_append}
 use Rattle.prelude.specs.Number.{bytes_of, length_bytes}
+use Rattle.prelude.specs.Texts.{contents}
+use Rattle.prelude.specs.declared.Text.{Text}
 use Rattle.bits.specs.Map.{bit}
 use Rattle.format.specs.Format.{size, is_text_bit}
 use Rattle.format.specs.Wire.{field_bytes}
-use Rattle.records.specs.Fields.{numbers_of, high_of, text_by, short_bytes, long_bytes, held}
+use Rattle.records.specs.Fields.{numbers_of, high_of, short_bytes, long_bytes, held}
 use Rattle.records.specs.Laws.Writing.{field_off, field_long_lem, field_short, field_number, field_words}
 use Rattle.records.proofs.put.put_field.Goals as goal
-use Rattle.records.proofs.put.put_field.Goals.{Else-b-eq20, Else-n-eq255, Else-n-le8, Else-not-has, Start, Then-b-eq20, Then-n-eq255, Then-n-le8}
+use Rattle.records.proofs.put.put_field.Goals.{After-text_of-text, Else-n-eq255, Else-n-le8, Else-not-has, Start, Then-b-eq20, Then-n-eq255, Then-n-le8}
 
 -- the field that is to be written
 abbrev field : Start → List ℕ
@@ -24,15 +25,29 @@ is_text_lem c = eq-eqb (size c.args.b) 255 (sym c.size_of-n.ensures.0 ∙ c.if-n
 is_number_lem : (c : Else-n-eq255) → is_text_bit c.args.b ≡ false
 is_number_lem c = ne_eqb (size c.args.b) 255 (λ e. c.if-n-eq255.false (c.size_of-n.ensures.0 ∙ e))
 
-long : (c : Then-b-eq20) → let t = c.args.r.now.text in field (goal.at.Then-b-eq20 c).Start ≡ length (long_bytes t) ∷ long_bytes t
+-- the array of a text ends where its bytes are cut
+long_is : (c : Then-b-eq20) → long_bytes c.args.r.now.text ≡ take c.args.r.now.text.len c.args.r.now.text.bytes
+unfolding long_bytes
+long_is c =
+    let l : length c.args.r.now.text.bytes ≡ 64 = search rules in
+    take_all 64 (take c.args.r.now.text.len c.args.r.now.text.bytes) (simp length-take (omega arith))
+
+short_is : (t : Text) → length t.bytes ≡ 32 → short_bytes t ≡ take t.len t.bytes
+unfolding short_bytes contents
+short_is t l = take_all 32 (take t.len t.bytes) (simp length-take (omega arith))
+
+long : (c : Then-b-eq20) → let t = c.args.r.now.text in field (goal.at.Then-b-eq20 c).Start ≡ length (take t.len t.bytes) ∷ take t.len t.bytes
 long c =
     let r = c.args.r.now in
-    field_long_lem r.map (numbers_of r) (high_of r) r.ids r.text c.args.b (stands (goal.at.Then-b-eq20 c).Else-not-has) (is_text_lem (goal.at.Then-b-eq20 c).Then-n-eq255) c.if-b-eq20.true
+    rw (← long_is c)
+    (field_long_lem r.map (numbers_of r) (high_of r) r.ids r.text c.args.b (stands (goal.at.Then-b-eq20 c).Else-not-has) (is_text_lem (goal.at.Then-b-eq20 c).Then-n-eq255) c.if-b-eq20.true)
 
-short : (c : Else-b-eq20) → let t = text_by c.args.r.now.ids c.args.b in field (goal.at.Else-b-eq20 c).Start ≡ length (short_bytes t) ∷ short_bytes t
-short c =
+short : (c : After-text_of-text) → let t = c.text_of-text.result.now in length t.bytes ≡ 32 → field (goal.at.After-text_of-text c).Start ≡ length (take t.len t.bytes) ∷ take t.len t.bytes
+short c l =
     let r = c.args.r.now in
-    field_short r.map (numbers_of r) (high_of r) r.ids r.text c.args.b (stands (goal.at.Else-b-eq20 c).Else-not-has) (is_text_lem (goal.at.Else-b-eq20 c).Then-n-eq255) c.if-b-eq20.false
+    let i = goal.at.After-text_of-text c in
+    rw (← short_is c.text_of-text.result.now l, c.text_of-text.ensures)
+    (field_short r.map (numbers_of r) (high_of r) r.ids r.text c.args.b (stands i.Else-not-has) (is_text_lem i.Then-n-eq255) c.if-b-eq20.false)
 
 number : (c : Then-n-le8) → field (goal.at.Then-n-le8 c).Start ≡ bytes_of c.size_of-n.result (get_or c.args.numbers.now c.args.b 0)
 number c =
@@ -60,19 +75,17 @@ returns-then-not-has c =
     let e = field_off r.map (numbers_of r) (high_of r) r.ids r.text c.args.b (sym c.has.ensures ∙ c.if-not-has.true) in
     rw e (omega arith, sym (splice_nil c.args.dst.now c.args.at))
 
-pub put_long-requires : goal.put_long-requires
-put_long-requires c = omega (arith, ap length (long (goal.at.put_long-requires c).Then-b-eq20))
+pub put_front-requires : goal.put_front-requires
+put_front-requires c = omega (arith, ap length (long (goal.at.put_front-requires c).Then-b-eq20))
 
 pub returns-then-b-eq20 : goal.returns-then-b-eq20
-returns-then-b-eq20 c = rw (long (goal.at.returns-then-b-eq20 c).Then-b-eq20) (omega arith, c.put_long.ensures.1)
+returns-then-b-eq20 c = rw (long (goal.at.returns-then-b-eq20 c).Then-b-eq20) (omega arith, c.put_front.ensures.1)
 
-pub put_short-requires : goal.put_short-requires
-put_short-requires c = rw c.text_of.ensures (omega (arith, ap length (short (goal.at.put_short-requires c).Else-b-eq20)))
+pub put_front-requires-then-n-eq255 : goal.put_front-requires-then-n-eq255
+put_front-requires-then-n-eq255 c = omega (arith, ap length (short (goal.at.put_front-requires-then-n-eq255 c).After-text_of-text (search rules)))
 
 pub returns-then-n-eq255 : goal.returns-then-n-eq255
-returns-then-n-eq255 c =
-    let e = c.put_short.ensures in
-    rw (short (goal.at.returns-then-n-eq255 c).Else-b-eq20, ← c.text_of.ensures) (omega arith, e.1)
+returns-then-n-eq255 c = rw (short (goal.at.returns-then-n-eq255 c).After-text_of-text (search rules)) (omega arith, c.put_front-then-n-eq255.ensures.1)
 
 pub put_number-requires : goal.put_number-requires
 put_number-requires c =

@@ -1,5 +1,5 @@
 -- `put::put_fields`: the fields below b are written. Assumes nothing.
-use Rattle.std.proofs.Common.{◌≡◌, ◌≤◌, ◌+◌, refl, sym, ◌∙◌, add-one, arith, length, length-append}
+use Rattle.std.proofs.Common.{◌≤◌, ◌+◌, refl, sym, ◌∙◌, add-one, arith, length, length-append}
 use Rattle.prelude.specs.Span.{splice_nil, splice_append}
 use Rattle.format.specs.Wire.{field_bytes, body}
 use Rattle.format.specs.Laws.Trip.{body_room}
@@ -32,9 +32,3 @@ loop-b-preserved c =
       rw add-one (simp length-append (omega arith)),
       rw add-one (c.put_field-at.ensures.1 ∙ (rw (l.invariant.2, l.invariant.1) (splice_append a.dst.now a.start x y (omega arith)))),
     )
-
-pub returns : goal.returns
-returns c =
-    let l = c.loop-b in
-    let e : l.b ≡ 32 = omega arith in
-    (rw e at l.invariant.1, rw e at l.invariant.2)

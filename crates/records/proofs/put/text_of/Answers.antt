@@ -1,6 +1,5 @@
 -- `records::put::text_of`: the match is the definition's. Assumes nothing.
-use Rattle.std.proofs.Common.{refl, arith}
-use borrow.Author.Tests.{ne_eqb}
+use Rattle.std.proofs.Common.{refl, arith, ne_eqb}
 use Rattle.prelude.specs.Cases.{if◌then◌otherwise◌}
 use Rattle.records.specs.Fields.{text_by}
 use Rattle.records.proofs.put.text_of.Goals as goal

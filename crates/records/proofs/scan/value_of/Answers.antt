@@ -1,6 +1,5 @@
 -- `scan::value_of`: a text's length is what follows its length byte; a number's low word is its first 8 bytes. Assumes nothing.
-use borrow.Author.Tests.{eq-eqb, ne_eqb}
-use Rattle.std.proofs.Common.{◌≡◌, sym, ap, ◌∙◌, take, true, false}
+use Rattle.std.proofs.Common.{eq-eqb, ne_eqb, ◌≡◌, sym, ap, ◌∙◌, take, true, false}
 use Rattle.prelude.specs.Number.{number}
 use Rattle.format.specs.Format.{size, is_text_bit}
 use Rattle.format.specs.Laws.Places.{value_text, value_number}

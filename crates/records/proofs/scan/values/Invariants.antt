@@ -7,5 +7,5 @@ use Rattle.records.proofs.scan.values.Given as goal
 abbrev pub invariant-loop-b : goal.invariant-loop-b
 invariant-loop-b l =
     (length l.numbers ≡ 32)
-    × (all_below (right_in l.s l.shape.map l.shape.at) l.b ≡ true)
-    × ((k : ℕ) → k < l.b → get_or l.numbers k 0 ≡ held_at l.s l.shape.map l.shape.at k)
+    × (all_below (right_in l.shape.bytes.now l.shape.map l.shape.at) l.b ≡ true)
+    × ((k : ℕ) → k < l.b → get_or l.numbers k 0 ≡ held_at l.shape.bytes.now l.shape.map l.shape.at k)

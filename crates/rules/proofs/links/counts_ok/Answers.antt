@@ -1,6 +1,6 @@
 -- `counts_ok` meets its contract: each field in place. Rests on store's Fields.
-use mathlib.Core.Bool.{not-not}
 use Rattle.std.proofs.Common.{eqb}
+use Rattle.std.proofs.Math.Bool.{not-not}
 use Rattle.store.specs.Book.{order_at}
 use Rattle.store.specs.Laws.Fields.{terms_qty, state_status, state_cumqty, links_amendments, pending_request, gateway_unsent, gateway_tries, gateway_origdownstream}
 use Rattle.machine.specs.Orders.{has_pending, has_gateway}

@@ -1,8 +1,7 @@
 -- `links_ok` meets its contract: the orders in use keep their rules. Rests on prelude's Chains.
-use Rattle.std.proofs.Common.{ℕ, ◌∙◌, get_or, ap, rules, arith}
+use Rattle.std.proofs.Common.{ℕ, ◌∙◌, get_or, ap, rules, arith, tests}
 use Rattle.std.proofs.lemmas.Iterator.{YieldsList-from_range}
 use Rattle.std.proofs.lemmas.Iterator.Search.{all_from_yields_List}
-use borrow.Author.Tests.{tests}
 use Rattle.prelude.specs.Below.{all_ext}
 use Rattle.prelude.specs.Chains.{all_range}
 use Rattle.rules.specs.Laws.Here.{links_at, links_of}

@@ -1,8 +1,7 @@
 -- `same_few` meets its contract: the bytes below n agree. Rests on prelude's Chains.
-use Rattle.std.proofs.Common.{◌∙◌, rules, arith}
+use Rattle.std.proofs.Common.{◌∙◌, rules, arith, tests}
 use Rattle.std.proofs.lemmas.Iterator.{YieldsList-from_range}
 use Rattle.std.proofs.lemmas.Iterator.Search.{all_from_yields_List}
-use borrow.Author.Tests.{tests}
 use Rattle.prelude.specs.Chains.{all_range}
 use Rattle.rules.specs.Laws.Suffix.{alike_at}
 use Rattle.rules.proofs.numbered.same_few.Goals as goal

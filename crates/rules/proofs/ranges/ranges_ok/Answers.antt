@@ -1,8 +1,7 @@
 -- `ranges_ok` meets its contract: the orders in use are in range. Rests on prelude's Chains.
-use Rattle.std.proofs.Common.{◌∙◌, rules, arith}
+use Rattle.std.proofs.Common.{◌∙◌, rules, arith, tests}
 use Rattle.std.proofs.lemmas.Iterator.{YieldsList-from_range}
 use Rattle.std.proofs.lemmas.Iterator.Search.{all_from_yields_List}
-use borrow.Author.Tests.{tests}
 use Rattle.prelude.specs.Chains.{all_range}
 use Rattle.rules.specs.Laws.Here.{range_at}
 use Rattle.rules.proofs.ranges.ranges_ok.Goals as goal

@@ -1,15 +1,8 @@
 -- `put_text` meets its contract: the bytes, and the length behind them, are one splice. Rests on prelude's Span.
-use mathlib.Core.Path.{◌≡◌, sym, ap, ◌∙◌}
-use mathlib.Core.List.{[], ◌∷◌}
-use Prim.Native.Nat.{ℕ, ◌+◌}
-use native.Mathlib.Omega.{arith}
-use lib.ListN.{length, get_or}
+use Rattle.std.proofs.Common.{◌≡◌, sym, ap, ◌∙◌, [], ◌∷◌, ℕ, ◌+◌, arith, length, get_or, Fits, w8, rules}
 use Rattle.prelude.specs.Span.{splice, splice_append}
 use Rattle.prelude.specs.Texts.{WholeText}
 use Rattle.store.specs.Cells.{text_bytes}
-use mir.Val.{Fits}
-use mir.Syntax.{w8}
-use borrow.Author.Rules.{rules}
 use Rattle.store.proofs.cells.put_text.Goals as goal
 use Rattle.store.proofs.cells.put_text.Goals.{Start}
 

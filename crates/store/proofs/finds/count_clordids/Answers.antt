@@ -1,41 +1,41 @@
--- `count_clordids` meets its contract: how many of the requests in use. Rests on Finds and Counted.
-use Rattle.std.specs.Prelude.{ℕ, ◌<◌, ◌≤◌, ◌≡◌}
-use Rattle.std.specs.declared.ops.Range.{Range}
-use Rattle.std.proofs.Common.{rules, refl, sym, ap, ◌∙◌, arith}
-use Rattle.std.proofs.lemmas.Iterator.{YieldsList-from_range, serves_from_Range}
-use Rattle.std.proofs.lemmas.Iterator.Consumers.{count_from_yields_List, YieldsList-from_filter}
-use borrow.Author.Tests.{tests}
-use Rattle.prelude.specs.Below.{count_below, count_none}
+-- `count_clordids` meets its contract: how many of the requests in use. Rests on Finds and InUse.
+use Rattle.std.proofs.Common.{Bool, true, false, ◌≡◌, ◌+◌, refl, sym, ap, ◌∙◌, arith}
+use Rattle.std.specs.Int.{from_bool}
+use Rattle.prelude.specs.Below.{count_below, count_none, count_le}
+use Rattle.prelude.specs.Cases.{if◌then◌otherwise◌}
 use Rattle.store.specs.Layout.{header·orders, most_orders, header·requests, most_requests}
-use Rattle.store.specs.Book.{order_count, request_count}
 use Rattle.store.specs.Laws.Stored.{count_most}
-use Rattle.store.specs.Laws.Finds.{used_at, count_clordids_bytes}
-use Rattle.store.proofs.Counted.{none_counted, count_range}
+use Rattle.store.specs.Laws.Finds.{used_at, count_step, count_clordids_bytes}
+use Rattle.store.proofs.InUse.{none_counted}
 use Rattle.store.proofs.finds.count_clordids.Goals as goal
+
+one : (b : Bool) → from_bool b ≡ (if b then 1 otherwise 0)
+unfolding if◌then◌otherwise◌
+one true = refl
+one false = refl
 
 pub returns-in_default : goal.returns-in_default
 returns-in_default c = sym (count_clordids_bytes _ c.args.client ∙ ap (count_below _) (none_counted _ _ _ c.in_default.ensures) ∙ count_none _)
 
-pub count-requires-clause-can : goal.count-requires-clause-can
-count-requires-clause-can c =
+pub loop-k-init : goal.loop-k-init
+loop-k-init c = (omega arith, sym (count_none _))
+
+pub used-requires : goal.used-requires
+used-requires c =
     let b = c.in-Some.book.now in
-    let end = ap (λ (r : Range ℕ). r.end) c.filter.ensures.source in
-    let few : c.order_count-n.result ≤ most_orders = omega (arith, count_most header·orders most_orders b) in (
-      tt,
-      tt,
-      serves_from_Range (λ x q k. search (rules, tests))
-          (λ x low high. let h : x < most_requests = omega (arith, count_most header·requests most_requests b) in search rules),
-    )
+    (omega (arith, count_most header·requests most_requests b), omega (arith, count_most header·orders most_orders b))
+
+pub loop-k-preserved : goal.loop-k-preserved
+loop-k-preserved c =
+    let l = c.loop-k in
+    let p = used_at c.in-Some.book.now c.order_count-n.result c.args.client in
+    let e : l.count + c.from-count.result ≡ count_below p (l.k + 1) = rw (c.from-count.ensures, c.used.ensures, one, l.invariant.1) (sym (count_step p l.k)) in
+    (rw e (count_le p (l.k + 1)), e)
 
 pub returns : goal.returns
-returns c = let a = c.args in
+returns c =
     let b = c.in-Some.book.now in
-    let m = c.order_count-n.result in
-    let n = c.request_count.result in
-    let same : count_below (used_at b m a.client) n ≡ count_below (used_at a.book.now (order_count a.book.now) a.client) (request_count a.book.now) =
-    rw (c.request_count.ensures, c.order_count-n.ensures, c.in-Some.ensures.1) refl in
-    count_from_yields_List c.filter.result _ c.count.ensures.ran
-    (YieldsList-from_filter _ (used_at b m a.client) (YieldsList-from_range 0 n n (cc) (omega arith)) c.filter.ensures.closure (λ x r q k. search (rules, tests)))
-    ∙ count_range _ n
-    ∙ same
-    ∙ sym (count_clordids_bytes _ a.client)
+    let n = c.request_count-k-end.result in
+    let e : c.loop-k.k ≡ n = omega arith in
+    rw (e, c.request_count-k-end.ensures, c.order_count-n.ensures, c.in-Some.ensures.1) at c.loop-k.invariant.1
+    ∙ sym (count_clordids_bytes c.args.book.now c.args.client)

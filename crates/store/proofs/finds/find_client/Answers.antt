@@ -1,20 +1,12 @@
--- `find_client` meets its contract: the first of the orders in use. Rests on Finds.
-use Rattle.std.specs.Prelude.{◌<◌, ◌≡◌}
-use Rattle.std.proofs.Common.{rules, refl, sym, ◌∙◌, arith}
-use Rattle.std.proofs.lemmas.Iterator.{YieldsList-from_range, serves_from_Range}
-use Rattle.std.proofs.lemmas.Iterator.Search.{find_from_yields_List}
-use borrow.Author.Tests.{tests}
-use Rattle.prelude.specs.Below.{first_below}
-use Rattle.prelude.specs.Chains.{find_range}
+-- `find_client` meets its contract: the first of the orders in use. Rests on Finds and InUse.
+use Rattle.std.proofs.Common.{◌<◌, rules, sym, ◌∙◌, arith, tests}
+use Rattle.std.proofs.lemmas.Iterator.{serves_from_Range}
 use Rattle.store.specs.Layout.{header·orders, most_orders}
 use Rattle.store.specs.Book.{order_count}
 use Rattle.store.specs.Laws.Stored.{count_most}
 use Rattle.store.specs.Laws.Finds.{clients_at, find_client_bytes}
-use Rattle.store.proofs.Counted.{none_found}
+use Rattle.store.proofs.InUse.{found_in_use}
 use Rattle.store.proofs.finds.find_client.Goals as goal
-
-pub returns-in_err-book : goal.returns-in_err-book
-returns-in_err-book c = c.from_residual.ensures ∙ sym (find_client_bytes _ c.args.client ∙ none_found _ _ _ _ c.in_err-book.ensures)
 
 pub find-requires-clause-callable : goal.find-requires-clause-callable
 find-requires-clause-callable c =
@@ -22,11 +14,6 @@ find-requires-clause-callable c =
     (λ x low high. let h : x < most_orders = omega (arith, count_most header·orders most_orders c.in_ok-book.book.now) in search rules)
 
 pub returns : goal.returns
-returns c = let b = c.in_ok-book.book.now in
-    let n = c.order_count.result in
-    let same : first_below (clients_at b c.args.client) n ≡ first_below (clients_at c.args.book.now c.args.client) (order_count c.args.book.now) = rw (c.order_count.ensures, c.in_ok-book.ensures.1) refl in
-    search rules
-    ∙ find_from_yields_List (clients_at b c.args.client) _ _ _ c.find.ensures.ran (YieldsList-from_range 0 n n (cc) (omega arith)) (λ x r q k. search (rules, tests))
-    ∙ find_range _ n
-    ∙ same
+returns c =
+    found_in_use (λ b. clients_at b c.args.client) order_count _ _ _ _ c.in_ok-book.ensures.1 c.order_count.ensures c.find.ensures.ran (λ x r q k. search (rules, tests))
     ∙ sym (find_client_bytes _ c.args.client)

@@ -1,5 +1,5 @@
 -- `malformed_pair` meets its contract: one case of the definition at each return. Assumes nothing.
-use borrow.Author.Tests.{eq-eqb, ne_eqb}
+use Rattle.std.proofs.Common.{eq-eqb, ne_eqb}
 use Rattle.prelude.specs.Cases.{if◌then◌otherwise◌}
 use Rattle.store.specs.Orders.{malformed}
 use Rattle.store.proofs.orders.malformed_pair.Goals as goal

@@ -1,5 +1,5 @@
 -- `stage_of` meets its contract: one case of the definition at each return. Assumes nothing.
-use borrow.Author.Tests.{eq-eqb, ne_eqb}
+use Rattle.std.proofs.Common.{eq-eqb, ne_eqb}
 use Rattle.prelude.specs.Cases.{if◌then◌otherwise◌}
 use Rattle.store.specs.Orders.{stage_of}
 use Rattle.store.proofs.orders.stage_of.Goals as goal

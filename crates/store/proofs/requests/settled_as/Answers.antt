@@ -1,5 +1,5 @@
 -- `settled_as` meets its contract: one case at each return. Assumes nothing.
-use borrow.Author.Tests.{eq-eqb, ne_eqb}
+use Rattle.std.proofs.Common.{eq-eqb, ne_eqb}
 use Rattle.prelude.specs.Cases.{if◌then◌otherwise◌}
 use Rattle.store.proofs.requests.settled_as.Goals as goal
 

@@ -31,5 +31,5 @@ all c =
 pub overflow_add-result : goal.overflow_add-result
 overflow_add-result c = omega (arith, all c, most (goal.at.overflow_add-result c).Start)
 
-pub returns : goal.returns
-returns c = record { all = all c; within = omega (arith, all c, most (goal.at.returns c).Start) }
+pub returns-clause-within : goal.returns-clause-within
+returns-clause-within c = omega (arith, all c, most (goal.at.returns-clause-within c).Start)

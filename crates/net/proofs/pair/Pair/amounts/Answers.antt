@@ -13,9 +13,6 @@ loop-k-init c =
 pub with-a-requires : goal.with-a-requires
 with-a-requires c = (in_use c.args.book.now.bytes.now c.loop-k.k (omega (arith, c.order_count-k-end.ensures)), c.loop-k.invariant.1)
 
-pub loop-k-preserved : goal.loop-k-preserved
-loop-k-preserved c = (omega (arith, c.order_count-k-end.ensures), c.with-a.ensures)
-
 pub returns : goal.returns
 returns c =
     let b = c.args.book.now.bytes.now in

@@ -1,8 +1,7 @@
 -- `Pair::unseen` meets its contract: each of the first n orders is asked. Rests on prelude's Chains.
-use Rattle.std.proofs.Common.{◌∙◌, arith, rules}
+use Rattle.std.proofs.Common.{◌∙◌, arith, rules, tests}
 use Rattle.std.proofs.lemmas.Iterator.{YieldsList-from_range}
 use Rattle.std.proofs.lemmas.Iterator.Search.{all_from_yields_List}
-use borrow.Author.Tests.{tests}
 use Rattle.prelude.specs.Chains.{all_range}
 use Rattle.store.specs.Book.{book_of}
 use Rattle.net.specs.Net.{miss_at}

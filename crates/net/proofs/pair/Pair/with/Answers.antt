@@ -1,12 +1,12 @@
 -- `Pair::with` meets its contract: an order that is not theirs, a purchase, or a sale. Rests on Pair.
 use Rattle.std.proofs.Common.{◌≡◌, true, ◌+◌, ◌^◌, ◌≤◌, ◌<◌, length, sym, ◌∙◌, arith}
-use Rattle.words.specs.Laws.Windows.{window_64}
-use Rattle.store.specs.Layout.{order_base, state·cumqty}
 use Rattle.store.specs.Book.{book_of, order_in}
+use Rattle.store.specs.Layout.{order_base, state·cumqty}
 use Rattle.store.specs.Laws.Stored.{length_orders}
 use Rattle.net.specs.Net.{of_pair}
 use Rattle.net.specs.Laws.Pair.{filled_at_lem, side_at, sum_miss, sum_bought, sum_sold}
 use Rattle.net.specs.Laws.Call.{order_at}
+use Rattle.words.specs.Laws.Windows.{window_64}
 use Rattle.net.proofs.pair.Pair.with.Goals as goal
 use Rattle.net.proofs.pair.Pair.with.Goals.{After-get64-filled, Start}
 
