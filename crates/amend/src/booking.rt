@@ -1,5 +1,5 @@
-// `book_order` of src/book.rs: a new order is booked. Each function equals its definition in
-// specs/Booking.antt. Rests on orders.
+// `book_order` of src/book.rs: a new order is booked. It equals `book_at` of specs/Booking.antt, and the
+// functions for its parts equal their definitions in machine's Machine. Rests on orders.
 ghost use Rattle.std.specs.Prelude.{◌-◌, ◌≡◌, IfOk};
 ghost use Rattle.machine.specs.Taken.{change_in};
 ghost use Rattle.machine.specs.Machine.{booked_order, first_request};

@@ -19,11 +19,14 @@ use store::{Order, Pending, kinds};
 
 pub mod booking; // a new order is booked
 pub mod rejects; // a request that the venue refused, and sends that failed
+mod texts; // the fixed texts
 mod why; // why a cancel or replace is refused
 
 // What a client's cancel or replace finds: the order of its OrigClOrdID with what the handling needs
 // beside it, the link of the order that the client already used the ClOrdID for, 0 for none, and
-// whether the client has used as many ClOrdIDs as it may.
+// whether the client has used as many ClOrdIDs as it may. A link and its 0 as the lookup's definition gives
+// them. Contracts name each part, as `t.now.used`: machine's definitions take them one by one, and the
+// theorems name those parameters.
 #[derive(Clone, Copy)]
 pub struct Target {
     pub findings: Findings,
@@ -167,7 +170,8 @@ pub fn cancel(t: &Target, e: Record) -> Change
     }
 }
 
-// What the event does not name is the order's.
+// What the event does not name is the order's. 0 for what is not named, as the record has it and the
+// definition takes it.
 #[tactic(auto, unfolding(machine::specs::Amend::or_own), using(orders::specs::Laws::Choices::choices))]
 fn or_own(given: u8, own: u8) -> u8
     ensures { result ≡ or_own given own }
@@ -180,11 +184,7 @@ fn or_own(given: u8, own: u8) -> u8
 fn limit_price(ordtype: u8, price: Option<u64>) -> Option<u64>
     ensures { result ≡ limit_price ordtype price }
 {
-    if ordtype == codes::MARKET {
-        None
-    } else {
-        price
-    }
+    price.filter(|_| ordtype != codes::MARKET)
 }
 
 // The price that the event brings.
@@ -192,11 +192,7 @@ fn limit_price(ordtype: u8, price: Option<u64>) -> Option<u64>
 fn price_of(e: Record) -> Option<u64>
     ensures { result ≡ price_of e }
 {
-    if has(e, bit::PRICE) {
-        Some(e.terms.price)
-    } else {
-        None
-    }
+    has(e, bit::PRICE).then_some(e.terms.price)
 }
 
 // `check_replace` of src/book/amend.rs: the verdict that the event brings, passed over where no risk is
@@ -237,7 +233,7 @@ fn check_terms(t: &Target, e: Record) -> Result<(), Why>
     check_replace(t.order, e)
 }
 
-// And all that refuses one.
+// All that refuses a replace.
 fn check_replace_request(t: &Target, e: Record) -> Result<(), Why>
     ensures { reject_in result ≡ amend_refusal t.now.findings t.now.used t.now.full t.now.order e (replace_refusal t.now.findings t.now.order e) }
 {
@@ -254,8 +250,7 @@ fn new_terms(o: Order, e: Record) -> Terms
         side: o.terms.side,
         ordtype: or_own(e.terms.ordtype, o.terms.ordtype),
         timeinforce: or_own(e.terms.timeinforce, o.terms.timeinforce),
-        qty: e.terms.qty,
-        price: e.terms.price,
+        ..e.terms
     }
 }
 
@@ -267,6 +262,8 @@ pub fn priced_right(ordtype: u8, e: Record) -> bool
     has(e, bit::PRICE) == (ordtype == codes::LIMIT)
 }
 
+// The replace as the order keeps it. Field by field, as orders' `pending_terms` is on the way back: there
+// it says why.
 #[tactic(auto, unfolding(machine::specs::Amend::new_pending))]
 fn new_pending(f: Findings, t: Terms) -> Pending
     ensures { result ≡ new_pending f t }

@@ -8,29 +8,22 @@ ghost use Rattle.machine.specs.Changes.{unchanged, answering, alarming};
 ghost use Rattle.machine.specs.Amend.{not_pending, refused_order, refused_alarm, refused_note, refuse_request, venue_note, venue_cancel_reject, first_failed, send_failed, resendable, unsent};
 ghost use Rattle.orders.specs.Alarms.{alarm_in};
 
-use crate::has;
+use crate::{has, texts};
 use format::{bit, codes};
 use gateway_cancel::tries;
 use machine::{Change, Note, Refused};
 use orders::alarm::Alarm;
 use orders::{Known, change, message, order, reasons};
 use records::Record;
-use store::{Order, Pending, Request};
+use store::{Order, Pending, Request, kinds};
 
-// The fixed texts: bytes of messages, in which any may stand, so numbers and no enum.
-const TEXT_REJECTED: u8 = 10;
-
-const TEXT_NOT_SENT: u8 = 11;
-
-// Without the venue's word, a refused request no longer holds the order pending.
-#[tactic(auto, unfolding(machine::specs::Amend::not_pending), using(orders::specs::Laws::Choices::choices))]
+// Without the venue's word, a refused request no longer holds the order pending: it is New, which
+// `set_status` makes PartiallyFilled above a cumulative of 0.
+#[tactic(auto, unfolding(machine::specs::Amend::not_pending), using(orders::specs::Laws::Choices::choices, crate::specs::Laws::Working::set_new))]
 fn not_pending(o: Order) -> Order
     ensures { result ≡ not_pending o }
 {
     match o.state.status {
-        codes::PENDING_CANCEL | codes::PENDING_REPLACE if 0 < o.state.cumqty => {
-            order::set_status(codes::PARTIALLY_FILLED, o)
-        }
         codes::PENDING_CANCEL | codes::PENDING_REPLACE => order::set_status(codes::NEW, o),
         _ => o,
     }
@@ -64,7 +57,7 @@ fn refused_order(k: u16, r: Refused, o: Order) -> Order
     not_pending(out)
 }
 
-// The alarm of a short Filled that would be set.
+// The alarm that a refusal raises: its status would set a short Filled.
 #[tactic(auto, unfolding(machine::specs::Amend::refused_alarm), using(orders::specs::Laws::Choices::choices))]
 fn refused_alarm(r: Refused, o: Order) -> Option<Alarm>
     ensures { alarm_in result ≡ refused_alarm r o }
@@ -75,7 +68,8 @@ fn refused_alarm(r: Refused, o: Order) -> Option<Alarm>
     order::short_alarm(o.terms.qty, o.state.cumqty, r.status)
 }
 
-// Its request k answered, the order left as it is given, and that alarm.
+// The change of a refusal: the request is answered, the order is left as it is given, and that alarm is
+// raised.
 #[tactic(auto, unfolding(machine::specs::Changes::alarming, machine::specs::Changes::answering, machine::specs::Changes::unchanged), using(orders::specs::Laws::Choices::choices))]
 fn refused_change(known: &Known, r: Refused, left: Order) -> Change
     ensures { result ≡ alarming (refused_alarm r known.now.order) (answering known.now.link (unchanged known.now.findings.place left)) }
@@ -95,7 +89,7 @@ fn refused_note(n: Note) -> Note
 {
     let mut out = n;
     if n.text.len == 0 && n.fixedtext == 0 {
-        out.fixedtext = TEXT_REJECTED;
+        out.fixedtext = texts::REJECTED;
     }
     if n.origin == 0 {
         out.reason = reasons::OTHER;
@@ -104,7 +98,7 @@ fn refused_note(n: Note) -> Note
     out
 }
 
-// And the message that tells it, with the status that the order is left at.
+// The message that tells the client of a refusal, with the status that the order is left at.
 fn refused_message(q: Request, status: u8, n: Note, o: Order) -> Record
     ensures { result ≡ cancel_reject o.client o.names.name status q.clordid q.origclordid q.kind (refused_note n) }
 {
@@ -125,7 +119,7 @@ pub fn refuse_request(known: &Known, venue: u16, r: Refused) -> Change
 {
     let o = known.order;
     if change::is_first(known.request) || o.venue != venue || change::is_answered(known.request) {
-        return change::unchanged(known.findings.place, o);
+        return known.leaving(o);
     }
     let order = refused_order(known.link, r, o);
     let c = refused_change(known, r, order);
@@ -193,37 +187,34 @@ fn first_failed(known: &Known, n: Note) -> Change
     change::telling(m, change::settled(known.link, known.findings.place, order))
 }
 
-#[tactic(auto, unfolding(machine::specs::Amend::send_failed), using(orders::specs::Laws::Choices::choices))]
+#[tactic(auto, unfolding(machine::specs::Amend::send_failed, machine::specs::Changes::is_first, machine::specs::Changes::is_gateway), using(orders::specs::Laws::Choices::choices))]
 pub fn send_failed(known: &Known, venue: u16, n: Note) -> Change
     ensures { result ≡ send_failed known.now.findings known.now.link known.now.request venue n known.now.order }
 {
     let o = known.order;
     let place = known.findings.place;
-    let gateway = change::is_gateway(known.request);
     let answered = change::is_answered(known.request);
-    if o.venue != venue || gateway && answered {
-        return change::unchanged(place, o);
+    if o.venue != venue {
+        return known.leaving(o);
     }
-    if gateway && !order::has_gateway(o) {
-        return change::settled(known.link, place, o);
+    match known.request.kind {
+        kinds::GATEWAY if answered => known.leaving(o),
+        kinds::GATEWAY if !order::has_gateway(o) => change::settled(known.link, place, o),
+        kinds::GATEWAY => {
+            let gateway = tries::failed(o.gateway);
+            change::settled(known.link, place, Order { gateway, ..o })
+        }
+        kinds::FIRST if answered || o.state.status != codes::PENDING_NEW => known.leaving(o),
+        kinds::FIRST => first_failed(known, n),
+        _ => {
+            let r = Refused {
+                status: o.state.status,
+                venueorderid: text::no_text(),
+                note: n,
+            };
+            refuse_request(known, venue, r)
+        }
     }
-    if gateway {
-        let mut order = o;
-        order.gateway = tries::failed(o.gateway);
-        return change::settled(known.link, place, order);
-    }
-    if !change::is_first(known.request) {
-        let r = Refused {
-            status: o.state.status,
-            venueorderid: text::no_text(),
-            note: n,
-        };
-        return refuse_request(known, venue, r);
-    }
-    if answered || o.state.status != codes::PENDING_NEW {
-        return change::unchanged(place, o);
-    }
-    first_failed(known, n)
 }
 
 #[tactic(auto, unfolding(machine::specs::Amend::resendable))]
@@ -234,26 +225,28 @@ fn resendable(q: Request, venue: u16, o: Order) -> bool
 }
 
 // A request is sent again, or its send has failed.
-#[tactic(auto, unfolding(machine::specs::Amend::unsent), using(orders::specs::Laws::Choices::choices))]
+#[tactic(auto, unfolding(machine::specs::Amend::unsent, machine::specs::Changes::is_first, machine::specs::Changes::is_replace, machine::specs::Changes::is_cancel), using(orders::specs::Laws::Choices::choices))]
 pub fn unsent(known: &Known, venue: u16) -> Change
     ensures { result ≡ unsent known.now.findings known.now.link known.now.request venue known.now.order }
 {
     let o = known.order;
     let place = known.findings.place;
-    let again = resendable(known.request, venue, o);
     let downstream = known.request.downstream;
-    if again && change::is_first(known.request) && o.state.status == codes::PENDING_NEW {
-        return change::saying(message::new_order(o, downstream), place, o);
-    }
-    if again && change::is_cancel(known.request) {
-        return change::saying(message::cancel_request(o, downstream), place, o);
-    }
-    if again && change::is_replace(known.request) && o.pending.request == known.link {
-        let m = message::replace_request(o, downstream, order::pending_terms(o));
-        return change::saying(m, place, o);
+    if resendable(known.request, venue, o) {
+        match known.request.kind {
+            kinds::FIRST if o.state.status == codes::PENDING_NEW => {
+                return change::saying(message::new_order(o, downstream), place, o);
+            }
+            kinds::REPLACE if o.pending.request == known.link => {
+                let m = message::replace_request(o, downstream, order::pending_terms(o));
+                return change::saying(m, place, o);
+            }
+            kinds::FIRST | kinds::REPLACE => {}
+            _ => return change::saying(message::cancel_request(o, downstream), place, o),
+        }
     }
     let n = Note {
-        fixedtext: TEXT_NOT_SENT,
+        fixedtext: texts::NOT_SENT,
         ..message::NO_NOTE
     };
     send_failed(known, venue, n)

@@ -2,6 +2,7 @@
 ghost use Rattle.std.specs.Prelude.{◌≡◌};
 ghost use Rattle.amend.specs.Why.{reject_of};
 
+use crate::texts;
 use machine::Reject;
 use orders::reasons;
 
@@ -26,16 +27,16 @@ impl Why {
         ensures { result ≡ reject_of self }
     {
         let (reason, fixedtext) = match self {
-            Why::Cancelling => (reasons::ALREADY_PENDING, 1),
-            Why::ReplacePending => (reasons::ALREADY_PENDING, 2),
-            Why::BelowFilled => (reasons::OTHER, 3),
-            Why::Blocked => (reasons::OTHER, 4),
-            Why::Duplicate => (reasons::DUPLICATE, 5),
-            Why::UnknownOrder => (reasons::UNKNOWN, 6),
-            Why::Done => (reasons::TOO_LATE, 7),
-            Why::TooMany => (reasons::OTHER, 8),
-            Why::SideOrSymbol => (reasons::OTHER, 9),
-            Why::Verdict(v) => (reasons::OTHER, v.saturating_add(11)),
+            Why::Cancelling => (reasons::ALREADY_PENDING, texts::CANCELLING),
+            Why::ReplacePending => (reasons::ALREADY_PENDING, texts::REPLACE_PENDING),
+            Why::BelowFilled => (reasons::OTHER, texts::BELOW_FILLED),
+            Why::Blocked => (reasons::OTHER, texts::BLOCKED),
+            Why::Duplicate => (reasons::DUPLICATE, texts::DUPLICATE),
+            Why::UnknownOrder => (reasons::UNKNOWN, texts::UNKNOWN_ORDER),
+            Why::Done => (reasons::TOO_LATE, texts::DONE),
+            Why::TooMany => (reasons::OTHER, texts::TOO_MANY),
+            Why::SideOrSymbol => (reasons::OTHER, texts::SIDE_OR_SYMBOL),
+            Why::Verdict(v) => (reasons::OTHER, v.saturating_add(texts::BEFORE_VERDICTS)),
         };
         Reject { reason, fixedtext }
     }

@@ -5,14 +5,10 @@ ghost use Rattle.std.specs.Prelude.{◌≡◌, ◌<◌};
 ghost use Rattle.bits.specs.Map.{bit, digit, with_bit, standing};
 
 // A bit of a map, 0 or 1.
-#[tactic(auto, using(crate::specs::Laws::Map::digit_out))]
 pub fn digit_of(map: u32, k: u32) -> u32
     ensures { (result ≡ digit map k) × (result < 2) }
 {
-    if 32 <= k {
-        return 0;
-    }
-    (map >> k) & 1
+    map.checked_shr(k).unwrap_or(0) & 1
 }
 
 // Whether a bit of a map stands.
@@ -23,14 +19,10 @@ pub fn has(map: u32, k: u32) -> bool
 }
 
 // The map with one more bit.
-#[tactic(auto, using(prelude::specs::Cases::if_true, prelude::specs::Cases::if_false), unfolding(crate::specs::Map::with_bit))]
 pub fn with_bit(map: u32, k: u32) -> u32
     ensures { result ≡ with_bit map k }
 {
-    if 32 <= k {
-        return map;
-    }
-    map | 1 << k
+    map | 1u32.checked_shl(k).unwrap_or(0)
 }
 
 // How many bits of a map stand: the ones of its number.
@@ -38,5 +30,5 @@ pub fn with_bit(map: u32, k: u32) -> u32
 pub fn standing(map: u32) -> u32
     ensures { result ≡ standing map }
 {
-    u32::count_ones(map)
+    map.count_ones()
 }

@@ -22,15 +22,14 @@ const ENTRY: usize = 34;
 
 const NAME: usize = 32;
 
-// A name as a text. Its length by `as`: at most 32, and `try_from` would have a branch that nothing takes.
+// A name as a text. Its length by `as`, which is proved to lose nothing.
+#[tactic(auto, unfolding(prelude::specs::Texts::text_of))]
 fn text_of(name: &[u8]) -> Text
     requires { length name.now ≤ 32 }
     ensures { result ≡ text_of name.now }
 {
-    let mut bytes = [0; NAME];
-    bytes[..name.len()].copy_from_slice(name);
     Text {
-        bytes,
+        bytes: words::padded(name),
         len: name.len() as u8,
     }
 }
@@ -55,7 +54,8 @@ struct Used<'a> {
 }
 
 impl Used<'_> {
-    // The request that its OrigClOrdID names.
+    // The request that its OrigClOrdID names. In place, by the layout, here and in `put_entry`: `load_request`
+    // would read a record whole for two of its fields.
     #[tactic(auto, using(store::specs::Laws::Stored::count_most, store::specs::Laws::Beside::load_origin_in, crate::specs::Laws::Walk::linked))]
     fn earlier(&self) -> Option<usize>
         ensures { result ≡ earlier self.now.book.bytes.now self.now.k }
@@ -69,7 +69,9 @@ impl Used<'_> {
         Some(link - 1)
     }
 
-    // How many entries its chain has. Each step goes to a request numbered lower.
+    // How many entries its chain has. Each step goes to a request numbered lower. By recursion, here and in
+    // `put`, which docs/SCOPE.md has as the chain's form: `successors` says nothing of how long it runs, so a
+    // `count` of it is not proved.
     #[tactic(auto, using(store::specs::Laws::Stored::count_most, crate::specs::Laws::Walk::walked))]
     fn count(&self) -> usize
         ensures { result ≡ length (walk self.now.book.bytes.now self.now.k) }
@@ -127,6 +129,6 @@ pub fn chain(book: &[u8], client: u16, name: &[u8], list: &mut [u8]) -> Result<u
         return Err(Refusal::ShortList);
     }
     first.put(list, 0);
-    // At most 256: `try_from` would have a branch that nothing takes.
+    // By `as`, which is proved to lose nothing.
     Ok(n as u32)
 }

@@ -1,18 +1,47 @@
 // Reads items from standard input and holds the codec to their stored answers. An item is a tag, 1
 // event or 2 answer, a length of two bytes, that many bytes, and the refusal that they get. An
-// answer that is accepted is written again and compared. Rests on records and input.
+// answer that is accepted is written again and compared. A refusal is the number that is stored, 0 for none.
+// Rests on records and input.
 #![tactic(auto)]
 
 use records::Answer;
 use std::io::Read;
 use std::{fmt, io};
 
-// The tags: bytes of the input, in which any may stand, so no enum; an item with another is wrong.
-const EVENT: u8 = 1;
+// What an item is, by its tag.
+#[derive(Clone, Copy)]
+enum Kind {
+    Event,
+    Answer,
+}
 
-const ANSWER: u8 = 2;
+// A byte that is no tag: an item with one is wrong.
+#[derive(Clone, Copy)]
+struct NoTag;
 
-// What was counted.
+impl TryFrom<u8> for Kind {
+    type Error = NoTag;
+
+    fn try_from(tag: u8) -> Result<Kind, NoTag> {
+        match tag {
+            1 => Ok(Kind::Event),
+            2 => Ok(Kind::Answer),
+            _ => Err(NoTag),
+        }
+    }
+}
+
+impl Kind {
+    // Whether its bytes get the refusal that is expected, or none.
+    fn right(self, s: &[u8], expected: u32) -> bool {
+        match self {
+            Kind::Event => right_event(s, expected),
+            Kind::Answer => right_answer(s, expected),
+        }
+    }
+}
+
+// What was counted; a count stays at the most that it can be.
 #[derive(Clone, Copy, Default)]
 struct Tally {
     events: u32,
@@ -21,14 +50,17 @@ struct Tally {
 }
 
 impl Tally {
-    fn count(&mut self, tag: u8, right: bool) {
-        match tag {
-            EVENT => self.events = self.events.wrapping_add(1),
-            ANSWER => self.answers = self.answers.wrapping_add(1),
-            _ => {}
+    fn count(&mut self, tag: u8, s: &[u8], expected: u32) {
+        let mut right = false;
+        if let Ok(kind) = Kind::try_from(tag) {
+            match kind {
+                Kind::Event => self.events = self.events.saturating_add(1),
+                Kind::Answer => self.answers = self.answers.saturating_add(1),
+            }
+            right = kind.right(s, expected);
         }
         if !right {
-            self.wrong = self.wrong.wrapping_add(1);
+            self.wrong = self.wrong.saturating_add(1);
         }
     }
 }
@@ -46,13 +78,10 @@ impl fmt::Display for Tally {
 
 // Whether an answer, written again, is the bytes that it was read from.
 fn written_again(s: &[u8], answer: &Answer) -> bool {
+    // What `write` asks for; by `as`, since std has no `From<u32>` for usize.
     let mut out = [0u8; 1024];
-    // By `as`: std has no `From<u32>` for usize, and `try_from` would have a branch that nothing takes.
     let n = records::write(&mut out, answer) as usize;
-    match out.get(..n) {
-        Some(written) => s.starts_with(written),
-        None => false,
-    }
+    out.get(..n).is_some_and(|written| s.starts_with(written))
 }
 
 fn right_event(s: &[u8], expected: u32) -> bool {
@@ -69,37 +98,30 @@ fn right_answer(s: &[u8], expected: u32) -> bool {
     }
 }
 
-fn right_item(tag: u8, s: &[u8], expected: u32) -> bool {
-    match tag {
-        EVENT => right_event(s, expected),
-        ANSWER => right_answer(s, expected),
-        _ => false,
-    }
-}
-
-// The tally after the next item; None where the input ends.
-fn item<R: Read>(input: &mut R, tally: Tally) -> io::Result<Option<Tally>> {
+// Counts the next item; false where the input ends.
+fn item<R: Read>(input: &mut R, tally: &mut Tally) -> io::Result<bool> {
     let Some(head) = input::read_array::<_, 3>(input)? else {
-        return Ok(None);
+        return Ok(false);
     };
     let [tag, low, high] = head;
     let size = usize::from(u16::from_le_bytes([low, high]));
+    // As much as a length of two bytes can say, and a byte more. No `read_record`: the tag stands before the length,
+    // and an item that the input's end cuts is judged at the length that it says.
     let mut space = [0u8; 65536];
     input::read_full(input, &mut space[..size])?;
     let [expected] = input::read_padded::<_, 1>(input)?;
-    let right = right_item(tag, &space[..size], u32::from(expected));
-    let mut next = tally;
-    next.count(tag, right);
-    Ok(Some(next))
+    tally.count(tag, &space[..size], u32::from(expected));
+    Ok(true)
 }
 
+// Nothing says that the input ends, and a proved loop has to: it does after u64::MAX turns, more than any
+// input takes.
 fn all<R: Read>(input: &mut R) -> io::Result<Tally> {
     let mut tally = Tally::default();
-    for _ in 0..1000000 {
-        let Some(next) = item(input, tally)? else {
+    for _ in 0..u64::MAX {
+        if !item(input, &mut tally)? {
             break;
-        };
-        tally = next;
+        }
     }
     Ok(tally)
 }

@@ -8,7 +8,7 @@ ghost use Rattle.counted.specs.Counted.{counted_of, refusal_of};
 use prelude::Refusal;
 
 // The refusal, or 0 and the number that was asked for. With a refusal the number is 0. The C structure
-// has both fields.
+// has both fields, and the host's header names them: `opens` has a type of its own, with a quantity.
 #[repr(C)]
 #[derive(Clone, Copy)]
 pub struct Counted {

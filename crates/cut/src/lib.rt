@@ -29,8 +29,8 @@ fn nowhere(refusal: u32) -> Place
     }
 }
 
-// Where the record at o ends. That o is below 65,536 stands in the contract, as at each position in
-// records and places: a type for it would be made and taken apart at each call.
+// Where the record at o ends. By hand: records' Shape is its own. That o is below 65,536 stands in the
+// contract, as at each position in records and places: a type for it would be made and taken apart at each call.
 fn end_at(s: &[u8], o: usize) -> usize
     requires { (o < 65536) × (o + 5 ≤ length s.now) }
     ensures { result ≡ end_of s.now o }
@@ -41,7 +41,7 @@ fn end_at(s: &[u8], o: usize) -> usize
     at[32]
 }
 
-// Both are below 65,536: `try_from` would have branches that nothing takes.
+// Both are below 65,536, so `as` is proved to lose nothing.
 fn between(from: usize, to: usize) -> Place
     requires { (from ≤ to) × (to < 65536) }
     ensures { result ≡ stands from to }
@@ -67,7 +67,8 @@ fn place_in(answer: &[u8], n: u32) -> Place
     between(first, end_at(a, first))
 }
 
-// Where message n of an answer stands, counted from 0.
+// Where message n of an answer stands, counted from 0. No `From`: an answer without message n is no refusal, so
+// it is three cases.
 pub fn message_at(answer: &[u8], n: u32) -> Place
     ensures { result ≡ place_of answer.now n }
 {

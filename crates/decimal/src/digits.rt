@@ -1,6 +1,6 @@
 // Numbers whose decimal digits are taken off one by one, the lowest first: those of one word and those
-// of two. A digit is below 10, so by `as`: `try_from` would have a branch that nothing takes; and std has
-// no `From<u32>` for usize. Rests on wide's `by_ten`.
+// of two. A digit is below 10, so `as` is proved to lose nothing; and std has no `From<u32>` for usize. Rests
+// on wide's `by_ten`.
 ghost use Rattle.std.specs.Prelude.{◌≡◌, ◌/◌, ◌%◌, ◌≤◌, ℕ, length};
 ghost use Rattle.std.proofs.Common.{arith};
 ghost use Rattle.wide.specs.Wide.{value};
@@ -50,6 +50,7 @@ impl Digits for [u64; 2] {
 
     fn split_lowest(self) -> ([u64; 2], u8) {
         let tenth = wide::by_ten(self);
+        // A variable: the borrow checker covers no array field that is put into a tuple straight.
         let quotient = tenth.quotient;
         (quotient, tenth.digit as u8)
     }

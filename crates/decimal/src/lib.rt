@@ -19,6 +19,8 @@ fn put_low<N: Digits>(out: &mut [u8], at: usize, count: usize, n: N)
     ensures { out.new ≡ splice out.old at (low_digits count (N.number n)) }
 {
     let mut rest = n;
+    // By index: the digits of `rest` stand below it, which is what the loop keeps, and `iter_mut().rev()`
+    // has none to say it by.
     for i in (0..count).rev() {
         let (higher, lowest) = rest.split_lowest();
         out[at + i] = b'0' + lowest;
@@ -31,7 +33,7 @@ fn down<N: Digits>(n: N, places: u8) -> N
     ensures { N.number result ≡ down places (N.number n) }
 {
     let mut rest = n;
-    for _left in (0..places).rev() {
+    for _ in 0..places {
         rest = rest.split_lowest().0;
     }
     rest

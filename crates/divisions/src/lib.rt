@@ -48,7 +48,8 @@ pub struct Price {
     pub source: u64,
 }
 
-// The price of a fill and its source, by the function that `report` calls.
+// The price of a fill and its source, by the function that `report` calls. C gives the seven numbers one by
+// one.
 #[unsafe(no_mangle)]
 pub extern "C" fn price_of(
     lastqty: u64,
@@ -61,10 +62,19 @@ pub extern "C" fn price_of(
 ) -> Price
     ensures { (result.words ≡ (fill_price lastqty lastpx cumqty avgpx oldcum oldavg rise).price) × (result.source ≡ (fill_price lastqty lastpx cumqty avgpx oldcum oldavg rise).source) }
 {
-    let p = wide::fill_price(lastqty, lastpx, cumqty, avgpx, oldcum, oldavg, rise);
-    let words = p.price;
+    let fill = wide::Fill {
+        lastqty,
+        lastpx,
+        cumqty,
+        avgpx,
+        oldcum,
+        oldavg,
+        rise,
+    };
+    let priced = fill.price();
+    let words = priced.price;
     Price {
         words,
-        source: u64::from(p.source),
+        source: u64::from(priced.source),
     }
 }

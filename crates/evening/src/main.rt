@@ -1,25 +1,28 @@
 // An evening: records from standard input, each after its length in two bytes, go to one book in
 // their order, as `day` takes them; then the book's page goes to standard output, and its net position
-// below it. A record that the end of the input cuts is left out. Rests on gateway, words, decimal and
-// input.
+// below it. A record that the end of the input cuts is left out. Rests on gateway, store, step, words,
+// decimal and input.
 #![tactic(auto)]
 
 use input::Next;
 use std::io;
 use std::io::{Read, Write};
+use store::layout;
 
 mod position; // the net position's lines
 
-// The most ClOrdIDs that a client may use.
+// The most ClOrdIDs that a client may use: this program's choice, as day and limits have theirs.
 const SETTING: u32 = 10000;
 
-// 64 lines of 81 bytes.
+// 64 lines of 81 bytes, a number of the C header.
 const PAGE: usize = 5184;
 
 // Takes the events of the input; what they answer goes nowhere.
 fn take_all<R: Read>(input: &mut R, book: &mut [u8]) -> io::Result<()> {
+    // As much as a length of two bytes can say, and a byte more: `read_record` is lent so many.
     let mut space = [0u8; 65536];
-    let mut answer = [0u8; 1024];
+    let mut answer = [0u8; step::SHORTEST_ANSWER];
+    // A proved loop ends: this one after more events than an input can have.
     for _ in 0..u64::MAX {
         let Next::Record(size) = input::read_record(input, &mut space)? else {
             break;
@@ -32,7 +35,7 @@ fn take_all<R: Read>(input: &mut R, book: &mut [u8]) -> io::Result<()> {
 // The page of a book that was just run.
 fn print<W: Write>(output: &mut W, book: &[u8]) -> io::Result<()> {
     let mut out = [0u8; PAGE];
-    // By `as`: std has no `From<u32>` for usize, and `try_from` would have a branch that nothing takes.
+    // By `as`, which is proved to lose nothing: std has no `From<u32>` for usize.
     let long = gateway::page(book, &mut out).number as usize;
     if let Some(page) = out.get(..long) {
         output.write_all(page)?;
@@ -41,7 +44,7 @@ fn print<W: Write>(output: &mut W, book: &[u8]) -> io::Result<()> {
 }
 
 fn main(rt: HostRuntime) -> io::Result<()> {
-    let mut book = [0u8; 65536];
+    let mut book = [0u8; layout::BOOK];
     let _ = gateway::start(&mut book, SETTING);
     take_all(&mut rt.reader(), &mut book)?;
     let mut output = io::writer(&rt);

@@ -3,7 +3,8 @@
 use std::io;
 use std::io::Write;
 
-// What the call is lent: the one number of its scratch, and 64 lines of 27 bytes.
+// What the call is lent: the one number of its scratch, and 64 lines of 27 bytes. net's own constants are private:
+// a host has these numbers from the C header, and this program as a host.
 const SCRATCH: usize = 1;
 
 const LINES: usize = 1728;
@@ -49,7 +50,7 @@ fn print_line<W: Write>(output: &mut W, line: &[u8; LINE]) -> io::Result<()> {
 pub(crate) fn print<W: Write>(output: &mut W, book: &[u8]) -> io::Result<()> {
     let mut scratch = [0u64; SCRATCH];
     let mut space = [0u8; LINES];
-    // By `as`: std has no `From<u32>` for usize, and `try_from` would have a branch that nothing takes.
+    // By `as`, which is proved to lose nothing: std has no `From<u32>` for usize.
     let count = gateway::net_position(book, &mut scratch, &mut space).number as usize;
     if count == 0 {
         return Ok(());

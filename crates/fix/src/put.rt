@@ -1,4 +1,6 @@
-// A message's fields, written into a slice that has room for them. Rests on `value`, fix_table and decimal.
+// A message's fields, written into a slice that has room for them. The slice, where to write and what come
+// one by one, as decimal's functions take them: a struct of the first two would be made for each call, since
+// each goes on from where the last one ended. Rests on `value`, fix_table and decimal.
 ghost use Rattle.std.specs.Prelude.{◌≡◌, Some, [], ◌∷◌, ◌++◌, ℕ, ◌+◌, ◌*◌, ◌^◌, ◌≤◌, ◌<◌, length};
 ghost use Rattle.prelude.specs.Span.{span, splice};
 ghost use Rattle.decimal.specs.Decimal.{digits, decimal};
@@ -9,9 +11,7 @@ ghost use Rattle.fix.specs.Laws.Plan.{said_by, long_of, field_long, field_shown,
 
 use crate::session::Session;
 use crate::value::{Value, value_at};
-use decimal::digits::Digits;
 use fix_table::spoken::words;
-use format::codes;
 use records::parts::Parts;
 
 // The bytes of a text, written at `at`; where they end.
@@ -34,7 +34,8 @@ fn put_part(out: &mut [u8], at: usize, s: &[u8], from: usize, count: usize) -> u
     put_bytes(out, at, &s[from..from + count])
 }
 
-// A number of two words.
+// A number of two words, as one where the upper is 0. The question stands in `room` and in the reader too:
+// each asks it of another function of decimal's, and what would answer it once is a type for either.
 #[tactic(auto, using(decimal::specs::Laws::Columns::written_room))]
 fn put_decimal(out: &mut [u8], at: usize, low: u64, high: u64, places: u8) -> usize
     requires { at + length (decimal places (low + 2 ^ 64 * high)) ≤ length out.old }
@@ -55,33 +56,6 @@ fn put_digits(out: &mut [u8], at: usize, n: u64) -> usize
     at + decimal::put_decimal(out, at, n, 0)
 }
 
-// The digits of a tag, which are few, from the last to the first; where they end. A ladder, since
-// it counts no digits first: a step of docs/SPEED.md that the time of a message needs.
-fn put_tag(out: &mut [u8], at: usize, tag: u64) -> usize
-    requires { at + length (decimal 0 tag) ≤ length out.old }
-    ensures { (result ≡ at + length (decimal 0 tag)) × (out.new ≡ splice out.old at (decimal 0 tag)) }
-{
-    if tag < 10 {
-        out[at] = b'0' + tag.split_lowest().1;
-        return at + 1;
-    }
-    if tag < 100 {
-        let (tens, last) = tag.split_lowest();
-        out[at + 1] = b'0' + last;
-        out[at] = b'0' + tens.split_lowest().1;
-        return at + 2;
-    }
-    if tag < 1000 {
-        let (rest, last) = tag.split_lowest();
-        let (hundreds, middle) = rest.split_lowest();
-        out[at + 2] = b'0' + last;
-        out[at + 1] = b'0' + middle;
-        out[at] = b'0' + hundreds.split_lowest().1;
-        return at + 3;
-    }
-    put_digits(out, at, tag)
-}
-
 // A name, a point and a number.
 fn put_exec(out: &mut [u8], at: usize, s: &[u8], from: usize, count: usize, n: u64) -> usize
     requires { («from» + count ≤ length s.now) × (at + (count + (1 + length (digits n))) ≤ length out.old) }
@@ -92,16 +66,21 @@ fn put_exec(out: &mut [u8], at: usize, s: &[u8], from: usize, count: usize, n: u
     put_digits(out, a + 1, n)
 }
 
-// A value.
+// A value. That its bytes stand in the record is asked here and of `put_field` and `put_body`: the record
+// travels beside the value, and a type of both would hold the record once for each field.
 fn put_value(out: &mut [u8], at: usize, s: &[u8], v: Value) -> usize
     requires { (Sound s.now (Some v)) × (at + long_of v ≤ length out.old) }
     ensures { (result ≡ at + long_of v) × (out.new ≡ splice out.old at (said_by s.now v)) }
 {
     match v {
-        Value::Bytes(from, count) => put_part(out, at, s, from, count),
-        Value::Number(low, high, places) => put_decimal(out, at, low, high, places),
+        Value::Bytes { from, count } => put_part(out, at, s, from, count),
+        Value::Number { low, high, places } => put_decimal(out, at, low, high, places),
         Value::Words(n) => put_bytes(out, at, words(n)),
-        Value::Exec(from, count, n) => put_exec(out, at, s, from, count, n),
+        Value::Exec {
+            from,
+            count,
+            number,
+        } => put_exec(out, at, s, from, count, number),
     }
 }
 
@@ -114,7 +93,7 @@ fn put_field(out: &mut [u8], at: usize, tag: u64, s: &[u8], v: Option<Value>) ->
     let Some(value) = v else {
         return at;
     };
-    let a = put_tag(out, at, tag);
+    let a = put_digits(out, at, tag);
     out[a] = b'=';
     let b = put_value(out, a + 1, s, value);
     out[b] = 1;
@@ -127,7 +106,16 @@ fn put_text(out: &mut [u8], at: usize, tag: u64, text: &[u8]) -> usize
     requires { at + length (spellings (field tag text.now ∷ [])) ≤ length out.old }
     ensures { (result ≡ at + length (spellings (field tag text.now ∷ []))) × (out.new ≡ splice out.old at (spellings (field tag text.now ∷ []))) }
 {
-    put_field(out, at, tag, text, Some(Value::Bytes(0, text.len())))
+    put_field(
+        out,
+        at,
+        tag,
+        text,
+        Some(Value::Bytes {
+            from: 0,
+            count: text.len(),
+        }),
+    )
 }
 
 // A field whose value is a number.
@@ -136,7 +124,17 @@ fn put_number(out: &mut [u8], at: usize, tag: u64, n: u64) -> usize
     requires { at + length (spellings (field tag (digits n) ∷ [])) ≤ length out.old }
     ensures { (result ≡ at + length (spellings (field tag (digits n) ∷ []))) × (out.new ≡ splice out.old at (spellings (field tag (digits n) ∷ []))) }
 {
-    put_field(out, at, tag, &[], Some(Value::Number(n, 0, 0)))
+    put_field(
+        out,
+        at,
+        tag,
+        &[],
+        Some(Value::Number {
+            low: n,
+            high: 0,
+            places: 0,
+        }),
+    )
 }
 
 // 8 and 9.
@@ -150,8 +148,8 @@ pub(crate) fn put_first(out: &mut [u8], body: u64) -> usize
 
 // 35 to 52.
 pub(crate) fn put_head(out: &mut [u8], at: usize, kind: u8, header: &Session) -> usize
-    requires { at + length (spellings (head_fields kind header.now.sender.now header.now.target.now header.now.sequence header.now.time.now)) ≤ length out.old }
-    ensures { (result ≡ at + length (spellings (head_fields kind header.now.sender.now header.now.target.now header.now.sequence header.now.time.now))) × (out.new ≡ splice out.old at (spellings (head_fields kind header.now.sender.now header.now.target.now header.now.sequence header.now.time.now))) }
+    requires { at + length (spellings (head_fields kind header.now.sender header.now.target header.now.sequence header.now.time)) ≤ length out.old }
+    ensures { (result ≡ at + length (spellings (head_fields kind header.now.sender header.now.target header.now.sequence header.now.time))) × (out.new ≡ splice out.old at (spellings (head_fields kind header.now.sender header.now.target header.now.sequence header.now.time))) }
 {
     let letter = [fix_table::type_of(kind)];
     let a = put_text(out, at, 35, &letter);
@@ -161,7 +159,10 @@ pub(crate) fn put_head(out: &mut [u8], at: usize, kind: u8, header: &Session) ->
     put_text(out, d, 52, header.time)
 }
 
-// The fields of a record.
+// The fields of a record. The parts' four members stand one by one in its contract, and in those of `room`,
+// `value` and `write`: `Parted`, `planned` and `inner_long`, which the laws of Whole and Planned name, take them
+// so. Kind and parts come side by side: Parts is records' public struct, which has no kind, and the kind is a
+// number, since fix_table's tables take any byte.
 pub(crate) fn put_body(out: &mut [u8], start: usize, s: &[u8], kind: u8, parts: &Parts) -> usize
     requires { ((b : ℕ) → b < 32 → Sound s.now (planned kind parts.now.map parts.now.at parts.now.numbers parts.now.high b)) × (start + rows_long (rows kind) (planned kind parts.now.map parts.now.at parts.now.numbers parts.now.high) ≤ length out.old) }
     ensures { (result ≡ start + rows_long (rows kind) (planned kind parts.now.map parts.now.at parts.now.numbers parts.now.high)) × (out.new ≡ splice out.old start (rows_shown s.now (rows kind) (planned kind parts.now.map parts.now.at parts.now.numbers parts.now.high))) }
@@ -180,10 +181,11 @@ pub(crate) fn put_stamp(out: &mut [u8], at: usize, kind: u8, time: &[u8]) -> usi
     requires { at + length (spellings (stamp_fields kind time.now)) ≤ length out.old }
     ensures { (result ≡ at + length (spellings (stamp_fields kind time.now))) × (out.new ≡ splice out.old at (spellings (stamp_fields kind time.now))) }
 {
-    if kind < codes::NEW_ORDER {
-        return at;
+    if fix_table::has_stamp(kind) {
+        put_text(out, at, 60, time)
+    } else {
+        at
     }
-    put_text(out, at, 60, time)
 }
 
 // 10, the sum of all bytes before it.

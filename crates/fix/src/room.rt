@@ -1,7 +1,9 @@
-// The room that is left in a buffer, counted down before a byte is written: lengths are subtracted from
-// it and never added up, since a header text may have any length. Each less_* stands beside the put_* of
-// its name: one that both counted and wrote would add up what it writes. Rests on `value`, fix_table and
-// decimal.
+// The room that is left in a buffer, counted down before a byte is written. The header's texts are
+// subtracted one by one, since they may have any length and a sum of them could overflow; what is added up
+// before is small. Counting and writing are no twins: 9 and the refusals need the lengths before the first
+// byte, and one generic over a sink would need a law of each field for both sinks, where now each function
+// has one contract. A room is an Option on the way in too, as the definition `less_by` takes it: so its laws join
+// lengths with no case for None. Rests on `value`, fix_table and decimal.
 ghost use Rattle.std.specs.Prelude.{◌≡◌, ◌+◌, ◌*◌, ◌^◌, ◌≤◌, length};
 ghost use Rattle.decimal.specs.Decimal.{decimal};
 ghost use Rattle.fix_words.specs.Values.{rows};
@@ -10,7 +12,6 @@ ghost use Rattle.fix.specs.Laws.Plan.{less_by, long_of, field_long, rows_long, p
 use crate::session::Session;
 use crate::value::{Value, value_at};
 use fix_table::spoken;
-use format::codes;
 use records::parts::Parts;
 
 // The room behind n bytes more, where what was counted fits.
@@ -34,10 +35,13 @@ fn less_value(room: Option<usize>, v: Value) -> Option<usize>
     ensures { result ≡ less_by room (long_of v) }
 {
     match v {
-        Value::Bytes(_, count) => less(room, count),
-        Value::Number(low, high, places) => less(room, number_length(low, high, places)),
+        Value::Bytes { count, .. } => less(room, count),
+        Value::Number { low, high, places } => less(room, number_length(low, high, places)),
         Value::Words(n) => less(room, spoken::words(n).len()),
-        Value::Exec(_, count, n) => less(less(room, count), 1 + decimal::decimal_length(n, 0)),
+        Value::Exec { count, number, .. } => less(
+            less(room, count),
+            1 + decimal::decimal_length(number, 0),
+        ),
     }
 }
 
@@ -69,7 +73,7 @@ pub(crate) fn less_body(room: Option<usize>, kind: u8, parts: &Parts) -> Option<
 // The header from 35 on: tags and ends, and the lengths of the texts.
 #[tactic(auto, using(crate::specs::Laws::Putting::less_three, fix_words::specs::Laws::Counting::decimal_none), unfolding(crate::specs::Laws::Plan::head_long))]
 pub(crate) fn less_head(room: Option<usize>, header: &Session) -> Option<usize>
-    ensures { result ≡ less_by room (head_long (length header.now.sender.now) (length header.now.target.now) header.now.sequence (length header.now.time.now)) }
+    ensures { result ≡ less_by room (head_long (length header.now.sender) (length header.now.target) header.now.sequence (length header.now.time)) }
 {
     let tags = less(room, 21);
     let texts = less(
@@ -84,10 +88,11 @@ pub(crate) fn less_head(room: Option<usize>, header: &Session) -> Option<usize>
 pub(crate) fn less_stamp(room: Option<usize>, kind: u8, time: usize) -> Option<usize>
     ensures { result ≡ less_by room (stamp_long kind time) }
 {
-    if kind < codes::NEW_ORDER {
-        return room;
+    if fix_table::has_stamp(kind) {
+        less(less(room, 4), time)
+    } else {
+        room
     }
-    less(less(room, 4), time)
 }
 
 // 8, 9 with the body's length, and 10.

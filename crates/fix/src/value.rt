@@ -1,22 +1,38 @@
 // A value planned before it is written: where its bytes stand, or the number or words that it is. Rests
-// on fix_table and bits. Bits go by their numbers in docs/SCOPE.md, since they are indices here: 2 the
-// name, 20 a text, 25 the ExecID's number, 26 the fill price, 27 a fixed text. A record's lengths are
-// u64 and a bit's number is a u32 in bits: by `as`, since std has no From between them and usize, and
-// `try_from` would have a branch that nothing takes.
+// on fix_table, format and bits. A bit is an index of the parts here, as in a row (fix_table's `bit`), and
+// once the number by which bits shifts (format's `bit`). A record's lengths are u64 and a bit's number is a
+// u32 in bits: by `as`, which is proved to lose nothing, since std has no From between them and usize.
 ghost use Rattle.std.specs.Prelude.{◌≡◌, ◌-◌, ◌<◌};
 ghost use Rattle.fix.specs.Laws.Plan.{plain_plan, fixed_plan, exec_plan, instead_plan, planned};
 
 use fix_table::spoken::NONE;
-use fix_table::{Form, form_of};
+use fix_table::{Form, bit, form_of};
 use format::codes;
 use records::parts::Parts;
 
+// Places and no slices: the room is counted without the record, and the definitions of specs/Laws/Plan and
+// their laws are of places.
 #[derive(Clone, Copy)]
 pub(crate) enum Value {
-    Bytes(usize, usize), // of a buffer: from where, and how many
-    Number(u64, u64, u8), // of two words, low and high, with so many decimals
-    Words(u64), // of our own
-    Exec(usize, usize, u64), // bytes of a buffer, a point and a number
+    // Bytes of a buffer.
+    Bytes {
+        from: usize,
+        count: usize,
+    },
+    // A number of two words with so many decimals.
+    Number {
+        low: u64,
+        high: u64,
+        places: u8,
+    },
+    // Words of our own.
+    Words(u64),
+    // Bytes of a buffer, a point and a number.
+    Exec {
+        from: usize,
+        count: usize,
+        number: u64,
+    },
 }
 
 // Where a text of n bytes that ends at `to` stands: from where, and how many.
@@ -35,10 +51,17 @@ fn plain(to: usize, n: u64, high: u64, b: usize) -> Value
     match form_of(b) {
         Form::Text => {
             let (from, count) = text_place(to, n);
-            Value::Bytes(from, count)
+            Value::Bytes { from, count }
         }
-        Form::Code => Value::Bytes(to.saturating_sub(1), 1),
-        Form::Number(places) => Value::Number(n, if b == 26 { high } else { 0 }, places),
+        Form::Code => Value::Bytes {
+            from: to.saturating_sub(1),
+            count: 1,
+        },
+        Form::Number(places) => Value::Number {
+            low: n,
+            high: if b == bit::FILLPRICE { high } else { 0 },
+            places,
+        },
     }
 }
 
@@ -46,23 +69,20 @@ fn plain(to: usize, n: u64, high: u64, b: usize) -> Value
 fn fixed(map: u32, n: u64) -> Option<Value>
     ensures { result ≡ fixed_plan map n }
 {
-    if bits::has(map, 27) {
-        Some(Value::Words(n))
-    } else {
-        None
-    }
+    bits::has(map, format::bit::FIXEDTEXT).then_some(Value::Words(n))
 }
 
 #[tactic(auto, using(fix_table::specs::Laws::Choices::choices), unfolding(crate::specs::Laws::Plan::exec_plan))]
 fn exec(parts: &Parts) -> Option<Value>
     ensures { result ≡ exec_plan parts.now.map parts.now.at parts.now.numbers }
 {
-    if bits::has(parts.map, 25) {
-        let (from, count) = text_place(parts.at[3], parts.numbers[2]);
-        Some(Value::Exec(from, count, parts.numbers[25]))
-    } else {
-        None
-    }
+    let (from, count) = text_place(parts.at[bit::NAME + 1], parts.numbers[bit::NAME]);
+    let number = parts.numbers[bit::EXEC];
+    bits::has(parts.map, bit::EXEC as u32).then_some(Value::Exec {
+        from,
+        count,
+        number,
+    })
 }
 
 // What stands in a reject for a bit that does not.
@@ -74,28 +94,26 @@ fn instead(kind: u8, map: u32, n: u64, b: usize) -> Option<Value>
         return None;
     }
     match b {
-        2 => Some(Value::Words(NONE)),
-        20 => fixed(map, n),
+        bit::NAME => Some(Value::Words(NONE)),
+        bit::TEXT => fixed(map, n),
         _ => None,
     }
 }
 
 // The value of bit b of a message of this kind. That b is below 32 stands in this contract and in two
 // of `write`: it is an index of the parts, and a type for it would be made of each row's number only to
-// be taken apart here.
+// be taken apart here. It would say no more as a `Row`, which is public, and whose bit may be any number.
 #[tactic(auto, using(fix_table::specs::Laws::Choices::choices), unfolding(crate::specs::Laws::Plan::planned))]
 pub(crate) fn value_at(kind: u8, parts: &Parts, b: usize) -> Option<Value>
     requires { b < 32 }
     ensures { result ≡ planned kind parts.now.map parts.now.at parts.now.numbers parts.now.high b }
 {
-    if b == 25 {
-        return exec(parts);
+    match b {
+        bit::EXEC => exec(parts),
+        bit::FIXEDTEXT => fixed(parts.map, parts.numbers[bit::FIXEDTEXT]),
+        _ if bits::has(parts.map, b as u32) => {
+            Some(plain(parts.at[b + 1], parts.numbers[b], parts.high, b))
+        }
+        _ => instead(kind, parts.map, parts.numbers[bit::FIXEDTEXT], b),
     }
-    if b == 27 {
-        return fixed(parts.map, parts.numbers[27]);
-    }
-    if bits::has(parts.map, b as u32) {
-        return Some(plain(parts.at[b + 1], parts.numbers[b], parts.high, b));
-    }
-    instead(kind, parts.map, parts.numbers[27], b)
 }

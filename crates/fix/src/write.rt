@@ -1,6 +1,7 @@
 // The writer: the questions first, then the length, then the bytes. Rests on records' `parts`, `room`
 // and `put`. Lengths are u64 in the message and for C, and a bit's number is a u32 in bits: by `as`,
-// since std has no From between them and usize, and `try_from` would have a branch that nothing takes.
+// which is proved to lose nothing: std has no From between them and usize. As a
+// u8 a bit would be turned at each index of the parts instead.
 ghost use Rattle.std.specs.Prelude.{◌≡◌, ℕ, Some, IfOk, IfErr, ◌+◌, ◌-◌, ◌≤◌, ◌<◌, length, get_or};
 ghost use Rattle.prelude.specs.Refusal.{number_of};
 ghost use Rattle.prelude.specs.Span.{splice};
@@ -21,7 +22,7 @@ use records::parts::{Parts, message_parts};
 
 // What is decided before a byte is written: the record's parts and the body's length.
 #[derive(Clone, Copy)]
-pub(crate) struct Plan {
+struct Plan {
     pub parts: Parts,
     pub body: u64,
 }
@@ -57,19 +58,14 @@ fn texts_right(s: &[u8], parts: &Parts) -> bool
     requires { (b : ℕ) → b < 32 → form_of b ≡ Text → (get_or parts.now.at (b + 1) 0 - get_or parts.now.numbers b 0) + get_or parts.now.numbers b 0 ≤ length s.now }
     ensures { result ≡ texts_right s.now parts.now.map parts.now.at parts.now.numbers }
 {
-    for b in 0..32 {
-        if !text_right(s, parts.map, parts.at[b + 1], parts.numbers[b], b) {
-            return false;
-        }
-    }
-    true
+    (0..32).all(|b| text_right(s, parts.map, parts.at[b + 1], parts.numbers[b], b))
 }
 
 // Whether FIX can carry every text, of the session and of the record.
 #[tactic(auto, using(crate::specs::Laws::Whole::texts_right_lem, crate::specs::Laws::Whole::and_assoc), unfolding(fix_words::specs::Message::texted))]
 fn texted(record: &[u8], header: &Session, parts: &Parts) -> bool
     requires { Parted «record».now parts.now.map parts.now.at parts.now.numbers parts.now.high }
-    ensures { result ≡ texted (writing_of «record».now (session header.now.sender.now header.now.target.now header.now.sequence header.now.time.now)) }
+    ensures { result ≡ texted (writing_of «record».now header.now) }
 {
     is_text(header.sender)
         && is_text(header.target)
@@ -80,7 +76,7 @@ fn texted(record: &[u8], header: &Session, parts: &Parts) -> bool
 // The room behind what 9 counts.
 #[tactic(auto, using(crate::specs::Laws::Putting::less_three), unfolding(crate::specs::Laws::Plan::inner_long))]
 fn inside(room: usize, header: &Session, kind: u8, parts: &Parts) -> Option<usize>
-    ensures { result ≡ less_by (Some room) (inner_long (length header.now.sender.now) (length header.now.target.now) header.now.sequence (length header.now.time.now) kind parts.now.map parts.now.at parts.now.numbers parts.now.high) }
+    ensures { result ≡ less_by (Some room) (inner_long (length header.now.sender) (length header.now.target) header.now.sequence (length header.now.time) kind parts.now.map parts.now.at parts.now.numbers parts.now.high) }
 {
     let head = room::less_head(Some(room), header);
     let body = room::less_body(head, kind, parts);
@@ -89,8 +85,8 @@ fn inside(room: usize, header: &Session, kind: u8, parts: &Parts) -> Option<usiz
 
 // The questions, in their order, and the length.
 fn decide(record: &[u8], header: &Session, room: usize) -> Result<Plan, Refusal>
-    ensures ok { IfOk result (Decided «record».now (session header.now.sender.now header.now.target.now header.now.sequence header.now.time.now) room) }
-    ensures err { IfErr result (λ r. number_of r ≡ write_refusal «record».now (session header.now.sender.now header.now.target.now header.now.sequence header.now.time.now) room) }
+    ensures ok { IfOk result (Decided «record».now header.now room) }
+    ensures err { IfErr result (λ r. number_of r ≡ write_refusal «record».now header.now room) }
 {
     let parts = message_parts(record)?;
     if !texted(record, header, &parts) {
@@ -109,8 +105,8 @@ fn decide(record: &[u8], header: &Session, room: usize) -> Result<Plan, Refusal>
 
 // The whole message, which has room.
 fn put_message(out: &mut [u8], record: &[u8], header: &Session, p: &Plan) -> usize
-    requires { Decided «record».now (session header.now.sender.now header.now.target.now header.now.sequence header.now.time.now) (length out.old) p.now }
-    ensures { (result ≡ length (write_of «record».now (session header.now.sender.now header.now.target.now header.now.sequence header.now.time.now))) × (out.new ≡ splice out.old 0 (write_of «record».now (session header.now.sender.now header.now.target.now header.now.sequence header.now.time.now))) }
+    requires { Decided «record».now header.now (length out.old) p.now }
+    ensures { (result ≡ length (write_of «record».now header.now)) × (out.new ≡ splice out.old 0 (write_of «record».now header.now)) }
 {
     let kind = record[0];
     let a = put::put_first(out, p.body);
@@ -120,9 +116,9 @@ fn put_message(out: &mut [u8], record: &[u8], header: &Session, p: &Plan) -> usi
     put::put_trailer(out, d)
 }
 
-// Writes the message of a record.
+// Writes the message of a record. No `From`: `Written` is fix_claims', a crate that has no code.
 pub(crate) fn write(record: &[u8], header: &Session, out: &mut [u8]) -> Written
-    ensures { wrote result out.new ≡ write_call «record».now (session header.now.sender.now header.now.target.now header.now.sequence header.now.time.now) out.old }
+    ensures { wrote result out.new ≡ write_call «record».now header.now out.old }
 {
     match decide(record, header, out.len()) {
         Ok(plan) => {

@@ -12,7 +12,6 @@ ghost use Rattle.fix_reader.specs.Laws.Ending.{sum_digits};
 use crate::fields::Fields;
 use crate::values;
 use fix_table::sum::sum_digits;
-use format::codes;
 
 // Whether a value is the sum of bytes in three digits.
 #[tactic(auto, using(fix_words::specs::Laws::Lists::same_list))]
@@ -27,6 +26,7 @@ fn is_sum(s: &[u8], v: &[u8]) -> bool
 fn sum_right(f: &Fields, i: usize) -> bool
     ensures { result ≡ same_fields (drop i (fields_in f.now.message.now)) (sum_field (fields_in f.now.message.now) ∷ []) }
 {
+    // One `if` for each question and no `&&`: of the three joined, the proof did not close.
     if f.count() <= i {
         return false;
     }
@@ -41,24 +41,16 @@ fn sum_right(f: &Fields, i: usize) -> bool
     is_sum(&f.message[..before], f.value(i))
 }
 
-// Whether 60, where it stands, and 10 are the fields from i on, and the last.
+// Whether 60, where it stands, and 10 are the fields from i on, and the last. The kind's number alone, here and
+// below: `stamp` takes it, and that it is one of five is not asked.
 #[tactic(auto, using(crate::specs::Laws::Ending::stamp_none, crate::specs::Laws::Ending::stamp_past, crate::specs::Laws::Ending::stamp_here, crate::specs::Laws::Numbers::told_other, crate::specs::Laws::Numbers::told_same))]
 fn fields_right(f: &Fields, kind: u8, i: usize) -> bool
     ensures { result ≡ same_fields (drop i (fields_in f.now.message.now)) (stamp kind (value_at (fields_in f.now.message.now) 6) (sum_field (fields_in f.now.message.now) ∷ [])) }
 {
-    if kind < codes::NEW_ORDER {
+    if !fix_table::has_stamp(kind) {
         return sum_right(f, i);
     }
-    if f.count() <= i {
-        return false;
-    }
-    if f.tag(i) != 60 {
-        return false;
-    }
-    if f.value(i) != f.value(6) {
-        return false;
-    }
-    sum_right(f, i + 1)
+    i < f.count() && f.tag(i) == 60 && f.value(i) == f.value(6) && sum_right(f, i + 1)
 }
 
 // Whether 9 is the length from 35 to 10.
@@ -77,8 +69,5 @@ pub(crate) fn closed(f: &Fields, kind: u8, i: usize) -> bool
     requires { (kind ≡ kind_in (fields_in f.now.message.now)) × (tag_of (fields_in f.now.message.now) 2 ≡ 35) }
     ensures { result ≡ closed (fields_in f.now.message.now) (drop i (fields_in f.now.message.now)) }
 {
-    if !fields_right(f, kind, i) {
-        return false;
-    }
-    length_right(f)
+    fields_right(f, kind, i) && length_right(f)
 }

@@ -49,9 +49,6 @@ impl<'a> Fields<'a> {
     pub(crate) fn leads(&self, i: usize, tag: u64) -> bool
         ensures { result ≡ leads tag (drop i (fields_in self.now.message.now)) }
     {
-        if self.count() <= i {
-            return false;
-        }
-        tag == u64::from(self.tag(i))
+        i < self.count() && tag == u64::from(self.tag(i))
     }
 }

@@ -47,9 +47,5 @@ pub(crate) fn kind(f: &Fields) -> Option<MessageKind>
         return None;
     }
     let number = kind_of(f.value(2))?;
-    if texts_right(f) {
-        Some(MessageKind { number })
-    } else {
-        None
-    }
+    texts_right(f).then_some(MessageKind { number })
 }

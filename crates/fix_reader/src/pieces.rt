@@ -9,14 +9,15 @@ use prelude::Refusal;
 
 // A tag, and where its value starts.
 #[derive(Clone, Copy)]
-pub(crate) struct Tag {
+struct Tag {
     pub tag: u32,
     pub at: usize,
 }
 
-// A field: its tag, where its value starts, and where it ends.
+// A field: its tag, where its value starts, and where it ends. The three and no `Tag` with an end: it
+// would be `g.tag.tag`, and `split` copies the numbers one by one.
 #[derive(Clone, Copy)]
-pub(crate) struct Piece {
+struct Piece {
     pub tag: u32,
     pub at: usize,
     pub end: usize,
@@ -26,7 +27,7 @@ pub(crate) struct Piece {
 fn byte(t: &[u8], i: usize) -> u8
     ensures { result ≡ slice_index t.now i }
 {
-    if i < t.len() { t[i] } else { 0 }
+    t.get(i).copied().unwrap_or(0)
 }
 
 // Byte i as a digit, where it is one.
@@ -34,14 +35,11 @@ fn digit(t: &[u8], i: usize) -> Option<u32>
     ensures { Digit (slice_index t.now i) result }
 {
     let c = byte(t, i);
-    if c.is_ascii_digit() {
-        Some(u32::from(c - b'0'))
-    } else {
-        None
-    }
+    c.is_ascii_digit().then(|| u32::from(c - b'0'))
 }
 
-// The tag at the front, of at most three digits.
+// The tag at the front, of at most three digits. One byte after the other: to look for the = first would
+// read the bytes twice, and ask the same of each digit behind it.
 #[tactic(auto, using(crate::specs::Laws::Pieces::no_tag))]
 fn tag_here(t: &[u8]) -> Option<Tag>
     ensures { Tagged t.now result }
@@ -75,6 +73,7 @@ fn end_of(t: &[u8], from: usize) -> usize
     requires { from ≤ length t.now }
     ensures { Ends t.now from result }
 {
+    // A `for`: with `position` in the bytes from there on, the proof did not close.
     for i in from..t.len() {
         if t[i] < b' ' {
             return i;
@@ -129,8 +128,8 @@ pub(crate) fn split(m: &[u8]) -> Option<FixFields>
         }
         let g = piece_here(&m[p..])?;
         tag[n] = g.tag;
-        // By `as`, here and for the count: the C structure has u64 and u32, for which std has no `From` of a
-        // size, and `try_from` would have branches that nothing takes.
+        // By `as`, here and for the count, which is proved to lose nothing: the C structure has u64 and u32, for
+        // which std has no `From` of a size.
         at[n] = (p + g.at) as u64;
         length[n] = (g.end - g.at) as u64;
         n += 1;

@@ -13,6 +13,7 @@ ghost use Rattle.fix_reader.specs.Laws.Numbers.{Steps, Parses};
 ghost use Rattle.fix_reader.specs.Laws.Checks.{is_number};
 ghost use Rattle.fix_reader.specs.Laws.Decimals.{is_whole};
 
+use decimal::digits::Digits;
 use fix_table::spoken;
 use format::codes;
 
@@ -27,7 +28,8 @@ fn step(n: u64, c: u8) -> Option<u64>
     n.checked_mul(10)?.checked_add(u64::from(c - b'0'))
 }
 
-// The number that a value's digits are, where it is below 2^64.
+// The number that a value's digits are, where it is below 2^64. It stops where it is not; `price::wrapped`
+// goes on, and each says so in its contract, so one reading of both would be no plainer.
 #[tactic(auto, using(crate::specs::Laws::Numbers::read_more, crate::specs::Laws::Numbers::read_all, crate::specs::Laws::Numbers::read_least))]
 fn number(v: &[u8]) -> Option<u64>
     ensures { Parses v.now result }
@@ -41,11 +43,10 @@ fn number(v: &[u8]) -> Option<u64>
 
 // Whether a value is a number's decimal.
 #[tactic(auto, using(crate::specs::Laws::Numbers::same_long, crate::specs::Laws::Numbers::written_taken, fix_words::specs::Laws::Lists::same_list))]
-pub(crate) fn spelled(v: &[u8], n: u64, places: u8) -> bool
-    ensures { result ≡ same (decimal places n) v.now }
+pub(crate) fn spelled<N: Digits>(v: &[u8], n: N, places: u8) -> bool
+    ensures { result ≡ same (decimal places (N.number n)) v.now }
 {
-    let long = decimal::decimal_length(n, places);
-    if long != v.len() {
+    if decimal::decimal_length(n, places) != v.len() {
         return false;
     }
     let mut out = [0u8; 320];
@@ -96,10 +97,7 @@ fn all_digits(v: &[u8]) -> bool
 fn is_whole(v: &[u8]) -> bool
     ensures { result ≡ is_whole v.now }
 {
-    if v.is_empty() {
-        return false;
-    }
-    all_digits(v) && (v.len() == 1 || b'0' < v[0])
+    !v.is_empty() && all_digits(v) && (v.len() == 1 || b'0' < v[0])
 }
 
 // Whether a value is the decimal of the number that it is.
@@ -126,13 +124,7 @@ pub(crate) fn number_fits(b: usize, s: usize, places: u8, v: &[u8]) -> bool
     requires { (s ≢ 8) → (s ≢ 4) → s ≡ 1 }
     ensures { result ≡ (nat_lt (number_in v.now) (bound s) && (same (decimal places (number_in v.now)) v.now && in_range (range b) (number_in v.now))) }
 {
-    if !is_decimal(v, places) {
-        return false;
-    }
-    match number(v) {
-        Some(n) => below(n, s) && places::may_hold(b, n),
-        None => false,
-    }
+    is_decimal(v, places) && number(v).is_some_and(|n| below(n, s) && places::may_hold(b, n))
 }
 
 // Whether a value is a number of one word.
@@ -140,20 +132,18 @@ pub(crate) fn number_fits(b: usize, s: usize, places: u8, v: &[u8]) -> bool
 pub(crate) fn is_number(v: &[u8]) -> bool
     ensures { result ≡ is_number v.now }
 {
-    if !is_whole(v) {
-        return false;
-    }
-    number(v).is_some()
+    is_whole(v) && number(v).is_some()
 }
 
-// Whether all bytes are letters and digits.
+// Whether all bytes are letters and digits: format's `alnums` in fix_words' word for a list, `every`.
 fn alnums(v: &[u8]) -> bool
     ensures { result ≡ every is_alnum v.now }
 {
-    v.iter().all(|c| c.is_ascii_alphanumeric())
+    v.iter().all(|c| format::is_alnum(*c))
 }
 
-// Whether a value is an order's name; in a reject it may be NONE.
+// Whether a value is an order's name; in a reject it may be NONE. Of bytes of any length, where format's
+// `name_ok` has a `Text`.
 #[tactic(auto, using(fix_words::specs::Laws::Lists::same_list, prelude::specs::Cases::if_true, prelude::specs::Cases::if_false))]
 pub(crate) fn name_fits(kind: u8, v: &[u8]) -> bool
     ensures { result ≡ (if same v.now none_word then (kind == 17) otherwise (within 1 20 (length v.now) && every is_alnum v.now)) }
@@ -161,7 +151,7 @@ pub(crate) fn name_fits(kind: u8, v: &[u8]) -> bool
     if v == b"NONE".as_slice() {
         return kind == codes::CANCEL_REJECT;
     }
-    1 <= v.len() && v.len() <= 20 && alnums(v)
+    (1..=20).contains(&v.len()) && alnums(v)
 }
 
 // Whether a value is one of the fixed texts.
@@ -169,13 +159,5 @@ pub(crate) fn name_fits(kind: u8, v: &[u8]) -> bool
 pub(crate) fn words_fit(v: &[u8]) -> bool
     ensures { result ≡ nat_le 1 (word_number v.now) }
 {
-    if v.is_empty() {
-        return false;
-    }
-    for n in 1..spoken::NONE {
-        if v == spoken::words(n) {
-            return true;
-        }
-    }
-    false
+    !v.is_empty() && (1..spoken::NONE).any(|n| v == spoken::words(n))
 }

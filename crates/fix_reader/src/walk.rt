@@ -13,20 +13,10 @@ ghost use Rattle.fix_reader.specs.Laws.Taking.{walk_on, walk_all, left_from};
 
 use crate::fields::Fields;
 use crate::{exec, price, values};
-use fix_table::Form;
+use fix_table::{Form, bit};
 
-// The bits whose values go their own way, and the venue's text.
-const NAME: usize = 2;
-
-const TEXT: usize = 20;
-
-const EXEC: usize = 25;
-
-const PRICE: usize = 26;
-
-const WORDS: usize = 27;
-
-// The kind of a message, one of the five that have rows.
+// The kind of a message, one of the five that have rows. A number and no enum: fix_table's public tables
+// take any byte, so an enum would be turned back at each call.
 #[derive(Clone, Copy)]
 pub(crate) struct MessageKind {
     pub number: u8,
@@ -49,10 +39,10 @@ fn value_fits(kind: MessageKind, b: usize, v: &[u8], name: &[u8]) -> bool
     ensures { result ≡ fits kind.number name.now b v.now }
 {
     match b {
-        NAME => values::name_fits(kind.number, v),
-        EXEC => exec::exec_fits(name, v),
-        PRICE => price::price_fits(v),
-        WORDS => values::words_fit(v),
+        bit::NAME => values::name_fits(kind.number, v),
+        bit::EXEC => exec::exec_fits(name, v),
+        bit::FILLPRICE => price::price_fits(v),
+        bit::FIXEDTEXT => values::words_fit(v),
         _ => match fix_table::form_of(b) {
             Form::Text => values::text_fits(b, v),
             Form::Code => values::code_fits(b, v),
@@ -66,7 +56,7 @@ fn asked(f: &Fields, kind: MessageKind, b: usize, i: usize, seen: bool) -> bool
     requires { (in_rows (rows kind.number) b ≡ true) × (i < 32) }
     ensures { result ≡ asked_by kind.number (value_at (fields_in f.now.message.now) 7) seen b (value_at (fields_in f.now.message.now) i) }
 {
-    value_fits(kind, b, f.value(i), f.value(7)) && !(seen && b == WORDS)
+    value_fits(kind, b, f.value(i), f.value(7)) && !(seen && b == bit::FIXEDTEXT)
 }
 
 // One row.
@@ -84,7 +74,7 @@ fn take_row(f: &Fields, kind: MessageKind, row: &fix_table::Row, t: Taken) -> Op
     }
     Some(Taken {
         next: i + 1,
-        seen: t.seen || row.bit == TEXT,
+        seen: t.seen || row.bit == bit::TEXT,
     })
 }
 

@@ -1,15 +1,17 @@
 // The tables of FIX messages in code, for the writer and the reader: the rows of each kind (`rows`), the
 // message types, how each bit is written, the words of our own (`spoken`) and the checksum (`sum`). Each
-// function is total and equals a definition of specs/Table or of fix_words. Tables are statics: a constant
+// function is total and equals a definition of specs/Table or of fix_words, or says its number itself.
+// Tables are statics: a constant
 // would be built on the stack at each access. Rests on fix_words and format.
 #![tactic(auto)]
 
-ghost use Rattle.std.specs.Prelude.{◌≡◌, map};
+ghost use Rattle.std.specs.Prelude.{◌≡◌, map, nat_le};
 ghost use Rattle.fix_words.specs.Values.{rows, type_of};
 ghost use Rattle.fix_table.specs.Table.{as_row, form_of, kind_for};
 
 use format::codes;
 
+pub mod bit;
 pub mod spoken;
 pub mod sum;
 mod tables;
@@ -46,7 +48,7 @@ static FORMS: [Form; 32] = [
     PRICE, WHOLE, WHOLE, WHOLE, TEXT, WHOLE,
 ];
 
-// The rows of a kind, in their order; a kind that is none has no rows.
+// The rows of a kind, in their order: below the first kind a report's, past the last none.
 #[tactic(auto, using(crate::specs::Laws::Rows::low, crate::specs::Laws::Rows::past), unfolding(fix_words::specs::Values::rows, fix_words::specs::Values::tables))]
 pub fn rows(kind: u8) -> &'static [Row]
     ensures { map as_row result.now ≡ rows kind }
@@ -61,7 +63,8 @@ pub fn rows(kind: u8) -> &'static [Row]
     }
 }
 
-// MsgType.
+// MsgType: below the first kind a report's, past the last 0, and no Option: its promise, and a message has one
+// byte there.
 #[tactic(auto, using(crate::specs::Laws::Rows::low, crate::specs::Laws::Rows::past), unfolding(fix_words::specs::Values::type_of, fix_words::specs::Values::types))]
 pub fn type_of(kind: u8) -> u8
     ensures { result ≡ type_of kind }
@@ -91,10 +94,16 @@ pub fn kind_of(letter: u8) -> Option<u8>
     }
 }
 
+// Whether a message of this kind has 60, the time: those that go to the venue do.
+pub fn has_stamp(kind: u8) -> bool
+    ensures { result ≡ nat_le 18 kind }
+{
+    codes::NEW_ORDER <= kind
+}
+
 // How a bit is written; past the last as a whole number.
-#[tactic(auto, using(crate::specs::Laws::Forms::form_past))]
 pub fn form_of(b: usize) -> Form
     ensures { result ≡ form_of b }
 {
-    if b < FORMS.len() { FORMS[b] } else { WHOLE }
+    FORMS.get(b).copied().unwrap_or(WHOLE)
 }

@@ -1,4 +1,5 @@
-// The words of our own that a text may be: the fixed texts 1 to 18, and NONE as 19.
+// The words of our own that a text may be: the fixed texts 1 to 18, and NONE as 19. Numbers and no enum,
+// since a record holds a fixed text as a number, which may be any; NONE alone is a number of ours.
 ghost use Rattle.std.specs.Prelude.{◌≡◌, [], slice_index_or};
 ghost use Rattle.fix_table.specs.Table.{spoken};
 

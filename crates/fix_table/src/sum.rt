@@ -15,7 +15,7 @@ pub fn checksum(s: &[u8]) -> u8
     sum
 }
 
-// The sum as three digits.
+// The sum as three digits, by hand: decimal's public functions write no leading zeros.
 #[tactic(auto, unfolding(decimal::specs::Decimal::low_digits))]
 pub fn sum_digits(s: &[u8]) -> [u8; 3]
     ensures { result ≡ low_digits 3 (sum s.now % 256) }

@@ -1,7 +1,8 @@
 // The rows of the five tables, as fix_words has them. Rests on nothing.
 use crate::Row;
 
-// A row that must stand.
+// A row that must stand. Macros, since a static's value may call no `const fn`; and two, since in a table
+// the one word says more than a flag behind two numbers.
 macro_rules! must {
     ($tag:expr, $bit:expr) => {
         Row {

@@ -9,6 +9,10 @@ pub const CLORDID: u32 = 3;
 
 pub const ORIGCLORDID: u32 = 4;
 
+pub const DOWNSTREAM: u32 = 5;
+
+pub const SYMBOL: u32 = 6;
+
 pub const PRICE: u32 = 10;
 
 pub const TIMEINFORCE: u32 = 11;
@@ -25,8 +29,12 @@ pub const REDELIVERED: u32 = 21;
 
 pub const BLOCKED: u32 = 22;
 
+pub const FILLPRICE: u32 = 26;
+
 pub const FIXEDTEXT: u32 = 27;
 
 pub const ORIGIN: u32 = 28;
 
 pub const RESPONSETO: u32 = 29;
+
+pub const ORIGDOWNSTREAM: u32 = 30;

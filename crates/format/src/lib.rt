@@ -2,7 +2,8 @@
 // kind. Rests on prelude and bits.
 #![tactic(auto)]
 
-ghost use Rattle.std.specs.Prelude.{◌≡◌, ◌+◌, get_or};
+ghost use Rattle.std.specs.Prelude.{◌≡◌, ◌+◌};
+ghost use Rattle.std.specs.List.{list_all};
 ghost use Rattle.format.specs.Codes.{is_side, is_ordtype, is_timeinforce, is_status, is_exectype, is_alnum, is_none, is_name};
 ghost use Rattle.format.specs.Format.{required, allowed, is_kind, joined, bits_right};
 
@@ -11,6 +12,8 @@ use prelude::Text;
 pub mod bit;
 pub mod codes;
 
+// FIX's lists of codes, by their characters: most codes have no name in the code, which asks of them only
+// whether they are on the list.
 #[tactic(auto, unfolding(crate::specs::Codes::is_side, crate::specs::Codes::sides))]
 pub fn is_side(code: u8) -> bool
     ensures { result ≡ is_side code }
@@ -54,6 +57,13 @@ pub fn is_alnum(c: u8) -> bool
     c.is_ascii_alphanumeric()
 }
 
+// Whether all bytes are.
+pub fn alnums(bytes: &[u8]) -> bool
+    ensures { result ≡ list_all is_alnum bytes.now }
+{
+    bytes.iter().all(|c| is_alnum(*c))
+}
+
 #[tactic(auto, unfolding(crate::specs::Codes::is_none))]
 fn is_none(t: Text) -> bool
     ensures { result ≡ is_none t }
@@ -66,43 +76,72 @@ pub fn name_ok(name: Text) -> bool
     ensures { result ≡ is_name name }
 {
     let n = usize::from(name.len);
-    if n < 1 || 20 < n {
+    if !(1..=20).contains(&n) {
         return false;
     }
-    name.bytes[..n].iter().all(|c| is_alnum(*c)) && !is_none(name)
+    alnums(&name.bytes[..n]) && !is_none(name)
 }
 
-// The presence maps of each kind, the number of a kind being its place: the bits that it must have, and
-// these with the bits that it may have.
-const REQUIRED: [u32; 21] = [
-    0, 975, 217, 8389337, 249890, 34, 34, 1048610, 34, 4, 0, 0, 0, 0, 0, 0, 2265150413, 805838873,
-    994, 1073742818, 1073742818,
+// The presence maps of a kind: the bits that it must have, and these with the bits that it may have.
+#[derive(Clone, Copy)]
+struct Maps {
+    required: u32,
+    permitted: u32,
+}
+
+const NO_KIND: Maps = Maps {
+    required: 0,
+    permitted: 0,
+};
+
+macro_rules! maps {
+    ($required:expr, $permitted:expr) => {
+        Maps {
+            required: $required,
+            permitted: $permitted,
+        }
+    };
+}
+
+// Those of each kind, whose number is its place. A static: a constant would be built on the stack at each
+// access.
+static MAPS: [Maps; 21] = [
+    NO_KIND,
+    maps!(975, 4047),
+    maps!(217, 2097369),
+    maps!(8389337, 14684121),
+    maps!(249890, 2093090),
+    maps!(34, 34),
+    maps!(34, 1843234),
+    maps!(1048610, 1048610),
+    maps!(34, 34),
+    maps!(4, 4),
+    NO_KIND,
+    NO_KIND,
+    NO_KIND,
+    NO_KIND,
+    NO_KIND,
+    NO_KIND,
+    maps!(2265150413, 2669379549),
+    maps!(805838873, 941105181),
+    maps!(994, 4066),
+    maps!(1073742818, 1074008034),
+    maps!(1073742818, 1074008034),
 ];
 
-const PERMITTED: [u32; 21] = [
-    0, 4047, 2097369, 14684121, 2093090, 34, 1843234, 1048610, 34, 4, 0, 0, 0, 0, 0, 0, 2669379549,
-    941105181, 4066, 1074008034, 1074008034,
-];
-
-// A kind's map in a table: none where there is no such kind.
-fn entry(table: &[u32; 21], kind: u8) -> u32
-    ensures { result ≡ get_or table.now kind 0 }
+// A kind's maps: none where there is no such kind.
+fn maps_of(kind: u8) -> Maps
+    ensures required { result.required ≡ required kind }
+    ensures permitted { result.permitted ≡ required kind + allowed kind }
 {
-    table.get(usize::from(kind)).copied().unwrap_or(0)
+    MAPS.get(usize::from(kind)).copied().unwrap_or(NO_KIND)
 }
 
 // The bits that a kind must have.
 pub fn required_of(kind: u8) -> u32
     ensures { result ≡ required kind }
 {
-    entry(&REQUIRED, kind)
-}
-
-// Those and the bits that it may have.
-fn permitted_of(kind: u8) -> u32
-    ensures { result ≡ required kind + allowed kind }
-{
-    entry(&PERMITTED, kind)
+    maps_of(kind).required
 }
 
 #[tactic(auto, unfolding(crate::specs::Format::is_kind))]
@@ -119,6 +158,7 @@ fn is_kind(kind: u8) -> bool
 fn is_joined(kind: u8, map: u32) -> bool
     ensures { result ≡ joined kind map }
 {
+    // Digits, and no `has`: two of them are added, and the definition compares the other two.
     let texts = bits::digit_of(map, bit::TEXT) + bits::digit_of(map, bit::FIXEDTEXT);
     match kind {
         codes::REPORT => {
@@ -134,6 +174,9 @@ fn is_joined(kind: u8, map: u32) -> bool
 pub fn bits_right(kind: u8, map: u32) -> bool
     ensures { result ≡ bits_right kind map }
 {
-    let must = required_of(kind);
-    is_kind(kind) && map & must == must && permitted_of(kind) & map == map && is_joined(kind, map)
+    let maps = maps_of(kind);
+    is_kind(kind)
+        && map & maps.required == maps.required
+        && maps.permitted & map == map
+        && is_joined(kind, map)
 }

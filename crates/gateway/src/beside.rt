@@ -1,5 +1,5 @@
 // What an event writes beside the requests' fields, worked out before a byte is written, and only where
-// it is written. Rests on outcomes.
+// it is written. A link of a request is a number, as the book has it: 0 is none. Rests on outcomes.
 ghost use Rattle.std.specs.Prelude.{◌≡◌, ◌&&◌, eqb};
 ghost use Rattle.prelude.specs.Cases.{if◌then◌otherwise◌};
 ghost use Rattle.outcomes.specs.Outcomes.{outcome_in, origin_of};

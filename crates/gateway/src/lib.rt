@@ -2,9 +2,10 @@
 // `start` makes an empty book, `event` takes one record and writes the answer, `check` says whether a
 // book keeps its rules, `page` prints the evening page, `open_quantity` gives a client's open quantity,
 // `net_position` writes the net position's lines, `set_mark` marks the book and `return_to_mark` makes it
-// what it was then, `needs` gives what an event will need, `chain` writes the chain of a ClOrdID. Each
-// is total: whatever the bytes, it returns its number, and a refused call has written nothing. Rests on
-// step, outcomes, opens, records, store, page, net, marks, needs and chain.
+// what it was then, `needs` gives what an event will need, `chain` writes the chain of a ClOrdID. They
+// return the numbers and structures of the C functions, which gateway_c lends as they are. Each is total:
+// whatever the bytes, it returns, and a refused call has written nothing. Rests on step, outcomes, opens,
+// records, store, page, net, marks, needs and chain.
 #![tactic(auto)]
 
 ghost use Rattle.std.specs.Prelude.{◌≡◌};
@@ -25,7 +26,8 @@ use store::layout;
 mod beside; // what goes beside the requests' fields, by value
 mod write; // a change written into the book
 
-// Makes an empty book: zeros but for the setting, the most ClOrdIDs that a client may use.
+// Makes an empty book: zeros but for the setting, the most ClOrdIDs that a client may use. Its one question is
+// answered by its number, here and in `check`: a `Result` made for it would be no plainer.
 #[tactic(auto, unfolding(step::specs::Entries::start_refusal, step::specs::Entries::start_of, store::specs::Book::clear_book), using(orders::specs::Laws::Choices::choices))]
 pub fn start(book: &mut [u8], setting: u32) -> u32
     ensures { (result ≡ start_refusal book.old) × (book.new ≡ start_of book.old setting) }
@@ -37,7 +39,9 @@ pub fn start(book: &mut [u8], setting: u32) -> u32
     0
 }
 
-// Takes the event in `record`: the book changes, and the answer stands at the start of `answer`.
+// Takes the event in `record`: the book changes, and the answer stands at the start of `answer`. With `?` it
+// would be a second function under the same contract, and this one its number: no plainer. A change is 1,136
+// bytes: borrowed from the answer instead of moved, it cost 8 % more instructions on an empty book.
 #[tactic(auto, using(crate::specs::Laws::Entered::left_0, orders::specs::Laws::Choices::choices))]
 pub fn event(book: &mut [u8], record: &[u8], answer: &mut [u8]) -> u32
     ensures { outcome result book.new answer.new ≡ event_of book.old «record».now answer.old }

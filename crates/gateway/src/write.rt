@@ -1,4 +1,5 @@
-// A change written into the book's bytes. Rests on store.
+// A change written into the book's bytes. A link is a number, as the book has it: one more than the index,
+// and 0 for none. Rests on store.
 ghost use Rattle.std.specs.Prelude.{◌≡◌, eqb};
 ghost use Rattle.prelude.specs.Cases.{if◌then◌otherwise◌};
 ghost use Rattle.store.specs.Book.{store_open};

@@ -1,6 +1,5 @@
 // src/book/gateway_cancel.rs: the gateway cancelling an order itself, as functions over structs by
-// value. Each equals its definition in machine's GatewayCancel; `tries` alone lends a record, a
-// gateway cancel, by `&mut`. Rests on orders.
+// value. Each equals its definition in machine's GatewayCancel. Rests on orders.
 #![tactic(auto)]
 
 ghost use Rattle.std.specs.Prelude.{◌≡◌};
@@ -13,7 +12,9 @@ use store::{GatewayCancel, Order, kinds};
 
 pub mod tries;
 
-// How many times the gateway sends its cancel before it gives up.
+// How many times the gateway sends its cancel before it gives up. `rules` has the same number. Neither
+// crate rests on the other, so one constant would stand in a third for the two: machine's `most_tries`, in
+// the definitions that both are proved against, holds them together.
 const MAX_GATEWAY_CANCEL_TRIES: u8 = 3;
 
 // The order's latest cancel is not answered.
@@ -31,21 +32,19 @@ pub fn gateway_cancel_in_flight(f: Findings, o: Order) -> bool
     outstanding_cancel(f, o) && change::is_gateway(f.cancel)
 }
 
-// The gateway's cancel begun.
+// The gateway's cancel as it begins: not yet sent.
 #[tactic(auto, unfolding(machine::specs::GatewayCancel::begun))]
 fn begun(o: Order) -> GatewayCancel
     ensures { result ≡ begun o }
 {
     GatewayCancel {
-        tries: 0,
         unsent: true,
-        stuck: false,
         origdownstream: o.links.current,
-        refusedsends: 0,
+        ..store::NO_GATEWAY
     }
 }
 
-// Sent once more.
+// The gateway's cancel once it is sent one time more.
 #[tactic(auto, using(crate::specs::Laws::Tries::sent_is_try))]
 fn try_sent(o: Order) -> GatewayCancel
     ensures { result ≡ try_sent o }
@@ -53,14 +52,15 @@ fn try_sent(o: Order) -> GatewayCancel
     tries::sent(o.gateway, o.links.current)
 }
 
-// Given up.
+// The gateway's cancel once the gateway gives it up.
 #[tactic(auto, unfolding(machine::specs::GatewayCancel::given_up))]
 fn given_up(o: Order) -> GatewayCancel
     ensures { result ≡ given_up o }
 {
-    let mut g = o.gateway;
-    g.stuck = true;
-    g
+    GatewayCancel {
+        stuck: true,
+        ..o.gateway
+    }
 }
 
 #[tactic(auto, unfolding(machine::specs::GatewayCancel::send_gateway_cancel))]

@@ -1,11 +1,16 @@
 -- What the calls that read take from the input, by the bytes that it has left before and after, where those are known. Rests on nothing.
-use Rattle.std.specs.Prelude.{ℕ, ◌≡◌, ◌+◌, ◌*◌, ◌≤◌, ◌<◌, List, ◌∷◌, length, take, Option}
+use Rattle.std.specs.Prelude.{ℕ, ◌≡◌, ◌+◌, ◌-◌, ◌*◌, ◌≤◌, ◌<◌, List, ◌∷◌, length, take, drop, replicate, Option}
 use Rattle.std.specs.Io.KnownBytes.{Consumes, IsAtEnd}
 use Rattle.input.specs.declared.Next.{Next}
 
--- the bytes begin with those that were left, and with all of them where these are fewer
+-- fewer than n bytes were left, and they are gone
+abbrev pub Short : ℕ → Option (List ℕ) → Option (List ℕ) → Type 0
+Short n old new = (bytes : List ℕ) × (length bytes < n) × Consumes old new bytes × IsAtEnd new
+
+-- the bytes begin with those that were left, and with all of them where these are fewer; zeros follow
 abbrev pub Padded : Option (List ℕ) → Option (List ℕ) → List ℕ → Type 0
-Padded old new bytes = (n : ℕ) × (n ≤ length bytes) × Consumes old new (take n bytes) × (n < length bytes → IsAtEnd new)
+Padded old new bytes =
+    (n : ℕ) × (n ≤ length bytes) × Consumes old new (take n bytes) × (n < length bytes → IsAtEnd new) × (drop n bytes ≡ replicate (length bytes - n) 0)
 
 -- a record's length, the lower byte first, and then its bytes; the end of the input otherwise
 abbrev pub Given : Option (List ℕ) → Option (List ℕ) → List ℕ → Next → Type 0

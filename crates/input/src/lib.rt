@@ -4,13 +4,14 @@
 
 ghost use Rattle.std.specs.Prelude.{◌≤◌, ◌<◌, IfOk, OnOk, MatchOption, length, take};
 ghost use Rattle.std.specs.Io.KnownBytes.{Consumes, IsAtEnd};
-ghost use Rattle.input.specs.Reading.{Padded, Given};
+ghost use Rattle.input.specs.Reading.{Short, Padded, Given};
 
 use std::io;
 use std::io::Read;
 
 // Reads until the space is full or the input ends, and returns how many bytes it put at the space's
-// start.
+// start. An interrupted read is the caller's error, as any other: a retry has no proved end, and the
+// programs handle no signals.
 pub fn read_full<R: Read>(input: &mut R, space: &mut [u8]) -> io::Result<usize>
     ensures within { IfOk result (λ n. n ≤ length space.new) }
     ensures taken { IfOk result (λ n. Consumes (R.remaining input.old) (R.remaining input.new) (take n space.new)) }
@@ -30,23 +31,27 @@ pub fn read_full<R: Read>(input: &mut R, space: &mut [u8]) -> io::Result<usize>
 
 // The next N bytes; None where the input ends before them.
 pub fn read_array<R: Read, const N: usize>(input: &mut R) -> io::Result<Option<[u8; N]>>
-    ensures { IfOk result (λ found. MatchOption found (IsAtEnd (R.remaining input.new)) (λ bytes. Consumes (R.remaining input.old) (R.remaining input.new) bytes)) }
+    ensures { IfOk result (λ found. MatchOption found (Short N (R.remaining input.old) (R.remaining input.new)) (λ bytes. Consumes (R.remaining input.old) (R.remaining input.new) bytes)) }
 {
     let mut bytes = [0u8; N];
     let got = read_full(input, &mut bytes)?;
-    Ok(if got == N { Some(bytes) } else { None })
+    Ok((got == N).then_some(bytes))
 }
 
-// The next N bytes, with zeros in place of those behind the input's end.
+// The next N bytes, with zeros in place of those behind the input's end: written there, since a reader
+// may use the room behind what it gives.
 pub fn read_padded<R: Read, const N: usize>(input: &mut R) -> io::Result<[u8; N]>
     ensures { IfOk result (Padded (R.remaining input.old) (R.remaining input.new)) }
 {
     let mut padded = [0u8; N];
-    read_full(input, &mut padded)?;
+    let space = &mut padded[..];
+    let got = read_full(input, space)?;
+    space[got..].fill(0);
     Ok(padded)
 }
 
-// What the input has next: a record of so many bytes, a record that the input's end cuts, or its end.
+// What the input has next: a record of so many bytes, a record that the input's end cuts, or its end. A
+// size and no slice: `Given` says of the whole space what stands in it, and a caller cuts it in one place.
 #[derive(Clone, Copy)]
 pub enum Next {
     Record(usize),

@@ -1,16 +1,17 @@
 // The book's limits, run through `event`: how many bookings are taken before one gets 7, and how many
-// requests, and what an event that adds none gets then. Rests on gateway.
+// requests, and what an event that adds none gets then. Rests on gateway, store and step.
 #![tactic(auto)]
 
 ghost use Rattle.std.specs.Prelude.{◌<◌};
 
 use std::io;
+use store::layout;
 
-// The most ClOrdIDs that a client may use.
+// The most ClOrdIDs that a client may use: this program's choice, as day and evening have theirs.
 const SETTING: u32 = 10000;
 
-// A decimal digit of a number, as a character: by `as`, since `try_from` would have a branch that nothing
-// takes.
+// A decimal digit of a number, as a character: by `as`, which is proved to lose nothing. By hand: each digit has
+// its own index in a record of fixed length, and `decimal` writes no leading zeros.
 fn digit(n: u16, unit: u16) -> u8
     requires { 0 < unit }
 {
@@ -46,14 +47,15 @@ fn report() -> [u8; 45] {
 
 // What an event gets.
 fn refusal(book: &mut [u8], record: &[u8]) -> u32 {
-    let mut answer = [0u8; 1024];
+    let mut answer = [0u8; step::SHORTEST_ANSWER];
     gateway::event(book, record, &mut answer)
 }
 
 fn main(rt: HostRuntime) -> io::Result<()> {
-    let mut book = [0u8; 65536];
+    let mut book = [0u8; layout::BOOK];
     let _ = gateway::start(&mut book, SETTING);
-    // Until one is refused.
+    // Until one is refused. The same below for cancels: one function for both would take the call as a closure
+    // over the book, and each of its two calls would be as long as this chain.
     let bookings = (0..99)
         .take_while(|i| refusal(&mut book, &booking(*i)) == 0)
         .count();

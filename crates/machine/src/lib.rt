@@ -9,7 +9,9 @@ use store::{Order, Request};
 
 // What the handling of an event needs of the book beside its order: the order's link (its index
 // and one, 0 for no order), how many requests are in use, and the order's latest cancel (all zero
-// where there is none).
+// where there is none). Zeros for none, as the book's records have them: the definitions read these
+// fields, and the theorems name them. The order stands beside them and not among them, since it changes
+// on the way while they stay, and the definitions take the two one by one.
 #[derive(Clone, Copy)]
 pub struct Findings {
     pub place: u16,
@@ -18,7 +20,8 @@ pub struct Findings {
 }
 
 // What a message says beside the order's state: a text, or the number of a fixed one, and a reason
-// with its origin, 1 ours, 2 the venue's. What is 0 or empty is not said.
+// with its origin, 1 ours, 2 the venue's. What is 0 or empty is not said, as in the records that the
+// definitions make of it: the theorems name these fields.
 #[derive(Clone, Copy)]
 pub struct Note {
     pub text: LongText,
@@ -28,7 +31,8 @@ pub struct Note {
 }
 
 // What a client is told of a cancel or replace that is refused: the reason and the number of the
-// text. The text is 0 where it is not refused.
+// text. The text is 0 where it is not refused: a number that the definitions read and the theorems name.
+// In code amend's `Why`, in a `Result`, stands for it until it is told.
 #[derive(Clone, Copy)]
 pub struct Reject {
     pub reason: u32,
@@ -36,8 +40,8 @@ pub struct Reject {
 }
 
 // A refusal of a cancel or replace that was sent (the Rust's `Refused`): the order's status as the
-// venue gives it and the venue's OrderID, 0 and empty where not given, and what the client is
-// told.
+// venue gives it and the venue's OrderID, and what the client is told. 0 and empty where not given, as
+// the record has them: the definitions read these fields, and the theorems name them.
 #[derive(Clone, Copy)]
 pub struct Refused {
     pub status: u8,
@@ -45,9 +49,9 @@ pub struct Refused {
     pub note: Note,
 }
 
-// What an event does to the requests: the links of those it answers, and the one it adds. Links of 0,
-// counts and flags as in the book's own records, which the definitions read and write: so an event's
-// whole effect is one flat value.
+// What an event does to the requests: the links of those it answers, 0 for none, and the one it adds,
+// where the flag beside it is 1. As numbers, since the definitions and their theorems name each field
+// (`requests.added ≡ 0`).
 #[derive(Clone, Copy)]
 pub struct Requests {
     pub answered: u16,
@@ -56,7 +60,8 @@ pub struct Requests {
     pub request: Request,
 }
 
-// What an event puts out: up to two messages, and up to two alarms.
+// What an event puts out: up to two messages, as a count with two records, and up to two alarms, 0 for
+// none. The bytes of an answer have them so, the definitions read these fields, and the theorems name them.
 #[derive(Clone, Copy)]
 pub struct Output {
     pub count: u8,
@@ -68,7 +73,9 @@ pub struct Output {
 
 // What an event does. The order as it is left goes to the place that the link names: 0 is none,
 // and one past those in use is a new order. Where the refusal is not 0 the event is not taken: a number,
-// since the definitions and their theorems have it; in code a `Result` stands around the change.
+// since the definitions and their theorems name the field. In code a `Result` stands around the change,
+// and the number is 0. A struct with a ghost field would say so once in place of seven clauses, but each of
+// the forty functions and more that make a change on the way would wrap and unwrap it.
 #[derive(Clone, Copy)]
 pub struct Change {
     pub refusal: u8,

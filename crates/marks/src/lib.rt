@@ -36,9 +36,7 @@ pub fn set_mark(book: &[u8], name: &[u8], places: &mut [u8]) -> Result<(), Refus
 pub fn return_to_mark(book: &mut [u8], name: &[u8], places: &[u8]) -> Result<(), Refusal>
     ensures { marked (refusal_of result) book.new places.now ≡ return_of book.old name.now places.now }
 {
-    if !opens::keeps(book) {
-        return Err(Refusal::BadBook);
-    }
+    Kept::new(book)?;
     let name = Name::new(name)?;
     let Some(i) = place::return_place(places, &name) else {
         return Err(Refusal::NoMark);

@@ -44,13 +44,10 @@ impl<'a> Name<'a> {
     }
 
     // The name, and zeros after it.
-    #[tactic(auto, using(crate::proofs::Laws::Places::name_short))]
+    #[tactic(auto, unfolding(crate::specs::Marks::name_bytes))]
     pub(crate) fn bytes(&self) -> [u8; NAME]
         ensures { result ≡ name_bytes self.now.letters.now }
     {
-        let letters = self.letters;
-        let mut bytes = [0; NAME];
-        bytes[..letters.len()].copy_from_slice(letters);
-        bytes
+        words::padded(self.letters)
     }
 }

@@ -1,6 +1,7 @@
 // The places of a buffer: their names compared, the place of a mark found, and a mark written or read.
-// That place i is there stands in the contracts: a type for it would be made for each that is looked at.
-// Rests on opens and store's layout.
+// Places go by their index, as in specs/Marks.antt, and that place i is there stands in the contracts: a mark
+// is written by the index, since `as_chunks_mut` says nothing of what the slice ends as, and `as_chunks` to
+// look the places through would be a second form beside it. Rests on opens and store's layout.
 ghost use Rattle.std.specs.Prelude.{◌≡◌, ◌&&◌, ◌++◌, ◌+◌, ◌≤◌, ◌<◌, length};
 ghost use Rattle.prelude.specs.Below.{first_below};
 ghost use Rattle.prelude.specs.Span.{splice};
@@ -12,8 +13,8 @@ use crate::name::{NAME, Name};
 use opens::Kept;
 use store::layout;
 
-// A place: 32 bytes of name, then the image.
-const PLACE: usize = 65568;
+// A place: the name, then the image.
+const PLACE: usize = NAME + layout::BOOK;
 
 // Whether place i has these bytes for its name.
 #[tactic(auto, using(prelude::specs::Span::part_span, crate::proofs::Laws::Places::name_same), unfolding(crate::specs::Marks::name_at))]

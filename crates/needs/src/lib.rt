@@ -13,7 +13,7 @@ use records::Record;
 
 // The refusal, or 0 and the event's needs. With a refusal all else is 0. The C structure has all fields.
 #[repr(C)]
-#[derive(Clone, Copy)]
+#[derive(Clone, Copy, Default)]
 pub struct Needs {
     pub refusal: u32,
     pub length: u32,
@@ -32,11 +32,7 @@ fn refused(refusal: u32) -> Needs
 {
     Needs {
         refusal,
-        length: 0,
-        messages: 0,
-        requests: 0,
-        fields_first: 0,
-        fields_second: 0,
+        ..Needs::default()
     }
 }
 
@@ -67,10 +63,11 @@ fn field_count(m: Record) -> u32
 fn added_count(added: u8) -> u32
     ensures { result ≡ added_count added }
 {
-    if added == 0 { 0 } else { 1 }
+    u32::from(added != 0)
 }
 
-// The needs of an event that is taken, puts this out and adds a request or none.
+// The needs of an event that is taken, puts this out and adds a request or none. `count` is the number that
+// `records::write_answer` takes beside two records, and so no `Messages`.
 #[tactic(auto, using(crate::specs::Laws::Needs::counted))]
 fn needed(out: Output, added: u8) -> Needs
     ensures { result ≡ needed (chosen out.count out.first out.second) added }

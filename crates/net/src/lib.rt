@@ -18,7 +18,7 @@ mod line; // one line
 mod pair; // the orders of one client in one symbol
 
 // What was bought and what was sold.
-#[derive(Clone, Copy)]
+#[derive(Clone, Copy, Default)]
 pub struct Amounts {
     pub bought: u64,
     pub sold: u64,
@@ -33,7 +33,8 @@ const LEAST_SCRATCH: usize = 1;
 const LEAST_LINES: usize = 1728;
 
 // Behind so many lines, the line of order i where it is the first of its client and symbol. Returns how
-// many lines there are then.
+// many lines there are then. The line's place by its number: `as_chunks_mut` says nothing of what the slice
+// ends as.
 #[tactic(auto, using(store::specs::Laws::Stored::count_most))]
 fn put_next(book: &Kept<'_>, out: &mut [u8], i: usize, lines: usize) -> usize
     requires { (i < order_count book.now.bytes.now) × (lines ≤ i) × (least_lines ≤ length out.old) }
@@ -77,6 +78,6 @@ pub fn net_position(book: &[u8], scratch: &mut [u64], lines: &mut [u8]) -> Resul
         return Err(Refusal::ShortNet);
     }
     let count = put_lines(&book, lines);
-    // At most 64: `try_from` would have a branch that nothing takes.
+    // By `as`, which is proved to lose nothing.
     Ok(count as u32)
 }

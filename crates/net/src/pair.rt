@@ -31,8 +31,9 @@ pub(crate) struct Pair {
 }
 
 impl Pair {
-    // Whether order k is that client's in that symbol.
-    #[tactic(auto, using(store::specs::Laws::Stored::count_most))]
+    // Whether order k is that client's in that symbol. In place, by the layout: `load_order` would read the
+    // record whole for two of its fields, for each pair of orders.
+    #[tactic(auto, using(store::specs::Laws::Stored::count_most, crate::specs::Laws::Pair::used_long))]
     fn has(self, book: &[u8], k: usize) -> bool
         requires { k < order_count book.now }
         ensures { result ≡ of_pair self.client self.symbol (order_in (book_of book.now) k) }
@@ -51,7 +52,7 @@ impl Pair {
         (0..n).all(|k| !self.has(book, k))
     }
 
-    // With what order k bought or sold of it.
+    // With what order k bought or sold of it: two fields more, in place as above.
     fn with(self, book: &Kept<'_>, k: usize, a: Amounts) -> Amounts
         requires { InUse book.now.bytes.now k × IsSum (book_of book.now.bytes.now) self.client self.symbol k a }
         ensures { IsSum (book_of book.now.bytes.now) self.client self.symbol (k + 1) result }
@@ -80,7 +81,7 @@ impl Pair {
         requires { (n ≤ order_count book.now.bytes.now) × (unseen (book_of book.now.bytes.now) self.client self.symbol n ≡ true) }
         ensures { result ≡ filled_in (book_of book.now.bytes.now) self.client self.symbol }
     {
-        let mut a = Amounts { bought: 0, sold: 0 };
+        let mut a = Amounts::default();
         for k in n..store::order_count(book.bytes) {
             a = self.with(book, k, a);
         }

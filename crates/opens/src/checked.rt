@@ -14,7 +14,8 @@ pub struct Kept<'a> {
 impl<'a> Kept<'a> {
     ghost use Rattle.prelude.specs.declared.Refusal.TheVariants.{BadBook};
 
-    // The book, if it keeps its rules.
+    // The book, if it keeps its rules. No `TryFrom`: every rule is judged here, which is more than a
+    // conversion, and `Kept::new(book)?` is as long.
     pub fn new(book: &'a [u8]) -> Result<Kept<'a>, Refusal>
         ensures ok { IfOk result (λ kept. kept.bytes.now ≡ book.now) }
         ensures err { IfErr result (λ refusal. (refusal ≡ BadBook) × (keeps_of book.now ≡ false)) }

@@ -45,7 +45,8 @@ impl From<Result<u64, Refusal>> for Opened {
     }
 }
 
-// The order whose word is written, and the quantity that is written there.
+// The index of the order whose word is written, in use or the one that is added, and the quantity that is
+// written there.
 #[derive(Clone, Copy)]
 pub struct Word {
     pub at: usize,
@@ -76,7 +77,8 @@ pub fn open_quantity(book: &[u8], client: u16) -> Result<u64, Refusal>
     }
 }
 
-// What the order of a link has left, 0 where there is none.
+// What the order of a link has left, 0 where there is none. A link is as the book holds it, 0 for none: any
+// two bytes may stand there, so no Option.
 #[tactic(auto, using(store::specs::Laws::Stored::count_most, crate::specs::Laws::Moved::links))]
 fn leaves_at_link(book: &[u8], place: u16) -> u64
     ensures { result ≡ leaves_qty (order_at_link (book_of book.now) place) }
@@ -84,14 +86,10 @@ fn leaves_at_link(book: &[u8], place: u16) -> u64
     let Some(bytes) = book.as_array() else {
         return 0;
     };
-    if place == 0 {
-        return 0;
+    match usize::from(place).checked_sub(1) {
+        Some(i) if i < store::order_count(bytes) => sums::leaves_at(bytes, i),
+        _ => 0,
     }
-    let i = usize::from(place - 1);
-    if i >= store::order_count(bytes) {
-        return 0;
-    }
-    sums::leaves_at(bytes, i)
 }
 
 // Where the client's open quantity stands and what it becomes, once the order of link `place`, which
@@ -107,6 +105,7 @@ pub fn opening(book: &[u8], place: u16, client: u16, leaves: u64) -> Word
             let quantity = rest.wrapping_add(leaves);
             Word { at, quantity }
         }
+        // The client's first order is the one that is added: its index, and no mark for none.
         None => Word {
             at: store::order_count(book),
             quantity: leaves,

@@ -1,6 +1,6 @@
 // Each client's leaves summed up over its orders, and compared with the word of its first order. That
 // order i is in the table stands in two contracts: a type for it would be made at each turn of a loop.
-// Rests on words and orders.
+// Rests on store, words and orders.
 ghost use Rattle.std.specs.Prelude.{◌≡◌, ◌<◌, true, Some};
 ghost use Rattle.store.specs.Layout.{most_orders};
 ghost use Rattle.store.specs.Book.{book_of, order_at, order_count};
@@ -12,11 +12,8 @@ ghost use Rattle.opens.specs.Opens.{opens_right};
 ghost use Rattle.opens.specs.Laws.Left.{right_first};
 
 use orders::order;
-use store::layout;
+use store::layout::{self, Bytes};
 use words::{get16, get64};
-
-// All the bytes of a book.
-pub(crate) type Bytes = [u8; layout::BOOK];
 
 // What order i has left, in place.
 #[tactic(auto, using(words::specs::Laws::Windows::window_64, store::specs::Laws::Fields::terms_qty, store::specs::Laws::Fields::state_cumqty, store::specs::Laws::Fields::state_status), unfolding(machine::specs::Orders::leaves_qty))]
@@ -49,7 +46,8 @@ pub(crate) struct Ruled<'a> {
 }
 
 impl Ruled<'_> {
-    // What the orders of a client have left together; its first is order i.
+    // What the orders of a client have left together; its first is order i. A loop, since `sum` of a chain
+    // asks beforehand that all of it fits, which here each step shows.
     #[tactic(auto, using(store::specs::Laws::Stored::count_most, crate::specs::Laws::Left::summed))]
     fn leaves_from(&self, i: usize, client: u16) -> u64
         requires { find_client (book_of self.now.bytes.now) client ≡ Some i }
@@ -82,16 +80,10 @@ impl Ruled<'_> {
     }
 
     // Whether what is stored for each client is its open quantity.
-    #[tactic(auto, using(crate::specs::Laws::Left::all_asked))]
     pub(crate) fn opens_right(&self) -> bool
         ensures { result ≡ opens_right self.now.bytes.now }
     {
         let book = self.bytes;
-        for i in 0..store::order_count(book) {
-            if !self.is_right(i) {
-                return false;
-            }
-        }
-        true
+        (0..store::order_count(book)).all(|i| self.is_right(i))
     }
 }

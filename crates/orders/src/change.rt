@@ -12,6 +12,8 @@ use prelude::Text;
 use records::Record;
 use store::{Order, Request, kinds};
 
+// This and the next two differ in a constant: each has the name of its definition in machine, and one
+// function of a kind would be the comparison itself.
 #[tactic(auto, unfolding(machine::specs::Changes::is_first))]
 pub fn is_first(q: Request) -> bool
     ensures { result ≡ is_first q }
@@ -72,7 +74,8 @@ fn silent() -> Output
     }
 }
 
-// The order at a place as it stands, and nothing else.
+// The order at a place as it stands, and nothing else. Place and order one by one, here and below, as machine's
+// definitions take them: the order changes on the way, the place does not.
 #[tactic(auto, unfolding(machine::specs::Changes::unchanged))]
 pub fn unchanged(place: u16, o: Order) -> Change
     ensures { result ≡ unchanged place o }
@@ -133,7 +136,8 @@ pub fn telling(m: Record, c: Change) -> Change
     out
 }
 
-// A message goes out, and the order at a place stands as it is given.
+// A message goes out, and the order at a place stands as it is given. This, `settled` and `raising` are each
+// one of machine's steps on `unchanged`: a function over them would take a closure to name the step.
 pub fn saying(m: Record, place: u16, o: Order) -> Change
     ensures { result ≡ telling m (unchanged place o) }
 {
@@ -147,7 +151,7 @@ pub fn settled(k: u16, place: u16, o: Order) -> Change
     answering(k, unchanged(place, o))
 }
 
-// The same on top of a change, whose order is given anew.
+// On top of a change: a message goes out, a request is added, and the order is given anew.
 pub fn sending_on(m: Record, q: Request, o: Order, c: Change) -> Change
     ensures { result ≡ telling m (adding q (with_order o c)) }
 {
@@ -156,7 +160,8 @@ pub fn sending_on(m: Record, q: Request, o: Order, c: Change) -> Change
     telling(m, adding(q, out))
 }
 
-// An alarm is raised, by its number, behind the one that is there.
+// An alarm is raised, by its number, behind the one that is there. Any number, here and in `raising`: an
+// `Alarm` would ask more of callers.
 #[tactic(auto, unfolding(machine::specs::Changes::alarming), using(crate::specs::Laws::Choices::choices))]
 pub fn alarming(a: u8, c: Change) -> Change
     ensures { result ≡ alarming a c }
@@ -170,7 +175,7 @@ pub fn alarming(a: u8, c: Change) -> Change
     out
 }
 
-// An alarm, and the order at a place stands as it is given.
+// An alarm is raised, and the order at a place stands as it is given.
 pub fn raising(a: u8, place: u16, o: Order) -> Change
     ensures { result ≡ alarming a (unchanged place o) }
 {

@@ -1,8 +1,11 @@
 // Orders, the messages about them, and changes: the words in which the handling is written.
-// Every function is total and equals a definition of machine. Rests on text.
+// Every public function is total and equals a definition of machine. Rests on machine, format and bits.
 #![tactic(auto)]
 
-use machine::Findings;
+ghost use Rattle.std.specs.Prelude.{◌≡◌};
+ghost use Rattle.machine.specs.Changes.{unchanged};
+
+use machine::{Change, Findings};
 use store::{Order, Request};
 
 pub mod alarm;
@@ -12,11 +15,22 @@ pub mod order;
 pub mod reasons;
 
 // A request that the book knows: its link, the request, its order, and what the handling needs
-// beside them.
+// beside them. Contracts name each part, as `known.now.link`: machine's definitions take them one by one, and
+// the theorems name those parameters. It is lent, and an event's record beside it comes by value: both can be
+// copied, and behind a reference each contract would say `e.now`.
 #[derive(Clone, Copy)]
 pub struct Known {
     pub findings: Findings,
     pub link: u16,
     pub request: Request,
     pub order: Order,
+}
+
+impl Known {
+    // The order as it is left, at its place, and nothing else.
+    pub fn leaving(&self, left: Order) -> Change
+        ensures { result ≡ unchanged self.now.findings.place left }
+    {
+        change::unchanged(self.findings.place, left)
+    }
 }

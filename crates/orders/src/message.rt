@@ -15,6 +15,8 @@ use records::{Exec, Ids, LongText, Record, Told};
 use store::Order;
 use wide::Priced;
 
+// The zeros, as constants: a message names what it has, and takes the rest by `..`. Not derived, as in store,
+// where the reason stands.
 const NO_LONG_TEXT: LongText = LongText {
     bytes: [0u8; 64],
     len: 0,
@@ -33,53 +35,67 @@ pub const NO_NOTE: Note = Note {
     origin: 0,
 };
 
+const NO_TEXT: Text = Text {
+    bytes: [0; 32],
+    len: 0,
+};
+
+const NO_IDS: Ids = Ids {
+    name: NO_TEXT,
+    clordid: NO_TEXT,
+    origclordid: NO_TEXT,
+    downstream: NO_TEXT,
+    symbol: NO_TEXT,
+    venueorderid: NO_TEXT,
+    origdownstream: NO_TEXT,
+};
+
+const NO_TERMS: Terms = Terms {
+    side: 0,
+    ordtype: 0,
+    timeinforce: 0,
+    qty: 0,
+    price: 0,
+};
+
+const NO_EXEC: Exec = Exec {
+    exectype: 0,
+    status: 0,
+    lastqty: 0,
+    lastpx: 0,
+    cumqty: 0,
+    avgpx: 0,
+};
+
+const NO_TOLD: Told = Told {
+    leavesqty: 0,
+    execseq: 0,
+    fillprice: [0, 0],
+    fixedtext: 0,
+    origin: 0,
+    responseto: 0,
+    source: 0,
+};
+
+const NO_MESSAGE: Record = Record {
+    kind: 0,
+    map: 0,
+    client: 0,
+    venue: 0,
+    reason: 0,
+    verdict: 0,
+    ids: NO_IDS,
+    terms: NO_TERMS,
+    exec: NO_EXEC,
+    told: NO_TOLD,
+    text: NO_LONG_TEXT,
+};
+
 // A message with nothing in it.
 pub fn no_message() -> Record
     ensures { result ≡ no_message }
 {
-    let t = text::no_text();
-    Record {
-        kind: 0,
-        map: 0,
-        client: 0,
-        venue: 0,
-        reason: 0,
-        verdict: 0,
-        ids: Ids {
-            name: t,
-            clordid: t,
-            origclordid: t,
-            downstream: t,
-            symbol: t,
-            venueorderid: t,
-            origdownstream: t,
-        },
-        terms: Terms {
-            side: 0,
-            ordtype: 0,
-            timeinforce: 0,
-            qty: 0,
-            price: 0,
-        },
-        exec: Exec {
-            exectype: 0,
-            status: 0,
-            lastqty: 0,
-            lastpx: 0,
-            cumqty: 0,
-            avgpx: 0,
-        },
-        told: Told {
-            leavesqty: 0,
-            execseq: 0,
-            fillprice: [0, 0],
-            fixedtext: 0,
-            origin: 0,
-            responseto: 0,
-            source: 0,
-        },
-        text: NO_LONG_TEXT,
-    }
+    NO_MESSAGE
 }
 
 // A map with one more bit where the test holds.
@@ -158,7 +174,10 @@ fn told_of(o: Order, price: Priced, n: Note) -> Told
     }
 }
 
-// Where the order stands, under a ClOrdID and perhaps an OrigClOrdID.
+// Where the order stands, under a ClOrdID and perhaps an OrigClOrdID. The two are apart, here and wherever
+// they go together: they come from a record, a request or an order, so a struct of them would be built field by
+// field at each call.
+#[tactic(auto, unfolding(machine::specs::Messages::report), using(crate::specs::Laws::Maps::report_map_lem))]
 pub fn report(
     o: Order,
     clordid: Text,
@@ -170,28 +189,36 @@ pub fn report(
 ) -> Record
     ensures { result ≡ report o clordid origclordid exectype lastqty price n }
 {
-    let mut m = no_message();
-    m.kind = codes::REPORT;
-    m.map = report_map(origclordid, o.terms, n);
-    m.client = o.client;
-    m.reason = n.reason;
-    m.ids.name = o.names.name;
-    m.ids.clordid = clordid;
-    m.ids.origclordid = origclordid;
-    m.ids.symbol = o.names.symbol;
-    m.terms = o.terms;
-    m.exec.exectype = exectype;
-    m.exec.status = o.state.status;
-    m.exec.lastqty = lastqty;
-    m.exec.cumqty = o.state.cumqty;
-    m.exec.avgpx = o.state.avgpx;
-    m.told = told_of(o, price, n);
-    m.text = n.text;
-    m
+    Record {
+        kind: codes::REPORT,
+        map: report_map(origclordid, o.terms, n),
+        client: o.client,
+        reason: n.reason,
+        ids: Ids {
+            name: o.names.name,
+            clordid,
+            origclordid,
+            symbol: o.names.symbol,
+            ..NO_IDS
+        },
+        terms: o.terms,
+        exec: Exec {
+            exectype,
+            status: o.state.status,
+            lastqty,
+            cumqty: o.state.cumqty,
+            avgpx: o.state.avgpx,
+            ..NO_EXEC
+        },
+        told: told_of(o, price, n),
+        text: n.text,
+        ..NO_MESSAGE
+    }
 }
 
 // An OrderCancelReject under the ClOrdIDs of the request. Where there is no order the name is
 // empty.
+#[tactic(auto, unfolding(machine::specs::Messages::cancel_reject), using(crate::specs::Laws::Maps::reject_map_lem))]
 pub fn cancel_reject(
     client: u16,
     name: Text,
@@ -203,24 +230,33 @@ pub fn cancel_reject(
 ) -> Record
     ensures { result ≡ cancel_reject client name status clordid origclordid responseto n }
 {
-    let mut m = no_message();
-    m.kind = codes::CANCEL_REJECT;
-    m.map = reject_map(name, n);
-    m.client = client;
-    m.reason = n.reason;
-    m.ids.name = name;
-    m.ids.clordid = clordid;
-    m.ids.origclordid = origclordid;
-    m.exec.status = status;
-    m.told.fixedtext = n.fixedtext;
-    m.told.origin = n.origin;
-    m.told.responseto = responseto;
-    m.text = n.text;
-    m
+    Record {
+        kind: codes::CANCEL_REJECT,
+        map: reject_map(name, n),
+        client,
+        reason: n.reason,
+        ids: Ids {
+            name,
+            clordid,
+            origclordid,
+            ..NO_IDS
+        },
+        exec: Exec { status, ..NO_EXEC },
+        told: Told {
+            fixedtext: n.fixedtext,
+            origin: n.origin,
+            responseto,
+            ..NO_TOLD
+        },
+        text: n.text,
+        ..NO_MESSAGE
+    }
 }
 
 // What goes to the venue: a new order, or a cancel or replace of the request that the venue knows
-// the order by.
+// the order by. The kind is one of three codes: an enum of them would be turned back into the code in the next
+// line, and asked for again in the contract.
+#[tactic(auto, unfolding(machine::specs::Messages::to_venue), using(crate::specs::Laws::Maps::venue_map_lem))]
 fn to_venue(
     kind: u8,
     o: Order,
@@ -232,16 +268,20 @@ fn to_venue(
     requires { ToVenue kind }
     ensures { result ≡ to_venue kind (extra_bits kind (not (is_empty venueorderid))) o downstream venueorderid origdownstream terms }
 {
-    let mut m = no_message();
-    m.kind = kind;
-    m.map = venue_map(kind, venueorderid, terms);
-    m.venue = o.venue;
-    m.ids.downstream = downstream;
-    m.ids.symbol = o.names.symbol;
-    m.ids.venueorderid = venueorderid;
-    m.ids.origdownstream = origdownstream;
-    m.terms = terms;
-    m
+    Record {
+        kind,
+        map: venue_map(kind, venueorderid, terms),
+        venue: o.venue,
+        ids: Ids {
+            downstream,
+            symbol: o.names.symbol,
+            venueorderid,
+            origdownstream,
+            ..NO_IDS
+        },
+        terms,
+        ..NO_MESSAGE
+    }
 }
 
 #[tactic(auto, unfolding(machine::specs::Messages::new_order, crate::specs::Laws::Maps::extra_bits, format::specs::Format::required, format::specs::Format::required_bits, machine::specs::Messages::bit_if), using(crate::specs::Laws::Choices::choices))]

@@ -42,7 +42,7 @@ pub fn is_done(s: u8) -> bool
 }
 
 // By status, ordered and cumulative: 0 of a done order and, while it lasts, of one that is done for the
-// day.
+// day. The numbers stand in the order that the definition has, here and in the functions below.
 #[tactic(auto, unfolding(machine::specs::Orders::leaves_of), using(crate::specs::Laws::Choices::choices))]
 pub fn leaves_of(status: u8, qty: u64, cumqty: u64) -> u64
     ensures { result ≡ leaves_of status qty cumqty }
@@ -85,7 +85,8 @@ pub fn status_at(cumqty: u64, s: u8) -> u8
     }
 }
 
-// A Filled below the quantity.
+// A Filled below the quantity. Three numbers, here and in the next two: callers take them from an order, a report
+// or a pending replace, so a struct would be built field by field at each call.
 #[tactic(auto, unfolding(machine::specs::Orders::is_short))]
 fn is_short(qty: u64, cumqty: u64, s: u8) -> bool
     ensures { result ≡ is_short qty cumqty s }
@@ -93,7 +94,7 @@ fn is_short(qty: u64, cumqty: u64, s: u8) -> bool
     s == codes::FILLED && cumqty < qty
 }
 
-// It is set as New.
+// The status that is set: New in place of a Filled below the quantity.
 #[tactic(auto, unfolding(machine::specs::Orders::unless_short), using(crate::specs::Laws::Choices::choices))]
 fn unless_short(qty: u64, cumqty: u64, s: u8) -> u8
     ensures { result ≡ unless_short qty cumqty s }
@@ -105,16 +106,12 @@ fn unless_short(qty: u64, cumqty: u64, s: u8) -> u8
     }
 }
 
-// And it raises its alarm.
+// The alarm of a Filled below the quantity.
 #[tactic(auto, unfolding(machine::specs::Orders::short_alarm), using(crate::specs::Laws::Choices::choices))]
 pub fn short_alarm(qty: u64, cumqty: u64, s: u8) -> Option<Alarm>
     ensures { alarm_in result ≡ short_alarm qty cumqty s }
 {
-    if is_short(qty, cumqty, s) {
-        Some(Alarm::FilledShort)
-    } else {
-        None
-    }
+    is_short(qty, cumqty, s).then_some(Alarm::FilledShort)
 }
 
 // A done order has nothing pending and no gateway cancel.
@@ -133,7 +130,8 @@ pub fn set_status(s: u8, o: Order) -> Order
     out
 }
 
-// FIX's placeholder for no OrderID.
+// FIX's placeholder for no OrderID. A text to compare with, all its bytes, as the definition has it: format's
+// `is_none` looks at four bytes and the length alone, so it gives another answer where the rest is not zeros.
 #[tactic(auto, unfolding(prelude::specs::Texts::text_of))]
 pub fn text_none() -> Text
     ensures { result ≡ text_none }
@@ -166,7 +164,8 @@ pub fn record_venue_order_id(given: Text, replaced: bool, o: Order) -> Order
     out
 }
 
-// The terms of the pending replace.
+// The terms of the pending replace. Field by field, here and back in amend's `new_pending`: the two are
+// records of the book without a part in common, and the definitions and theorems name their fields.
 #[tactic(auto, unfolding(machine::specs::Orders::pending_terms))]
 pub fn pending_terms(o: Order) -> Terms
     ensures { result ≡ pending_terms o }

@@ -11,20 +11,22 @@ use format::codes;
 use prelude::Text;
 use records::Record;
 
-// Outcomes; 0 is an open request's. A byte of the book, in which any may stand: numbers, no enum.
+// Outcomes; 0 is an open request's. Numbers, no enum: any byte may stand in the book, and what an event
+// sets is a number as `store::mark_answered` takes and stores it.
 const ACCEPTED: u8 = 1;
 
 const REFUSED: u8 = 2;
 
 pub const FAILED_TO_SEND: u8 = 3;
 
-// The link of the request that an OrigClOrdID of a client names, 0 for none.
+// The link of the request that an OrigClOrdID of a client names, 0 for none: as the book holds it, so no
+// Option.
 #[tactic(auto, using(prelude::specs::Cases::maybe_some, prelude::specs::Cases::maybe_none, crate::specs::Laws::Found::found_few), unfolding(crate::specs::Outcomes::origin_of))]
 pub fn origin_of(book: &[u8], client: u16, t: Text) -> u16
     ensures { result ≡ origin_of book.now client t }
 {
     match store::find_clordid(book, client, t) {
-        // At most 256: `try_from` would have a branch that nothing takes.
+        // At most 256: by `as`, which is proved to lose nothing.
         Some(k) => (k + 1) as u16,
         None => 0,
     }

@@ -32,7 +32,9 @@ fn shown(t: Text, i: usize) -> u8
     }
 }
 
-// A text from the left of its columns, filled with blanks.
+// A text from the left of its columns, filled with blanks. By index: `array::from_fn` was tried, and its proof
+// did not close, since the library has no law from what its closure gives to the items of the array; a part of
+// `s` lent to `iter_mut` would need the same invariant, said of the part and then of `s`.
 #[tactic(auto, using(crate::specs::Laws::Line::columns), unfolding(prelude::specs::Texts::contents))]
 fn put_left(s: &mut [u8], at: usize, width: usize, t: Text)
     requires { (at + width ≤ length s.old) × (width ≤ 32) }
@@ -68,7 +70,8 @@ fn put_line(s: &mut [u8], o: Order)
     s[80] = b'\n';
 }
 
-// The lines of the book's orders.
+// The lines of the book's orders. A line's place by its number: `as_chunks_mut` says nothing of what the slice
+// ends as.
 #[tactic(auto, using(crate::specs::Laws::Call::turns))]
 fn put_lines(book: &Kept<'_>, out: &mut [u8])
     requires { 81 * order_count book.now.bytes.now ≤ length out.old }
@@ -93,6 +96,6 @@ pub fn page(book: &[u8], out: &mut [u8]) -> Result<u32, Refusal>
         return Err(Refusal::ShortPage);
     }
     put_lines(&book, out);
-    // At most 5,184: `try_from` would have a branch that nothing takes.
+    // By `as`, which is proved to lose nothing.
     Ok(long as u32)
 }

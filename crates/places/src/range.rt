@@ -46,7 +46,7 @@ impl Range {
         match self {
             Range::Any => true,
             Range::UpTo(most) => v <= most,
-            Range::Between(least, most) => least <= v && v <= most,
+            Range::Between(least, most) => (least..=most).contains(&v),
             Range::Code(list) => list.has(v),
         }
     }

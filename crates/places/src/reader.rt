@@ -1,5 +1,6 @@
-// A reader over a record: the bytes, and how far it has read. Each function over it takes it apart
-// and calls the core, which has slice and number apart (`walk`). `next_at` and `left_at` stand above
+// A reader over a record: the bytes, and how far it has read. It is one of the forms that docs/SCOPE.md
+// names, so it stands although the walk would do without it. Each function over it takes it apart and calls
+// the core, which has slice and number apart (`walk`). `next_at` and `left_at` stand above
 // them: their parameters are plain, so no caller sees a reader. That a position is below 131,072 stands in
 // the contracts, since no ghost field of the reader could say it: one that has read past a field may stand
 // up to 256 further on, and how far it has come is for the loop of `walk` to say.
@@ -23,8 +24,8 @@ impl<'a> Reader<'a> {
     }
 
     // It reads past field b.
-    fn next(self, map: u32, b: usize) -> Reader<'a>
-        requires { (b < 32) × (self.at < 131072) }
+    fn next(self, map: u32, b: u8) -> Reader<'a>
+        requires { self.at < 131072 }
         ensures { (result.bytes ≡ self.entry.bytes) × (result.at ≡ next self.entry.bytes.now map b self.entry.at) × (result.at ≤ self.entry.at + 256) }
     {
         let at = after(self.bytes, map, b, self.at);
@@ -43,8 +44,8 @@ impl<'a> Reader<'a> {
 }
 
 // The position after field b, which starts at `at`.
-pub(crate) fn next_at(s: &[u8], map: u32, b: usize, at: usize) -> usize
-    requires { (b < 32) × (at < 131072) }
+pub(crate) fn next_at(s: &[u8], map: u32, b: u8, at: usize) -> usize
+    requires { at < 131072 }
     ensures { (result ≡ next s.now map b at) × (result ≤ at + 256) }
 {
     let r = Reader::new(s, at).next(map, b);

@@ -13,7 +13,8 @@ pub struct Text {
 }
 
 // What is ordered. A limit order has a price; a market order's is 0. A time in force that is not
-// given is 0. In a replace event a type that is not given is 0.
+// given is 0. In a replace event a type that is not given is 0. Bytes as records and books hold them, in
+// which any may stand: numbers, no enum.
 #[derive(Clone, Copy, Debug, PartialEq, Eq)]
 pub struct Terms {
     pub side: u8,
@@ -44,6 +45,7 @@ pub enum Refusal {
 }
 
 impl Refusal {
+    // A method and no `From<Refusal> for u32`: where it is called, its name says which number it is.
     pub fn number(self) -> u32
         ensures { result ≡ number_of self }
     {

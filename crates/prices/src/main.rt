@@ -1,7 +1,7 @@
-// Compares `wide::fill_price` with stored answers, which it reads from standard input, 80 bytes
+// Compares the price of a fill by `wide` with stored answers, which it reads from standard input, 80 bytes
 // each: the Rust's, and at an exact half the rule's. It prints how many there were, how many differ,
-// how many each way of finding a price told, and how many are at a half. Rests on wide, input and
-// specs/Vectors.antt.
+// how many each way of finding a price told, and how many are at a half. Rests on wide, words, input
+// and specs/Vectors.antt.
 #![tactic(auto)]
 
 ghost use Rattle.std.specs.Prelude.{◌≡◌, ◌≤◌};
@@ -10,65 +10,55 @@ ghost use Rattle.prices.specs.Vectors.{IsVector, priced_of};
 
 use std::io::Read;
 use std::{fmt, io};
-use wide::Priced;
+use wide::{Fill, Priced};
 
-// A question to `fill_price`, the two words of the stored answer, and the rule that this follows at a
-// half: the Rust's own, or HALF_UP.
+// A question to `wide`, the two words of the stored answer, and the rule that this follows at a half:
+// the Rust's own, or HALF_UP. The rule is the number that is stored, in which any may stand.
 #[derive(Clone, Copy)]
 struct Vector {
-    lastqty: u64,
-    lastpx: u64,
-    cumqty: u64,
-    avgpx: u64,
-    oldcum: u64,
-    oldavg: u64,
-    rise: u64,
+    fill: Fill,
     price: [u64; 2],
     rule: u64,
 }
 
 const HALF_UP: u64 = 1;
 
-// The number of 8 bytes at an index, the lowest first.
+// The number of 8 bytes at an index, the lowest first. Here, and not words': a public function asks nothing of its
+// callers.
+#[tactic(auto, using(words::specs::Laws::Windows::window_64))]
 fn word(bytes: &[u8; 80], at: usize) -> u64
     requires { at ≤ 72 }
     ensures { result ≡ word64 bytes.now at }
 {
-    let mut word = [0u8; 8];
-    word.copy_from_slice(&bytes[at..at + 8]);
-    u64::from_le_bytes(word)
+    words::get64(&bytes[at..at + 8])
 }
 
-impl Vector {
-    fn of(bytes: &[u8; 80]) -> Vector
+impl From<&[u8; 80]> for Vector {
+    fn from(bytes: &[u8; 80]) -> Vector
         ensures { IsVector bytes.now result }
     {
         Vector {
-            lastqty: word(bytes, 0),
-            lastpx: word(bytes, 8),
-            cumqty: word(bytes, 16),
-            avgpx: word(bytes, 24),
-            oldcum: word(bytes, 32),
-            oldavg: word(bytes, 40),
-            rise: word(bytes, 48),
+            fill: Fill {
+                lastqty: word(bytes, 0),
+                lastpx: word(bytes, 8),
+                cumqty: word(bytes, 16),
+                avgpx: word(bytes, 24),
+                oldcum: word(bytes, 32),
+                oldavg: word(bytes, 40),
+                rise: word(bytes, 48),
+            },
             price: [word(bytes, 56), word(bytes, 64)],
             rule: word(bytes, 72),
         }
     }
+}
 
+impl Vector {
     // What `wide` makes of the question.
     fn priced(&self) -> Priced
         ensures { result ≡ priced_of self.now }
     {
-        wide::fill_price(
-            self.lastqty,
-            self.lastpx,
-            self.cumqty,
-            self.avgpx,
-            self.oldcum,
-            self.oldavg,
-            self.rise,
-        )
+        self.fill.price()
     }
 }
 
@@ -127,7 +117,7 @@ fn judged<R: Read>(input: &mut R) -> io::Result<Tally> {
         let Some(bytes) = input::read_array(input)? else {
             break;
         };
-        tally.count(&Vector::of(&bytes));
+        tally.count(&Vector::from(&bytes));
     }
     Ok(tally)
 }

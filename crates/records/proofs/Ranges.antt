@@ -1,17 +1,24 @@
--- The first bytes of a list and what is behind them, as ranges of a slice give them. Assumes nothing.
-use Rattle.std.proofs.Common.{◌≡◌, ℕ, ◌≤◌, ◌<◌, ◌+◌, ◌-◌, min, List, length, take, drop, refl, arith, length-drop, take_all, drop_of_length-le, get_or}
+-- The first bytes of a list and what is behind them, as ranges of a slice give them and as a word reads them. Assumes nothing.
+use Rattle.std.proofs.Common.{◌≡◌, ℕ, ◌≤◌, ◌<◌, ◌+◌, ◌-◌, min, List, [], ◌∷◌, ap, ◌∙◌, length, take, drop, refl, arith, length-drop, take_all, drop_of_length-le, get_or}
 use Rattle.std.proofs.Math.Decide.{dec_le}
 use Rattle.prelude.specs.Span.{length_span}
+use Rattle.prelude.specs.Number.{number, word64}
 use Rattle.format.specs.Laws.Seen.{Rising, between}
 
-pub first_bytes : (n : ℕ) (l : List ℕ) → take (min (length l) n) l ≡ take n l
-first_bytes n l = go (dec_le n (length l))
-  where
-    go : Dec (n ≤ length l) → take (min (length l) n) l ≡ take n l
-    go (yes h) = let e : min (length l) n ≡ n = omega arith in rw e refl
-    go (no h) =
-        let e : min (length l) n ≡ length l = omega arith in
-        rw (e, take_all (length l) l (omega arith), take_all n l (omega arith)) refl
+-- a word from the start is the number of the first 8 bytes: zeros behind the end add nothing
+pub word_first : (s : List ℕ) → word64 s 0 ≡ number (take 8 s)
+word_first [] = refl
+word_first (a ∷ []) = refl
+word_first (a ∷ b ∷ []) = refl
+word_first (a ∷ b ∷ c ∷ []) = refl
+word_first (a ∷ b ∷ c ∷ d ∷ []) = refl
+word_first (a ∷ b ∷ c ∷ d ∷ e ∷ []) = refl
+word_first (a ∷ b ∷ c ∷ d ∷ e ∷ f ∷ []) = refl
+word_first (a ∷ b ∷ c ∷ d ∷ e ∷ f ∷ g ∷ []) = refl
+word_first (a ∷ b ∷ c ∷ d ∷ e ∷ f ∷ g ∷ h ∷ s) = omega arith
+
+pub word_whole : (s : List ℕ) → length s ≤ 8 → word64 s 0 ≡ number s
+word_whole s h = word_first s ∙ ap number (take_all 8 s h)
 
 pub rest_bytes : (n : ℕ) (l : List ℕ) → take (length l - min (length l) n) (drop (min (length l) n) l) ≡ drop n l
 rest_bytes n l = go (dec_le n (length l))

@@ -1,19 +1,9 @@
-// Numbers and texts as bytes: a number read, a number and a text written. Rests on the kit's library.
+// Numbers and texts as bytes: a number and a text written. Slice and position come one by one, here and in `put`,
+// as in decimal: a struct of both would be made anew for each field, which goes on where the last one ended.
+// Rests on the kit's library.
 ghost use Rattle.std.specs.Prelude.{◌≡◌, ◌∷◌, ◌<◌, ◌+◌, ◌≤◌, length};
 ghost use Rattle.prelude.specs.Span.{splice};
-ghost use Rattle.prelude.specs.Number.{number, bytes_of};
-
-// The number of at most 8 bytes, the low one first.
-pub(crate) fn number_in(bytes: &[u8]) -> u64
-    requires { length bytes.now ≤ 8 }
-    ensures { result ≡ number bytes.now }
-{
-    let mut v: u64 = 0;
-    for i in (0..bytes.len()).rev() {
-        v = v * 256 + u64::from(bytes[i]);
-    }
-    v
-}
+ghost use Rattle.prelude.specs.Number.{bytes_of};
 
 // Writes a number in n bytes, and returns the position after it.
 pub(crate) fn put_number(dst: &mut [u8], at: usize, value: u64, n: usize) -> usize
@@ -24,8 +14,8 @@ pub(crate) fn put_number(dst: &mut [u8], at: usize, value: u64, n: usize) -> usi
     at + n
 }
 
-// Writes a text behind its length byte, and returns the position after it. The length is below 256:
-// `try_from` would have a branch that nothing takes.
+// Writes a text behind its length byte, and returns the position after it. The length is below 256, so `as`
+// is proved to lose nothing.
 pub(crate) fn put_text(dst: &mut [u8], at: usize, text: &[u8]) -> usize
     requires { (length text.now < 256) × (at + 1 + length text.now ≤ length dst.old) }
     ensures { (result ≡ at + 1 + length text.now) × (dst.new ≡ splice dst.old at (length text.now ∷ text.now)) }

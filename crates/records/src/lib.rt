@@ -2,7 +2,7 @@
 // `fields`, `scan`, `take` and `put` do the work, and `parts` gives a message in place.
 #![tactic(auto)]
 
-ghost use Rattle.std.specs.Prelude.{◌≡◌, [], true, false, ◌<◌, ◌+◌, ◌≤◌, leb, length, IfOk, IfErr};
+ghost use Rattle.std.specs.Prelude.{◌≡◌, true, false, ◌<◌, ◌+◌, ◌≤◌, leb, length, IfOk, IfErr};
 ghost use Rattle.prelude.specs.Span.{splice};
 ghost use Rattle.prelude.specs.Cases.{if◌then◌otherwise◌};
 ghost use Rattle.prelude.specs.Refusal.{number_of};
@@ -10,9 +10,9 @@ ghost use Rattle.prelude.specs.declared.Refusal.TheVariants.{OutOfRange};
 ghost use Rattle.format.specs.Refusal.{name_in, ranged, event_refusal};
 ghost use Rattle.records.specs.Record.{record_bytes, record_at, event_in};
 ghost use Rattle.records.specs.Laws.Seen.{Numbered, MessagesIn, refusal_from};
-ghost use Rattle.records.specs.Answer.{head_size, head_bytes, answer_bytes, chosen, count_in, answer_refusal, messages_of, ReadsAnswer};
+ghost use Rattle.records.specs.Answer.{head_size, head_bytes, messages_bytes, answer_bytes, chosen, count_in, answer_refusal, messages_of, ReadsAnswer};
 
-use format::codes;
+use format::{bit, codes};
 use prelude::{Refusal, Terms, Text};
 
 mod fields;
@@ -33,12 +33,17 @@ const ALARM: usize = 3;
 
 const ALARM2: usize = 4;
 
-// A text of at most 64 bytes: the bytes, zeros after the text, and its length, in the form of `Text`.
+// A text of at most 64 bytes: the bytes, zeros after the text, and its length. A type of its own beside
+// `Text`, which is a form that docs/SCOPE.md names and of 32 bytes: one type of both would be another for
+// everything that names it.
 #[derive(Clone, Copy)]
 pub struct LongText {
     pub bytes: [u8; 64],
     pub len: u8,
 }
+
+// What a record holds, in parts. Codes are bytes of the format, in which any may stand; the map says which
+// fields stand, and functions take a Record whatever it holds.
 
 // The names in a record: bits 2 to 6, 18 and 30.
 #[derive(Clone, Copy)]
@@ -63,7 +68,7 @@ pub struct Exec {
     pub avgpx: u64,
 }
 
-// What only messages have: bits 24 to 29 and 31.
+// What only messages have: bits 24 to 29 and 31. The fill price is two words, as in wide.
 #[derive(Clone, Copy)]
 pub struct Told {
     pub leavesqty: u64,
@@ -101,6 +106,17 @@ pub enum Messages {
 }
 
 impl Messages {
+    // None, the first, or both.
+    fn of(count: u8, first: Record, second: Record) -> Messages
+        ensures { messages_of result ≡ chosen count first second }
+    {
+        match count {
+            0 => Messages::Nothing,
+            1 => Messages::One(first),
+            _ => Messages::Two(first, second),
+        }
+    }
+
     // How many they are.
     pub fn count(&self) -> u32
         ensures { result ≡ length (messages_of self.now) }
@@ -113,7 +129,7 @@ impl Messages {
     }
 }
 
-// An answer that was read.
+// An answer that was read, or is to be written; its alarms are bytes of the format, too.
 #[derive(Clone, Copy)]
 pub struct Answer {
     pub alarm: u8,
@@ -124,7 +140,7 @@ pub struct Answer {
 fn name_in_map(map: u32, name: Text) -> bool
     ensures { result ≡ name_in map name }
 {
-    !bits::has(map, 2) || format::name_ok(name)
+    !bits::has(map, bit::NAME) || format::name_ok(name)
 }
 
 // The numbers in the fields of a record, if each field is in its range.
@@ -133,7 +149,7 @@ fn numbers_in(shape: &Shape<'_>) -> Result<[u64; 32], Refusal>
     ensures err { IfErr result (λ r. (ranged shape.now.bytes.now shape.now.start ≡ false) × (r ≡ OutOfRange)) }
 {
     let numbers = scan::values(shape)?;
-    let name = take::text_in(shape.field(2));
+    let name = take::text_in(shape.field(bit::NAME));
     if name_in_map(shape.map, name) {
         Ok(numbers)
     } else {
@@ -172,27 +188,48 @@ fn put_record(dst: &mut [u8], o: usize, r: &Record) -> usize
     put::put_fields(dst, p, r)
 }
 
-fn put_head(dst: &mut [u8], n: usize, count: u8, alarm: u8, alarm2: u8)
+// Writes the head of an answer that ends at n.
+fn put_head(dst: &mut [u8], n: usize, answer: &Answer)
     requires { head_size ≤ length dst.old }
-    ensures { dst.new ≡ splice dst.old 0 (head_bytes n count alarm alarm2) }
+    ensures { dst.new ≡ splice dst.old 0 (head_bytes n (length (messages_of answer.now.messages)) answer.now.alarm answer.now.alarm2) }
 {
-    // By `as`: std has no `From<usize>` for u64.
+    // By `as`: std has no `From<usize>` for u64, and a count is at most 2.
     fields::put_number(dst, 0, n as u64, COUNT);
-    dst[COUNT..HEAD].copy_from_slice(&[count, alarm, alarm2]);
+    let count = answer.messages.count() as u8;
+    dst[COUNT..HEAD].copy_from_slice(&[count, answer.alarm, answer.alarm2]);
 }
 
-fn write_none(answer: &mut [u8], alarm: u8, alarm2: u8) -> u32
-    requires { 1024 ≤ length answer.old }
-    ensures { (result ≡ length (answer_bytes alarm alarm2 [])) × (answer.new ≡ splice answer.old 0 (answer_bytes alarm alarm2 [])) }
+// Writes messages behind a head, and returns where they end.
+fn put_messages(dst: &mut [u8], messages: &Messages) -> usize
+    requires { 1024 ≤ length dst.old }
+    ensures { (result ≡ head_size + length (messages_bytes (messages_of messages.now))) × (dst.new ≡ splice dst.old head_size (messages_bytes (messages_of messages.now))) }
 {
-    put_head(answer, HEAD, 0, alarm, alarm2);
-    // 5, by `as` like the lengths below.
-    HEAD as u32
+    match messages {
+        Messages::Nothing => HEAD,
+        Messages::One(first) => put_record(dst, HEAD, first),
+        Messages::Two(first, second) => {
+            let p = put_record(dst, HEAD, first);
+            put_record(dst, p, second)
+        }
+    }
 }
 
-// Writes an answer of at most two messages, and returns its length; nothing, and 0, where the
-// buffer has not 1,024 bytes. Kept as a count with two records: any byte may stand in the count. Lengths
-// of answers are at most 1,024, so by `as`: `try_from` would have branches that nothing takes.
+// Writes an answer, and returns its length; nothing, and 0, where the buffer has not 1,024 bytes. 0 and no
+// Result: `write_answer`, which C's answers go through, promises 0, and would turn the Result back.
+pub fn write(answer: &mut [u8], read: &Answer) -> u32
+    ensures { (result ≡ (if leb 1024 (length answer.old) then length (answer_bytes read.now.alarm read.now.alarm2 (messages_of read.now.messages)) otherwise 0)) × (answer.new ≡ (if leb 1024 (length answer.old) then splice answer.old 0 (answer_bytes read.now.alarm read.now.alarm2 (messages_of read.now.messages)) otherwise answer.old)) }
+{
+    if answer.len() < 1024 {
+        return 0;
+    }
+    let end = put_messages(answer, &read.messages);
+    put_head(answer, end, read);
+    // An answer has at most 1,024 bytes: `as` is proved to lose nothing.
+    end as u32
+}
+
+// Writes an answer of at most two messages, as `write` does. A count with two records, as the first version
+// had it: any byte may stand in the count.
 pub fn write_answer(
     answer: &mut [u8],
     alarm: u8,
@@ -203,34 +240,15 @@ pub fn write_answer(
 ) -> u32
     ensures { (result ≡ (if leb 1024 (length answer.old) then length (answer_bytes alarm alarm2 (chosen count first second)) otherwise 0)) × (answer.new ≡ (if leb 1024 (length answer.old) then splice answer.old 0 (answer_bytes alarm alarm2 (chosen count first second)) otherwise answer.old)) }
 {
-    if answer.len() < 1024 {
-        return 0;
-    }
-    if count == 0 {
-        return write_none(answer, alarm, alarm2);
-    }
-    let p = put_record(answer, HEAD, &first);
-    if count == 1 {
-        put_head(answer, p, 1, alarm, alarm2);
-        return p as u32;
-    }
-    let q = put_record(answer, p, &second);
-    put_head(answer, q, 2, alarm, alarm2);
-    q as u32
-}
-
-// Writes an answer that was read, as `write_answer` does.
-pub fn write(answer: &mut [u8], read: &Answer) -> u32
-    ensures { (result ≡ (if leb 1024 (length answer.old) then length (answer_bytes read.now.alarm read.now.alarm2 (messages_of read.now.messages)) otherwise 0)) × (answer.new ≡ (if leb 1024 (length answer.old) then splice answer.old 0 (answer_bytes read.now.alarm read.now.alarm2 (messages_of read.now.messages)) otherwise answer.old)) }
-{
-    if answer.len() < 1024 {
-        return 0;
-    }
-    match read.messages {
-        Messages::Nothing => write_none(answer, read.alarm, read.alarm2),
-        Messages::One(a) => write_answer(answer, read.alarm, read.alarm2, 1, a, a),
-        Messages::Two(a, b) => write_answer(answer, read.alarm, read.alarm2, 2, a, b),
-    }
+    let messages = Messages::of(count, first, second);
+    write(
+        answer,
+        &Answer {
+            alarm,
+            alarm2,
+            messages,
+        },
+    )
 }
 
 // The one message behind the head of an answer.

@@ -1,11 +1,12 @@
 // A message in place: where its fields stand, and the numbers in them, with no copy of its texts. Rests
-// on `take`.
+// on `take`, `shape` and `scan`.
 ghost use Rattle.records.specs.Parts.{PartsOf, parts_refusal};
 ghost use Rattle.prelude.specs.Refusal.{number_of};
 ghost use Rattle.std.specs.Prelude.{◌≡◌, IfOk, IfErr};
 
 use crate::shape::Shape;
 use crate::take;
+use format::bit;
 use prelude::Refusal;
 
 // A message's map, where its fields start (and at 32 where it ends), the number of each field (of a
@@ -30,7 +31,7 @@ pub fn message_parts(s: &[u8]) -> Result<Parts, Refusal>
         return Err(Refusal::BadRecord);
     }
     let numbers = crate::numbers_in(&shape)?;
-    let high = take::high_in(shape.field(26));
+    let high = take::high_in(shape.field(bit::FILLPRICE));
     Ok(Parts {
         map: shape.map,
         at: shape.at,

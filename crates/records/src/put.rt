@@ -6,9 +6,10 @@ ghost use Rattle.records.specs.Fields.{numbers_of, text_by, held};
 
 use crate::fields::{put_number, put_text};
 use crate::{Ids, Record};
+use format::bit;
 use prelude::Text;
 
-// The number of each bit.
+// The number of each bit, field by field: bits have no order that a derive follows.
 fn numbers_of(r: &Record) -> [u64; 32]
     ensures { result ≡ numbers_of r.now }
 {
@@ -49,16 +50,16 @@ fn numbers_of(r: &Record) -> [u64; 32]
 }
 
 // The text of a bit.
-fn text_of(ids: &Ids, b: usize) -> &Text
+fn text_of(ids: &Ids, b: u32) -> &Text
     ensures { result.now ≡ text_by ids.now b }
 {
     match b {
-        2 => &ids.name,
-        3 => &ids.clordid,
-        4 => &ids.origclordid,
-        5 => &ids.downstream,
-        6 => &ids.symbol,
-        18 => &ids.venueorderid,
+        bit::NAME => &ids.name,
+        bit::CLORDID => &ids.clordid,
+        bit::ORIGCLORDID => &ids.origclordid,
+        bit::DOWNSTREAM => &ids.downstream,
+        bit::SYMBOL => &ids.symbol,
+        bit::VENUEORDERID => &ids.venueorderid,
         _ => &ids.origdownstream,
     }
 }
@@ -72,24 +73,25 @@ fn put_front(dst: &mut [u8], at: usize, bytes: &[u8], len: u8) -> usize
     put_text(dst, at, &bytes[..n])
 }
 
-// Writes field b, if its bit stands, and returns the position after it. The bit is below 32: `try_from`
-// would have a branch that nothing takes.
-fn put_field(dst: &mut [u8], at: usize, r: &Record, numbers: &[u64; 32], b: usize) -> usize
+// Writes field b, if its bit stands, and returns the position after it.
+fn put_field(dst: &mut [u8], at: usize, r: &Record, numbers: &[u64; 32], b: u8) -> usize
     requires { (b < 32) × (numbers.now ≡ numbers_of r.now) × (at + length (field_bytes r.now.map (held r.now) b) ≤ length dst.old) }
     ensures { (result ≡ at + length (field_bytes r.now.map (held r.now) b)) × (dst.new ≡ splice dst.old at (field_bytes r.now.map (held r.now) b)) }
 {
-    if !bits::has(r.map, b as u32) {
+    let field = u32::from(b);
+    if !bits::has(r.map, field) {
         return at;
     }
-    let n = places::size_of(b);
-    if n == 255 {
-        if b == 20 {
+    let k = usize::from(b);
+    if places::is_text(k) {
+        if field == bit::TEXT {
             return put_front(dst, at, &r.text.bytes, r.text.len);
         }
-        let text = text_of(&r.ids, b);
+        let text = text_of(&r.ids, field);
         return put_front(dst, at, &text.bytes, text.len);
     }
-    let v = numbers[b];
+    let v = numbers[k];
+    let n = places::size_of(k);
     if n <= 8 {
         return put_number(dst, at, v, n);
     }
@@ -104,7 +106,7 @@ pub(crate) fn put_fields(dst: &mut [u8], start: usize, r: &Record) -> usize
 {
     let numbers = numbers_of(r);
     let mut at = start;
-    for b in 0..32 {
+    for b in 0..32u8 {
         at = put_field(dst, at, r, &numbers, b);
     }
     at

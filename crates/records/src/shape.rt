@@ -25,8 +25,8 @@ impl<'a> Shape<'a> {
     ghost use Rattle.prelude.specs.declared.Refusal.TheVariants.{BadRecord};
 
     // The shape of the record that starts at o, if it has one. That o is below 65,536 stands in the contract,
-    // as at cut's `end_at`, which says why: past that `places` has no places.
-    pub fn new(bytes: &'a [u8], o: usize) -> Result<Shape<'a>, Refusal>
+    // as past that `places` has no places: a type for it would be made and taken apart at each call.
+    pub(crate) fn new(bytes: &'a [u8], o: usize) -> Result<Shape<'a>, Refusal>
         requires { o < 65536 }
         ensures ok { IfOk result (λ shape. (shape.bytes.now ≡ bytes.now) × (shape.start ≡ o)) }
         ensures err { IfErr result (λ r. (shaped bytes.now o ≡ false) × (r ≡ BadRecord)) }
@@ -52,7 +52,7 @@ impl<'a> Shape<'a> {
     }
 
     // The same of a message.
-    pub fn of_message(bytes: &'a [u8], o: usize) -> Result<Shape<'a>, Refusal>
+    pub(crate) fn of_message(bytes: &'a [u8], o: usize) -> Result<Shape<'a>, Refusal>
         requires { o < 65536 }
         ensures ok { IfOk result (λ shape. (shape.bytes.now ≡ bytes.now) × (shape.start ≡ o) × (message_shaped bytes.now o ≡ true)) }
         ensures err { IfErr result (λ r. (message_shaped bytes.now o ≡ false) × (r ≡ BadRecord)) }
@@ -65,24 +65,25 @@ impl<'a> Shape<'a> {
     }
 
     // The record's kind.
-    pub fn kind(&self) -> u8
+    pub(crate) fn kind(&self) -> u8
         ensures { result ≡ kind_at self.now.bytes.now self.now.start }
     {
         self.bytes[self.start]
     }
 
     // Where the record ends.
-    pub fn end(&self) -> usize
+    pub(crate) fn end(&self) -> usize
         ensures { result ≡ end_of self.now.bytes.now self.now.start }
     {
         self.at[32]
     }
 
-    // The bytes of field b, none where its bit does not stand.
-    pub fn field(&self, b: usize) -> &'a [u8]
+    // The bytes of field b, none where its bit does not stand. By `as`: std has no `From<u32>` for usize.
+    pub(crate) fn field(&self, b: u32) -> &'a [u8]
         requires { b < 32 }
         ensures { result.now ≡ between self.now.bytes.now self.now.at b }
     {
-        &self.bytes[self.at[b]..self.at[b + 1]]
+        let k = b as usize;
+        &self.bytes[self.at[k]..self.at[k + 1]]
     }
 }

@@ -1,5 +1,5 @@
 // The parts of a record, taken from the bytes of its fields. Their numbers fit (`Narrow`), and so do the
-// lengths of texts: by `as`, since `try_from` would have branches that nothing takes. Rests on fields.
+// lengths of texts: by `as`, which is proved to lose nothing. Rests on words and `shape`.
 ghost use Rattle.std.specs.Prelude.{◌≡◌, ◌+◌, ◌<◌, ◌≤◌, ◌++◌, length, take, drop, replicate};
 ghost use Rattle.prelude.specs.Number.{number};
 ghost use Rattle.prelude.specs.Texts.{text_of};
@@ -9,6 +9,7 @@ ghost use Rattle.records.specs.Laws.Seen.{Short, Narrow, tail_at, built_from};
 
 use crate::shape::Shape;
 use crate::{Exec, Ids, LongText, Record, Told};
+use format::bit;
 use prelude::{Terms, Text};
 
 // The bytes behind a field's length byte, with zeros behind them, and how many they are; an absent field
@@ -23,7 +24,7 @@ fn filled<const N: usize>(field: &[u8]) -> ([u8; N], u8)
     (bytes, text.len() as u8)
 }
 
-// The text in a field.
+// The text in a field; `long_in` is its twin, since `LongText` is that of `Text`. What both do is `filled`.
 pub(crate) fn text_in(field: &[u8]) -> Text
     requires { length field.now ≤ 33 }
     ensures { result ≡ text_of (drop 1 field.now) }
@@ -45,7 +46,7 @@ pub(crate) fn high_in(field: &[u8]) -> u64
     requires { length field.now ≤ 16 }
     ensures { result ≡ number (drop 8 field.now) }
 {
-    crate::fields::number_in(&field[field.len().min(8)..])
+    words::get64(&field[field.len().min(8)..])
 }
 
 fn ids_in(shape: &Shape<'_>) -> Ids
@@ -53,16 +54,18 @@ fn ids_in(shape: &Shape<'_>) -> Ids
     ensures { result ≡ ids_of (tail_at shape.now.bytes.now shape.now.at) }
 {
     Ids {
-        name: text_in(shape.field(2)),
-        clordid: text_in(shape.field(3)),
-        origclordid: text_in(shape.field(4)),
-        downstream: text_in(shape.field(5)),
-        symbol: text_in(shape.field(6)),
-        venueorderid: text_in(shape.field(18)),
-        origdownstream: text_in(shape.field(30)),
+        name: text_in(shape.field(bit::NAME)),
+        clordid: text_in(shape.field(bit::CLORDID)),
+        origclordid: text_in(shape.field(bit::ORIGCLORDID)),
+        downstream: text_in(shape.field(bit::DOWNSTREAM)),
+        symbol: text_in(shape.field(bit::SYMBOL)),
+        venueorderid: text_in(shape.field(bit::VENUEORDERID)),
+        origdownstream: text_in(shape.field(bit::ORIGDOWNSTREAM)),
     }
 }
 
+// The numbers by index, as the definition of this name has them: field by field, since bits have no order that
+// a derive follows.
 fn record_from(kind: u8, map: u32, n: &[u64; 32], high: u64, ids: Ids, text: LongText) -> Record
     requires { Narrow n.now }
     ensures { result ≡ record_from kind map n.now high ids text }
@@ -109,7 +112,7 @@ pub(crate) fn built(shape: &Shape<'_>, n: &[u64; 32]) -> Record
     ensures { result ≡ built_from shape.now.bytes.now (kind_at shape.now.bytes.now shape.now.start) shape.now.map shape.now.at n.now }
 {
     let ids = ids_in(shape);
-    let text = long_in(shape.field(20));
-    let high = high_in(shape.field(26));
+    let text = long_in(shape.field(bit::TEXT));
+    let high = high_in(shape.field(bit::FILLPRICE));
     record_from(shape.kind(), shape.map, n, high, ids, text)
 }

@@ -1,16 +1,21 @@
 // Replays stored days from standard input (tests/replay/README.md has the format) and holds every
-// refusal and every byte of every answer buffer to what is stored. Rests on gateway and input.
+// refusal and every byte of every answer buffer to what is stored. Rests on gateway, store and input.
 #![tactic(auto)]
 
 ghost use Rattle.std.specs.Prelude.{◌≤◌, IfOk, length};
 
 use std::io::Read;
 use std::{fmt, io};
+use store::layout;
+
+// As much as a length of two bytes can say, and a byte more: the longest record, answer buffer and answer.
+const MOST: usize = 65536;
 
 // What an answer buffer holds before the call.
 const FILL: u8 = 165;
 
-// What was counted. A refusal is the number that the call gives, and that is stored: 0 for none.
+// What was counted. A refusal is the number that the call gives, and that is stored: 0 for none. Counts
+// saturate: nothing bounds them, and a sum has to be proved to fit.
 #[derive(Clone, Copy, Default)]
 struct Tally {
     days: u32,
@@ -22,12 +27,12 @@ struct Tally {
 impl Tally {
     fn count(&mut self, refusal: u32, right: bool) {
         if refusal == 0 {
-            self.taken = self.taken.wrapping_add(1);
+            self.taken = self.taken.saturating_add(1);
         } else {
-            self.refused = self.refused.wrapping_add(1);
+            self.refused = self.refused.saturating_add(1);
         }
         if !right {
-            self.wrong = self.wrong.wrapping_add(1);
+            self.wrong = self.wrong.saturating_add(1);
         }
     }
 }
@@ -49,14 +54,14 @@ impl fmt::Display for Tally {
 
 // Whether the buffer begins with the bytes that are wanted, and is filled after them.
 fn right_answer(buffer: &[u8], wanted: &[u8]) -> bool {
-    match buffer.strip_prefix(wanted) {
-        Some(rest) => rest.iter().all(|byte| *byte == FILL),
-        None => false,
-    }
+    buffer
+        .strip_prefix(wanted)
+        .is_some_and(|rest| rest.iter().all(|byte| *byte == FILL))
 }
 
-// Reads a length of two bytes, and that many bytes into the space's start; gives the length.
-fn read_sized<R: Read>(input: &mut R, space: &mut [u8; 65536]) -> io::Result<usize>
+// Reads a length of two bytes, and that many bytes into the space's start; gives the length, as std's `read`
+// does. No `read_record`: a record that the input's end cuts is taken at the length that it says.
+fn read_sized<R: Read>(input: &mut R, space: &mut [u8; MOST]) -> io::Result<usize>
     ensures { IfOk result (λ n. n ≤ 65535) }
 {
     let size = usize::from(u16::from_le_bytes(input::read_padded(input)?));
@@ -67,15 +72,15 @@ fn read_sized<R: Read>(input: &mut R, space: &mut [u8; 65536]) -> io::Result<usi
 // An event: its record, the length of the answer buffer, and what is stored of the call: the refusal,
 // and with none the answer.
 fn event<R: Read>(input: &mut R, tally: &mut Tally, book: &mut [u8]) -> io::Result<()> {
-    let mut record = [0u8; 65536];
+    let mut record = [0u8; MOST];
     let size = read_sized(input, &mut record)?;
-    // By `as`: std has no `From<u32>` for usize, and `try_from` would have a branch that nothing takes.
-    let room = u32::from_le_bytes(input::read_padded(input)?).min(65536) as usize;
-    let mut space = [FILL; 65536];
+    // By `as`, which is proved to lose nothing: std has no `From<u32>` for usize.
+    let room = (u32::from_le_bytes(input::read_padded(input)?) as usize).min(MOST);
+    let mut space = [FILL; MOST];
     let answer = &mut space[..room];
     let refusal = gateway::event(book, &record[..size], answer);
     let [stored] = input::read_padded::<_, 1>(input)?;
-    let mut wanted = [0u8; 65536];
+    let mut wanted = [0u8; MOST];
     let long = if stored == 0 {
         read_sized(input, &mut wanted)?
     } else {
@@ -90,18 +95,20 @@ fn event<R: Read>(input: &mut R, tally: &mut Tally, book: &mut [u8]) -> io::Resu
 fn start<R: Read>(input: &mut R, tally: &mut Tally, book: &mut [u8]) -> io::Result<()> {
     let setting = u32::from_le_bytes(input::read_padded(input)?);
     let _ = gateway::start(book, setting);
-    tally.days = tally.days.wrapping_add(1);
+    tally.days = tally.days.saturating_add(1);
     Ok(())
 }
 
-// Nothing says that the input ends, and a proved loop has to.
+// Nothing says that the input ends, and a proved loop has to: it does after u64::MAX turns, more than any
+// input takes.
 fn all<R: Read>(input: &mut R) -> io::Result<Tally> {
-    let mut book = [0u8; 65536];
+    let mut book = [0u8; layout::BOOK];
     let mut tally = Tally::default();
-    for _ in 0..1000000 {
+    for _ in 0..u64::MAX {
         let Some(tag) = input::read_array::<_, 1>(input)? else {
             break;
         };
+        // By its index: the borrow checker does not cover a pattern of an array in this function yet.
         if tag[0] == 0 {
             start(input, &mut tally, &mut book)?;
         } else {

@@ -45,7 +45,7 @@ pub fn unknown_at_venue(known: &Known, e: Record) -> Change
     let o = known.order;
     let place = known.findings.place;
     if o.venue != e.venue || order::is_done(o.state.status) || o.links.current != known.link {
-        return change::unchanged(place, o);
+        return known.leaving(o);
     }
     change::raising(Alarm::UnknownAtVenue.number(), place, o)
 }
@@ -74,7 +74,8 @@ fn is_working(s: u8) -> bool
     matches!(s, codes::NEW | codes::PARTIALLY_FILLED)
 }
 
-// A cancel or a replace is pending.
+// A cancel or a replace is pending. The same two codes as in amend's `not_pending`: a public function for the
+// two would be longer than the pattern.
 fn is_pending(s: u8) -> bool
     ensures { result ≡ (eqb s pending_cancel || eqb s pending_replace) }
 {
@@ -134,7 +135,7 @@ fn dropped_stale(known: &Known, e: Record) -> Change
     if order::is_done(o.state.status) && o.state.cumqty < e.exec.cumqty {
         return change::raising(Alarm::FillOnDoneOrder.number(), place, o);
     }
-    change::unchanged(place, o)
+    known.leaving(o)
 }
 
 // A repeat may bring the venue's OrderID.
@@ -143,10 +144,12 @@ fn dropped_repeat(known: &Known, e: Record) -> Change
     ensures { result ≡ dropped_repeat known.now.findings known.now.order e }
 {
     let order = order::record_venue_order_id(e.ids.venueorderid, false, known.order);
-    change::unchanged(known.findings.place, order)
+    known.leaving(order)
 }
 
-// The status that the report sets, 0 for none as in the report: one that is behind is dropped.
+// The status that the report sets: one that is behind is dropped. 0 for none, as in the report. It goes on
+// beside `accepted`, as the definitions take the two: made in one place, they would be a struct of two fields
+// that three functions take apart.
 #[tactic(auto, unfolding(machine::specs::Report::status_taken), using(orders::specs::Laws::Choices::choices))]
 fn status_taken(known: &Known, e: Record) -> u8
     ensures { result ≡ status_taken known.now.link known.now.request known.now.order e }
@@ -211,21 +214,22 @@ fn reported_order(accepted: bool, s: u8, known: &Known, e: Record) -> Order
     }
 }
 
-// `fill_price`, of the order as it was, with its source. Numbers alone: wide knows no order.
+// The price of the report's fill, by the order as it was, with its source. Numbers alone: wide knows no order.
 #[tactic(auto, unfolding(machine::specs::Report::fill_price_of))]
 fn fill_price(o: Order, e: Record) -> Priced
     ensures { result ≡ fill_price_of o e }
 {
     let x = e.exec;
-    wide::fill_price(
-        x.lastqty,
-        x.lastpx,
-        x.cumqty,
-        x.avgpx,
-        o.state.cumqty,
-        o.state.avgpx,
-        x.cumqty.saturating_sub(o.state.cumqty),
-    )
+    let fill = wide::Fill {
+        lastqty: x.lastqty,
+        lastpx: x.lastpx,
+        cumqty: x.cumqty,
+        avgpx: x.avgpx,
+        oldcum: o.state.cumqty,
+        oldavg: o.state.avgpx,
+        rise: x.cumqty.saturating_sub(o.state.cumqty),
+    };
+    fill.price()
 }
 
 #[tactic(auto, unfolding(machine::specs::Report::report_note), using(orders::specs::Laws::Choices::choices))]
@@ -246,28 +250,21 @@ fn report_note(e: Record) -> Note
 // What the client is told of the order as it is left, by the request that the report answers, if
 // any. A rise is a Trade.
 #[tactic(auto, unfolding(machine::specs::Report::client_report), using(orders::specs::Laws::Choices::choices))]
-fn client_report(answers: bool, rise: u64, q: Request, price: Priced, o: Order, e: Record) -> Record
-    ensures { result ≡ client_report answers rise q price o e }
+fn client_report(known: &Known, rise: u64, price: Priced, left: Order, e: Record) -> Record
+    ensures { result ≡ client_report (answers_request known.now.link known.now.request known.now.order) rise known.now.request price left e }
 {
     let exectype = if 0 < rise {
         codes::EXEC_TRADE
     } else {
         e.exec.exectype
     };
-    let n = report_note(e);
-    if answers {
-        message::report(o, q.clordid, q.origclordid, exectype, rise, price, n)
+    let (clordid, origclordid) = if answers_request(known) {
+        (known.request.clordid, known.request.origclordid)
     } else {
-        message::report(
-            o,
-            o.names.clordid,
-            text::no_text(),
-            exectype,
-            rise,
-            price,
-            n,
-        )
-    }
+        (left.names.clordid, text::no_text())
+    };
+    let n = report_note(e);
+    message::report(left, clordid, origclordid, exectype, rise, price, n)
 }
 
 // The requests that the report answers: an accepted replace and the one that it supersedes, or a
@@ -311,13 +308,13 @@ fn apply_report(most: u64, known: &Known, e: Record) -> Change
         return settling(alarm, accepted, s, known, order);
     }
     let told = order::next_exec(order);
-    let answers = answers_request(known);
     let price = fill_price(known.order, e);
-    let m = client_report(answers, rise, known.request, price, told, e);
+    let m = client_report(known, rise, price, told, e);
     change::telling(m, settling(alarm, accepted, s, known, told))
 }
 
-// What a rejection of a cancel or replace says: Rejected is not the order's status.
+// What a rejection of a cancel or replace says: Rejected is not the order's status. Its note is written out,
+// as step's `text_note` is: a function for both would be as long.
 #[tactic(auto, using(orders::specs::Laws::Choices::choices))]
 fn rejection(e: Record) -> Refused
     ensures { result ≡ rejection_of e }
@@ -356,7 +353,7 @@ fn venue_report(known: &Known, e: Record) -> Change
         return refused_report(known, e);
     }
     if o.venue != e.venue {
-        return change::unchanged(place, o);
+        return known.leaving(o);
     }
     if stale(known, e) {
         return dropped_stale(known, e);

@@ -9,9 +9,9 @@ ghost use Rattle.outcomes.specs.Outcomes.{outcome_rule};
 ghost use Rattle.rules.specs.Laws.Beside.{link_at};
 ghost use Rattle.rules.specs.Laws.Origin.{origin_here};
 
-use crate::book::Bytes;
 use crate::cells::{filled, same_at, u16_at};
-use store::{kinds, layout};
+use store::kinds;
+use store::layout::{self, Bytes};
 
 // Outcome 0 exactly where request k is unanswered, and at most 3.
 #[tactic(auto, using(crate::proofs::Fields::request_fields, crate::specs::Laws::Beside::outcome_mark), unfolding(machine::specs::Changes::is_answered, outcomes::specs::Outcomes::outcome_rule))]
@@ -31,12 +31,14 @@ fn link_ok(book: &Bytes, k: usize, o: usize, link: u16) -> bool
     requires { (k < most_requests) × ((request_at book.now k).order ≡ o) }
     ensures { result ≡ link_at book.now k link }
 {
-    let j = usize::from(link);
-    if j == 0 || k < j {
+    let Some(j) = usize::from(link).checked_sub(1) else {
+        return false;
+    };
+    if k <= j {
         return false;
     }
     let at = layout::REQUESTS + k * layout::REQUEST;
-    let to = layout::REQUESTS + (j - 1) * layout::REQUEST;
+    let to = layout::REQUESTS + j * layout::REQUEST;
     let other = usize::from(u16_at(book, to + layout::REQUEST_ORDER));
     other == o
         && same_at(
@@ -56,7 +58,7 @@ fn origin_ok(book: &Bytes, k: usize, o: usize) -> bool
     let at = layout::REQUESTS + k * layout::REQUEST;
     let kind = book[at + layout::REQUEST_KIND];
     let absent = (kind == kinds::FIRST) | (kind == kinds::GATEWAY);
-    if book[at + layout::REQUEST_ORIGCLORDID + 32] == 0 {
+    if book[at + layout::REQUEST_ORIGCLORDID + layout::TEXT_LEN] == 0 {
         return filled(book, at + layout::REQUEST_ORIGCLORDID) & absent;
     }
     !absent && link_ok(book, k, o, u16_at(book, at + layout::REQUEST_ORIGIN))

@@ -2,10 +2,7 @@
 ghost use Rattle.std.specs.Prelude.{◌≤◌};
 ghost use Rattle.store.specs.Layout.{most_orders, most_requests};
 
-use store::layout;
-
-// All the bytes of a book.
-pub(crate) type Bytes = [u8; layout::BOOK];
+use store::layout::Bytes;
 
 // No more orders and requests are in use than the tables hold.
 #[derive(Clone, Copy)]

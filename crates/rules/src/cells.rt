@@ -8,7 +8,10 @@ ghost use Rattle.prelude.specs.Texts.{text_at, same_text, is_text};
 ghost use Rattle.store.specs.Layout.{book_size};
 ghost use Rattle.rules.specs.Laws.Places.{pair_agrees, cell, zero_at};
 
-use crate::book::Bytes;
+use store::layout::{Bytes, TEXT_LEN};
+
+// How many cells the texts are spread over.
+const CELLS: u64 = 4021;
 
 // The numbers of 2, 4 and 8 bytes at an index, each through a window of its own bytes. Here, and not words',
 // since a public function asks nothing of its callers, and a total one cost 16 % of an event
@@ -53,13 +56,16 @@ fn same_words(book: &Bytes, x: usize, y: usize) -> bool
     same_word(book, x, y) && same_word(book, x + 8, y + 8)
 }
 
-// Whether the texts at x and y are the same: the first word that differs ends it.
+// Whether the texts at x and y are the same: the first word that differs ends it. text's `text_is` takes a Text,
+// which would be copied out of the book for each comparison.
 #[tactic(auto, using(crate::specs::Laws::Places::words_pairs, crate::specs::Laws::Places::other_word, crate::specs::Laws::Places::all_words))]
 pub(crate) fn same_at(book: &Bytes, x: usize, y: usize) -> bool
     requires { (x + 33 ≤ book_size) × (y + 33 ≤ book_size) }
     ensures { result ≡ same_text (text_at book.now x) (text_at book.now y) }
 {
-    same_words(book, x, y) && same_words(book, x + 16, y + 16) && book[x + 32] == book[y + 32]
+    same_words(book, x, y)
+        && same_words(book, x + 16, y + 16)
+        && book[x + TEXT_LEN] == book[y + TEXT_LEN]
 }
 
 // Whether the 16 bytes from an index are zeros.
@@ -72,13 +78,13 @@ fn zeros(book: &Bytes, at: usize) -> bool
 }
 
 // Whether a text as it is stored stands at an index: zeros after it, up to 16 bytes by two parts
-// that overlap.
+// that overlap. text's `text_fine` is a call; this is compiled into its callers (docs/SPEED.md, step 7).
 #[tactic(auto, using(text::specs::Laws::InPlace::text_fine_here, crate::specs::Laws::Places::filled_parts))]
 pub(crate) fn filled(book: &Bytes, at: usize) -> bool
     requires { at + 33 ≤ book_size }
     ensures { result ≡ is_text (text_at book.now at) }
 {
-    let n = usize::from(book[at + 32]);
+    let n = usize::from(book[at + TEXT_LEN]);
     if n > 16 {
         return text::text_fine(book, at);
     }
@@ -95,6 +101,6 @@ pub(crate) fn cell_at(book: &Bytes, at: usize, client: u16) -> u16
         .wrapping_add(u64_at(book, at + 8))
         .wrapping_add(u64_at(book, at + 16).wrapping_add(u64_at(book, at + 24)))
         .wrapping_add(u64::from(client));
-    // Below 4,021: `try_from` would have a branch that nothing takes.
-    (sum % 4021) as u16
+    // Below 4,021: by `as`, which is proved to lose nothing.
+    (sum % CELLS) as u16
 }

@@ -1,15 +1,19 @@
 // Names are distinct, and ClOrdIDs within a client, in one pass with local marks, a bit for a cell:
 // a thing in an unmarked cell is new, and another is compared with the earlier things of its cell
-// alone. Rests on cells and bits.
+// alone. That a thing is placed stands in the contracts, since a type for it would be made at each turn of a
+// loop; book, cells, thing and cell go through two functions, which a struct would be no shorter than.
+// Rests on cells and bits.
 ghost use Rattle.std.specs.Prelude.{◌≡◌, ℕ, ◌+◌, ◌<◌, ◌≤◌, Bool, true, false, slice_index};
 ghost use Rattle.prelude.specs.Below.{all_below};
 ghost use Rattle.prelude.specs.Texts.{text_at};
 ghost use Rattle.store.specs.Layout.{book_size, most_requests};
 ghost use Rattle.rules.specs.Laws.Things.{placed, place_of, client_in, lone_at, cell_of, same_with, clear_at};
 
-use crate::book::Bytes;
 use crate::cells::{cell_at, same_at, same_word, u16_at};
-use store::layout;
+use store::layout::{self, Bytes};
+
+// The words of the marks: 32 cells in each, of 4,021.
+const WORDS: usize = 128;
 
 // The things that are to be distinct: each has a text and a client, and may be lone, the same as no other.
 pub(crate) trait Things {
@@ -101,12 +105,7 @@ fn clear_in<T: Things>(book: &Bytes, cells: &[u16; layout::MOST_REQUESTS], i: us
 {
     let client = T::client(book, i);
     let at = T::place(i);
-    for j in 0..i {
-        if cells[j] == h && same::<T>(book, client, at, j) {
-            return false;
-        }
-    }
-    true
+    (0..i).all(move |j| cells[j] != h || !same::<T>(book, client, at, j))
 }
 
 // Whether thing i differs from each before it; with an unmarked cell it does.
@@ -129,7 +128,8 @@ pub(crate) fn distinct<T: Things>(book: &Bytes, n: usize) -> bool
     requires { (n ≤ most_requests) × (all_below (placed book.now T.keyed) n ≡ true) }
     ensures { result ≡ all_below (clear_at book.now T.keyed) n }
 {
-    let mut seen = [0u32; 128];
+    // Not of one length: a bit for each cell, and the cell of each thing.
+    let mut seen = [0u32; WORDS];
     let mut cells = [0u16; layout::MOST_REQUESTS];
     for i in 0..n {
         let h = cell_of::<T>(book, i);

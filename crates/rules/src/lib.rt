@@ -1,8 +1,8 @@
 // The rules of the book that a buffer is and what stands beside its requests, decided in place: one
 // function, which is total and writes nothing. With the open quantities behind the tables, `opens::keeps`
 // has all the book's rules. Rests on machine's and outcomes' definitions of the rules, on store's layout,
-// and on text and format. Its cost grows with the records in use. A test of a few fields joins its parts
-// by `&` and `|`, which no branch goes with; `&&` and `||` stand where a part costs more than a branch.
+// and on text, words, bits and format. Its cost grows with the records in use. A test of a few fields joins
+// its parts by `&` and `|`, which no branch goes with; `&&` and `||` stand where a part costs more than a branch.
 // That an index is of a record, or a number below 1,000, stands in the contracts: a type for it would be
 // made at each turn of a loop and taken apart for each byte.
 #![tactic(auto)]

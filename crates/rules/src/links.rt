@@ -10,13 +10,15 @@ ghost use Rattle.machine.specs.Rules.{current_test, pending_test, status_rule};
 ghost use Rattle.store.specs.Layout.{most_orders, most_requests};
 ghost use Rattle.rules.specs.Laws.Here.{of_order_at, linked_at, optional_at, counts_at, links_at, links_of, own_at};
 
-use crate::book::{Book, Bytes};
+use crate::book::Book;
 use crate::cells::{same_at, u16_at, u64_at};
 use crate::status::is_done;
 use format::codes;
-use store::{kinds, layout, unsent_of};
+use store::layout::{self, Bytes};
+use store::{kinds, unsent_of};
 
-// The most tries of a gateway cancel, and of one that is unsent: counts.
+// The most tries of a gateway cancel, and of one that is unsent: counts. gateway_cancel has the same 3 for
+// what it does: each is machine's `most_tries` by its contracts, and neither crate rests on the other.
 const MOST_TRIES: u8 = 3;
 
 const MOST_UNSENT: u8 = MOST_TRIES - 1;
@@ -26,17 +28,16 @@ const MOST_UNSENT: u8 = MOST_TRIES - 1;
 fn own(book: &Book<'_>, i: usize, link: u16) -> Option<usize>
     ensures { MatchOption result (own_at book.now.bytes.now book.now.requests i link ≡ false) (λ j. (own_at book.now.bytes.now book.now.requests i link ≡ true) × (j ≡ link - 1) × (j < most_requests)) }
 {
-    let k = usize::from(link);
-    if k == 0 || book.requests < k {
+    let j = usize::from(link).checked_sub(1)?;
+    if book.requests <= j {
         return None;
     }
-    let j = k - 1;
     let bytes = book.bytes;
     let o = u16_at(
         bytes,
         layout::REQUESTS + j * layout::REQUEST + layout::REQUEST_ORDER,
     );
-    if usize::from(o) == i { Some(j) } else { None }
+    (usize::from(o) == i).then_some(j)
 }
 
 // The current downstream is the first request's or a replace's.
@@ -45,17 +46,17 @@ fn current_ok(book: &Book<'_>, i: usize, link: u16) -> bool
     requires { i < book.now.orders }
     ensures { result ≡ linked_at book.now.bytes.now book.now.requests (current_test (order_at book.now.bytes.now i).names.downstream) i link }
 {
-    let Some(j) = own(book, i, link) else {
-        return false;
-    };
-    let at = layout::REQUESTS + j * layout::REQUEST;
-    let kind = book.bytes[at + layout::REQUEST_KIND];
-    ((kind == kinds::FIRST) | (kind == kinds::REPLACE))
-        & same_at(
-            book.bytes,
-            layout::ORDERS + i * layout::ORDER + layout::DOWNSTREAM,
-            at + layout::REQUEST_DOWNSTREAM,
-        )
+    let bytes = book.bytes;
+    own(book, i, link).is_some_and(move |j| {
+        let at = layout::REQUESTS + j * layout::REQUEST;
+        let kind = bytes[at + layout::REQUEST_KIND];
+        ((kind == kinds::FIRST) | (kind == kinds::REPLACE))
+            & same_at(
+                bytes,
+                layout::ORDERS + i * layout::ORDER + layout::DOWNSTREAM,
+                at + layout::REQUEST_DOWNSTREAM,
+            )
+    })
 }
 
 // The latest cancel, if any, is a cancel.
@@ -64,14 +65,12 @@ fn cancel_ok(book: &Book<'_>, i: usize, link: u16) -> bool
     requires { i < book.now.orders }
     ensures { result ≡ optional_at book.now.bytes.now book.now.requests is_cancel i link }
 {
-    if link == 0 {
-        return true;
-    }
-    let Some(j) = own(book, i, link) else {
-        return false;
-    };
-    let kind = book.bytes[layout::REQUESTS + j * layout::REQUEST + layout::REQUEST_KIND];
-    (kind != kinds::FIRST) & (kind != kinds::REPLACE)
+    let bytes = book.bytes;
+    link == 0
+        || own(book, i, link).is_some_and(move |j| {
+            let kind = bytes[layout::REQUESTS + j * layout::REQUEST + layout::REQUEST_KIND];
+            (kind != kinds::FIRST) & (kind != kinds::REPLACE)
+        })
 }
 
 // Pending terms name an unanswered client replace.
@@ -80,15 +79,13 @@ fn pending_ok(book: &Book<'_>, i: usize, link: u16) -> bool
     requires { i < book.now.orders }
     ensures { result ≡ optional_at book.now.bytes.now book.now.requests pending_test i link }
 {
-    if link == 0 {
-        return true;
-    }
-    let Some(j) = own(book, i, link) else {
-        return false;
-    };
-    let at = layout::REQUESTS + j * layout::REQUEST;
-    (book.bytes[at + layout::REQUEST_KIND] == kinds::REPLACE)
-        & (book.bytes[at + layout::REQUEST_ANSWERED] == 0)
+    let bytes = book.bytes;
+    link == 0
+        || own(book, i, link).is_some_and(move |j| {
+            let at = layout::REQUESTS + j * layout::REQUEST;
+            (bytes[at + layout::REQUEST_KIND] == kinds::REPLACE)
+                & (bytes[at + layout::REQUEST_ANSWERED] == 0)
+        })
 }
 
 // Amendments are the requests less one.

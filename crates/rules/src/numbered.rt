@@ -8,47 +8,46 @@ ghost use Rattle.text.specs.Numbered.{numbered_text};
 ghost use Rattle.machine.specs.Ranges.{name_range};
 ghost use Rattle.rules.specs.Laws.Suffix.{IsSuffix, alike_at};
 
-use crate::book::Bytes;
 use crate::cells::{filled, same_word, u64_at};
+use store::layout::{Bytes, TEXT_LEN};
 
-// By `as`, since `From` is no constant function.
-const DASH: u64 = b'-' as u64;
-
-const ZERO: u64 = b'0' as u64;
-
-// The dash and the digits as a word, and how many they are.
+// The dash and the digits as a word, and how many they are: a word and no buffer, since they are compared by
+// one load.
 #[derive(Clone, Copy)]
 struct Suffix {
     word: u64,
     len: usize,
 }
 
-// The dash and the digits of a number below 1,000, as a word.
-#[tactic(auto, using(crate::specs::Laws::Suffix::suffix_1, crate::specs::Laws::Suffix::suffix_2, crate::specs::Laws::Suffix::suffix_3))]
+// The dash and the digits of a number below 1,000, as a word. `decimal` writes its digits into a buffer, from
+// which a word would have to be read again.
+#[tactic(auto, using(crate::specs::Laws::Suffix::suffix_1, crate::specs::Laws::Suffix::suffix_2, crate::specs::Laws::Suffix::suffix_hundreds))]
 fn suffix_of(k: u16) -> Suffix
     requires { k < 1000 }
     ensures { IsSuffix k result.word result.len }
 {
+    let dash = u64::from(b'-');
+    let zero = u64::from(b'0');
     let n = u64::from(k);
     match k {
         0..=9 => Suffix {
-            word: DASH + 256 * (ZERO + n),
+            word: dash + 256 * (zero + n),
             len: 2,
         },
         10..=99 => Suffix {
-            word: DASH + 256 * ((ZERO + n / 10) + 256 * (ZERO + n % 10)),
+            word: dash + 256 * ((zero + n / 10) + 256 * (zero + n % 10)),
             len: 3,
         },
         _ => Suffix {
-            word: DASH
-                + 256
-                    * ((ZERO + n / 10 / 10) + 256 * ((ZERO + n / 10 % 10) + 256 * (ZERO + n % 10))),
+            word: dash
+                + 256 * ((zero + n / 100) + 256 * ((zero + n / 10 % 10) + 256 * (zero + n % 10))),
             len: 4,
         },
     }
 }
 
-// Whether the first n bytes at x and y are the same.
+// Whether the first n bytes at x and y are the same, as `alike_at` says it, by index: `==` of the two slices would
+// need a law that turns slices of a book back into its indices.
 fn same_few(book: &Bytes, x: usize, y: usize, n: usize) -> bool
     requires { (x + 33 ≤ book_size) × (y + 33 ≤ book_size) × (n ≤ 20) }
     ensures { result ≡ all_below (alike_at book.now x y) n }
@@ -75,9 +74,9 @@ pub(crate) fn numbered(book: &Bytes, at: usize, from: usize, k: u16) -> bool
     requires { (at + 33 ≤ book_size) × (from + 33 ≤ book_size) × (name_range (text_at book.now from) ≡ true) × (k < 1000) }
     ensures { result ≡ same_text (text_at book.now at) (numbered_text (text_at book.now from) k) }
 {
-    let n = usize::from(book[from + 32]);
+    let n = usize::from(book[from + TEXT_LEN]);
     let tail = suffix_of(k);
-    if usize::from(book[at + 32]) != n + tail.len {
+    if usize::from(book[at + TEXT_LEN]) != n + tail.len {
         return false;
     }
     same_start(book, at, from, n) && u64_at(book, at + n) == tail.word && filled(book, at)

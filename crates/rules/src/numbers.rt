@@ -14,18 +14,19 @@ ghost use Rattle.rules.specs.Laws.Here.{range_at, sent_rule, request_here, pass_
 ghost use Rattle.rules.specs.Laws.Origin.{fields_range};
 
 use crate::beside::beside_ok;
-use crate::book::{Book, Bytes};
+use crate::book::Book;
 use crate::cells::{filled, same_at, u16_at};
 use crate::numbered::numbered;
 use crate::status::is_done;
-use store::{kinds, layout, stuck_of, unsent_of};
+use store::layout::{self, Bytes};
+use store::{kinds, stuck_of, unsent_of};
 
 // A text that is there exactly where it is not absent, zeros after it.
 fn optional(book: &Bytes, at: usize, absent: bool) -> bool
     requires { at + 33 ≤ book_size }
     ensures { result ≡ (if absent then text_within 0 0 (text_at book.now at) otherwise text_within 1 32 (text_at book.now at)) }
 {
-    filled(book, at) && (book[at + 32] == 0) == absent
+    filled(book, at) && (book[at + layout::TEXT_LEN] == 0) == absent
 }
 
 // Every field but the OrigClOrdID, which goes with its link, is in its range.

@@ -9,10 +9,11 @@ ghost use Rattle.machine.specs.Ranges.{text_within};
 ghost use Rattle.machine.specs.Rules.{names_range, force_range, priced_range, terms_range, pending_range, gateway_range};
 ghost use Rattle.rules.specs.Laws.Here.{range_at};
 
-use crate::book::{Book, Bytes};
+use crate::book::Book;
 use crate::cells::{filled, u16_at, u32_at, u64_at};
 use format::codes;
-use store::{layout, stuck_of, unsent_of};
+use store::layout::{self, Bytes};
+use store::{stuck_of, unsent_of};
 
 // A text of low to high bytes, zeros after it.
 #[tactic(auto, unfolding(machine::specs::Ranges::text_within))]
@@ -20,11 +21,12 @@ fn within(book: &Bytes, at: usize, low: u8, high: u8) -> bool
     requires { at + 33 ≤ book_size }
     ensures { result ≡ text_within low high (text_at book.now at) }
 {
-    let len = book[at + 32];
+    let len = book[at + layout::TEXT_LEN];
     filled(book, at) & (low <= len) & (len <= high)
 }
 
-// format's, by `&` and `|` alone, so that `letters` is taken 16 at a time.
+// format's, written out by `&` and `|` of bytes alone: with it `letters` is taken 16 at a time (docs/SPEED.md,
+// step 9), and `is_ascii_alphanumeric`, a `match` of a `char`, says no more.
 #[tactic(auto, unfolding(format::specs::Codes::is_alnum))]
 fn is_alnum(c: u8) -> bool
     ensures { result ≡ is_alnum c }
@@ -32,7 +34,7 @@ fn is_alnum(c: u8) -> bool
     ((b'0' <= c) & (c <= b'9')) | (((b'A' <= c) & (c <= b'Z')) | ((b'a' <= c) & (c <= b'z')))
 }
 
-// Letters and digits: always 32 steps, so that they are taken 16 at a time.
+// Letters and digits: always 32 steps, so that they are taken 16 at a time (docs/SPEED.md, step 9).
 fn letters(book: &Bytes, at: usize, len: u8) -> bool
     requires { (at + 33 ≤ book_size) × (len ≤ 20) }
     ensures { result ≡ all_below (alnum_at (text_at book.now at)) len }
@@ -49,9 +51,7 @@ fn is_none(book: &Bytes, at: usize) -> bool
     requires { at + 33 ≤ book_size }
     ensures { result ≡ is_none (text_at book.now at) }
 {
-    book[at + 32] == 4
-        && (book[at] == b'N')
-            & ((book[at + 1] == b'O') & ((book[at + 2] == b'N') & (book[at + 3] == b'E')))
+    book[at + layout::TEXT_LEN] == 4 && book[at..].starts_with(b"NONE")
 }
 
 // 1 to 20 letters and digits, not NONE.
@@ -60,7 +60,7 @@ fn is_name(book: &Bytes, at: usize) -> bool
     requires { at + 33 ≤ book_size }
     ensures { result ≡ is_name (text_at book.now at) }
 {
-    match book[at + 32] {
+    match book[at + layout::TEXT_LEN] {
         len @ 1..=20 => letters(book, at, len) & !is_none(book, at),
         _ => false,
     }

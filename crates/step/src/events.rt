@@ -1,5 +1,7 @@
 // An event's whole effect, by value, on a book that keeps its rules: what the event finds in the book, the
-// handling of its kind, and question 7. Writes nothing. Rests on opens, report and loads.
+// handling of its kind, and question 7. Writes nothing. A change of `Ok` says in each contract that its field
+// `refusal` is 0: machine's definitions keep the reason there, which is an `Err` here. Rests on opens, report
+// and loads.
 ghost use Rattle.std.specs.Prelude.{◌≡◌, IfOk};
 ghost use Rattle.store.specs.Book.{book_of};
 ghost use Rattle.machine.specs.Taken.{change_in};
@@ -22,10 +24,8 @@ use store::layout;
 fn is_unused(book: &Kept<'_>, e: Record) -> bool
     ensures { result ≡ unused (book_of book.now.bytes.now) e }
 {
-    match store::find_name(book.bytes, e.ids.name) {
-        Some(_) => false,
-        None => loads::order_of(book, e.client, e.ids.clordid) == 0,
-    }
+    store::find_name(book.bytes, e.ids.name).is_none()
+        && loads::order_of(book, e.client, e.ids.clordid) == 0
 }
 
 // Event 1.

@@ -1,4 +1,5 @@
-// Records in use, by index or link, and what an event's handling needs of the book. Rests on store and opens.
+// Records in use, by index or link, and what an event's handling needs of the book. A link is a number, as
+// the book has it: one more than the index, and 0 for none. Rests on store and opens.
 ghost use Rattle.std.specs.Prelude.{◌≡◌, ◌+◌, ◌≤◌};
 ghost use Rattle.store.specs.Layout.{most_requests};
 ghost use Rattle.store.specs.Book.{book_of, order_in, request_in};
@@ -10,8 +11,8 @@ use opens::Kept;
 use prelude::Text;
 use store::{Order, Request};
 
-// The link of index i: one more, since 0 is none. By `as`: at most 257, and `try_from` would have a
-// branch that nothing takes.
+// The link of index i, by `as`, which is proved to lose nothing. `outcomes` adds the one itself: a function for
+// both would be public, and could not ask that the index is so small.
 pub(crate) fn link_of(i: usize) -> u16
     requires { i ≤ most_requests }
     ensures { result ≡ i + 1 }
@@ -74,7 +75,7 @@ pub(crate) fn findings_at(book: &[u8], place: u16, o: Order) -> Findings
 {
     Findings {
         place,
-        // At most 256: `try_from` would have a branch that nothing takes.
+        // By `as`, which is proved to lose nothing.
         requests: store::request_count(book) as u16,
         cancel: request_at_link(book, o.links.cancel),
     }
@@ -93,6 +94,8 @@ fn order_link(book: &Kept<'_>, k: usize) -> u16
 pub(crate) fn order_of(book: &Kept<'_>, client: u16, t: Text) -> u16
     ensures { result ≡ order_of (book_of book.now.bytes.now) client t }
 {
+    // A `match`, as in `on_request` and `on_name`: `map_or` was tried, would need an answer of its own, and is no
+    // shorter.
     match store::find_clordid(book.bytes, client, t) {
         Some(k) => order_link(book, k),
         None => 0,
@@ -104,7 +107,7 @@ pub(crate) fn order_of(book: &Kept<'_>, client: u16, t: Text) -> u16
 pub(crate) fn is_full(book: &[u8], client: u16) -> bool
     ensures { result ≡ is_full (book_of book.now) client }
 {
-    // By `as`: std has no `From<u32>` for usize.
+    // By `as`, which is proved to lose nothing: std has no `From<u32>` for usize.
     let most = store::setting(book) as usize;
     most <= store::count_clordids(book, client)
 }

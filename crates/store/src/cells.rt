@@ -1,10 +1,11 @@
 // Texts and numbers at an index of a slice, read and written. Rests on prelude's spans and words.
-ghost use Rattle.std.specs.Prelude.{◌≡◌, ◌≢◌, ◌+◌, ◌≤◌, ◌<◌, length, MatchOption};
+ghost use Rattle.std.specs.Prelude.{◌≡◌, ◌+◌, ◌≤◌, ◌<◌, length, MatchOption};
 ghost use Rattle.prelude.specs.Span.{span, splice};
 ghost use Rattle.prelude.specs.Number.{bytes_of, word16, word32, word64};
 ghost use Rattle.prelude.specs.Texts.{text_at, WholeText};
 ghost use Rattle.store.specs.Cells.{text_bytes};
 
+use crate::layout::TEXT_LEN;
 use prelude::Text;
 
 // The numbers of 2, 4 and 8 bytes at an index, each through a window of its own bytes. Here, and not words',
@@ -43,7 +44,7 @@ pub(crate) fn get_text(s: &[u8], at: usize) -> Text
     bytes.copy_from_slice(&s[at..at + 32]);
     Text {
         bytes,
-        len: s[at + 32],
+        len: s[at + TEXT_LEN],
     }
 }
 
@@ -85,7 +86,7 @@ pub(crate) fn put_text(s: &mut [u8], at: usize, t: Text)
     ensures { (s.new ≡ splice s.old at (text_bytes t)) × WholeText t }
 {
     put(s, at, &t.bytes);
-    put(s, at + 32, &[t.len]);
+    put(s, at + TEXT_LEN, &[t.len]);
 }
 
 // The N bytes of s from index at as an array, where s has as many.
@@ -95,12 +96,4 @@ pub(crate) fn part<const N: usize>(s: &[u8], at: usize) -> Option<&[u8; N]>
     ensures { MatchOption result (length s.now < at + N) (λ bytes. bytes.now ≡ span s.now at N) }
 {
     s[at..].first_chunk()
-}
-
-// All of s as an array, where it has N bytes. as_array's own clause names each byte, too many for a
-// proof where N is a number.
-pub(crate) fn array<const N: usize>(s: &[u8]) -> Option<&[u8; N]>
-    ensures { MatchOption result (length s.now ≢ N) (λ bytes. (length s.now ≡ N) × (bytes.now ≡ s.now)) }
-{
-    s.as_array()
 }

@@ -1,5 +1,6 @@
-// Lookups over the records in use, in place: no record is copied to be compared. Rests on cells
-// and text.
+// Lookups over the records in use, in place: no record is copied to be compared. That an index is of a
+// record stands in the contracts: a type for it would be made at each turn of a lookup and taken apart at
+// once. Rests on cells and text.
 ghost use Rattle.std.specs.Prelude.{◌≡◌, ◌≤◌, ◌<◌};
 ghost use Rattle.store.specs.Layout.{most_orders, most_requests};
 ghost use Rattle.store.specs.Book.{book_of};
@@ -7,13 +8,13 @@ ghost use Rattle.store.specs.Finds.{find_client, find_name, find_downstream, fin
 ghost use Rattle.store.specs.Laws.Finds.{clients_at, named_at, bears_at, of_client_at, used_at, used_as_at};
 
 use crate::cells::u16_at;
-use crate::layout::{self, BOOK};
+use crate::layout::{self, Bytes};
 use crate::{order_count, request_count, whole};
 use prelude::Text;
 
 // Whether order k is that client's.
 #[tactic(auto, using(crate::specs::Laws::Fields::order_client))]
-fn is_clients(book: &[u8; BOOK], k: usize, client: u16) -> bool
+fn is_clients(book: &Bytes, k: usize, client: u16) -> bool
     requires { k < most_orders }
     ensures { result ≡ clients_at book.now client k }
 {
@@ -31,7 +32,7 @@ pub fn find_client(book: &[u8], client: u16) -> Option<usize>
 }
 
 #[tactic(auto, using(text::specs::Laws::InPlace::text_is_here, crate::specs::Laws::Fields::names_name))]
-fn named(book: &[u8; BOOK], k: usize, t: Text) -> bool
+fn named(book: &Bytes, k: usize, t: Text) -> bool
     requires { k < most_orders }
     ensures { result ≡ named_at book.now t k }
 {
@@ -48,7 +49,7 @@ pub fn find_name(book: &[u8], t: Text) -> Option<usize>
 }
 
 #[tactic(auto, using(text::specs::Laws::InPlace::text_is_here, crate::specs::Laws::Fields::request_downstream))]
-fn bears(book: &[u8; BOOK], k: usize, t: Text) -> bool
+fn bears(book: &Bytes, k: usize, t: Text) -> bool
     requires { k < most_requests }
     ensures { result ≡ bears_at book.now t k }
 {
@@ -69,9 +70,9 @@ pub fn find_downstream(book: &[u8], t: Text) -> Option<usize>
 }
 
 // Whether request k is of one of the first n orders, and of that client. A struct of book, n and client
-// would be made by two lookups and taken apart here alone.
+// would be made by two lookups, handed on by `used` and `used_as`, and taken apart here: no plainer.
 #[tactic(auto, using(crate::specs::Laws::Fields::request_order), unfolding(crate::specs::Laws::Finds::of_client_at))]
-fn of_client(book: &[u8; BOOK], k: usize, n: usize, client: u16) -> bool
+fn of_client(book: &Bytes, k: usize, n: usize, client: u16) -> bool
     requires { (k < most_requests) × (n ≤ most_orders) }
     ensures { result ≡ of_client_at book.now n client k }
 {
@@ -82,7 +83,7 @@ fn of_client(book: &[u8; BOOK], k: usize, n: usize, client: u16) -> bool
 
 // Whether request k has a ClOrdID and is that client's.
 #[tactic(auto, using(crate::specs::Laws::Fields::request_clordid_len))]
-fn used(book: &[u8; BOOK], k: usize, n: usize, client: u16) -> bool
+fn used(book: &Bytes, k: usize, n: usize, client: u16) -> bool
     requires { (k < most_requests) × (n ≤ most_orders) }
     ensures { result ≡ used_at book.now n client k }
 {
@@ -92,7 +93,7 @@ fn used(book: &[u8; BOOK], k: usize, n: usize, client: u16) -> bool
 
 // Whether that client used it, under that ClOrdID.
 #[tactic(auto, using(std::proofs::lemmas::Bool::and_right, text::specs::Laws::InPlace::text_is_here, crate::specs::Laws::Fields::request_clordid))]
-fn used_as(book: &[u8; BOOK], k: usize, n: usize, client: u16, t: Text) -> bool
+fn used_as(book: &Bytes, k: usize, n: usize, client: u16, t: Text) -> bool
     requires { (k < most_requests) × (n ≤ most_orders) }
     ensures { result ≡ used_as_at book.now n client t k }
 {

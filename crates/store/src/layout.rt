@@ -3,6 +3,9 @@
 
 pub const BOOK: usize = 65536;
 
+// All the bytes of a book.
+pub type Bytes = [u8; BOOK];
+
 // The header: two counts and the setting.
 pub const ORDER_COUNT: usize = 0;
 
@@ -10,7 +13,9 @@ pub const REQUEST_COUNT: usize = 2;
 
 pub const SETTING: usize = 4;
 
-// The tables: where each starts, the size of a record, and how many it has.
+// The tables: where each starts, the size of a record, and how many it has. Record i of the orders stands
+// at `ORDERS + i * ORDER`, written out where it is used: a public function may not ask that i is in the
+// table, and one in each of store, rules and opens would be three of the same.
 pub const ORDERS: usize = 256;
 
 pub const ORDER: usize = 256;
@@ -88,7 +93,10 @@ pub const REFUSEDSENDS: usize = 243;
 // Written as zeros, never read.
 pub const SPARE: usize = 247;
 
-// A request's fields; the length of a text stands behind its 32 bytes.
+// A text's length, from the start of the text: it stands behind its 32 bytes.
+pub const TEXT_LEN: usize = 32;
+
+// A request's fields.
 pub const REQUEST_ORDER: usize = 0;
 
 pub const REQUEST_KIND: usize = 2;
@@ -97,7 +105,7 @@ pub const REQUEST_ANSWERED: usize = 3;
 
 pub const REQUEST_CLORDID: usize = 4;
 
-pub const REQUEST_CLORDID_LEN: usize = REQUEST_CLORDID + 32;
+pub const REQUEST_CLORDID_LEN: usize = REQUEST_CLORDID + TEXT_LEN;
 
 pub const REQUEST_ORIGCLORDID: usize = 37;
 

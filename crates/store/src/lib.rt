@@ -1,6 +1,6 @@
 // The book in its buffer: one slice of 65,536 bytes with a header, 64 order records and 256 request
-// records. Rests on prelude and text. Every public function is total: a buffer of another length is
-// an empty book that nothing changes, and an index past a table has the answer that is stated.
+// records. Rests on prelude, words and text. Every public function is total: a buffer of another length
+// is an empty book that nothing changes, and an index past a table has the answer that is stated.
 #![tactic(auto)]
 
 ghost use Rattle.std.specs.Prelude.{◌≡◌, ◌+◌, ◌*◌, ◌≤◌, ◌<◌, ◌&&◌, true, false, ltb, length, MatchOption};
@@ -34,7 +34,8 @@ pub struct Names {
     pub venueorderid: Text,
 }
 
-// How far the order is.
+// How far the order is. `status` is a byte as records and books hold it, in which any may stand: a
+// number, no enum.
 #[derive(Clone, Copy, Debug, PartialEq, Eq)]
 pub struct State {
     pub status: u8,
@@ -44,7 +45,8 @@ pub struct State {
 }
 
 // Requests sent beside the first, and which requests are the current one and the latest cancel.
-// A link is 0 for none, else one more than the request's index.
+// A link is as the book holds it, 0 for none, else one more than the request's index: any two bytes may
+// stand there, so no Option.
 #[derive(Clone, Copy, Debug, PartialEq, Eq)]
 pub struct Links {
     pub amendments: u16,
@@ -53,7 +55,7 @@ pub struct Links {
 }
 
 // A replace that waits for the venue's answer: the link of its request and its terms. All zero
-// where there is none.
+// where there is none. No Option: a book may hold terms with request 0, and the ranges have to see them.
 #[derive(Clone, Copy, Debug, PartialEq, Eq)]
 pub struct Pending {
     pub request: u16,
@@ -64,7 +66,8 @@ pub struct Pending {
 }
 
 // The gateway's own cancel of the order. All zero where there is none; where there is one,
-// `origdownstream` is the link of the request that its latest cancel named.
+// `origdownstream` is the link of the request that its latest cancel named. No Option, likewise; and two
+// marks and no enum: a malformed stage shows both.
 #[derive(Clone, Copy, Debug, PartialEq, Eq)]
 pub struct GatewayCancel {
     pub tries: u8,
@@ -88,7 +91,7 @@ pub struct Order {
 
 // A request sent to a venue (the Rust's `Sent`), by the index of its order. `kind` is one of `kinds`:
 // a gateway's cancel has no ClOrdID, a client's cancel or replace has an OrigClOrdID. `answered` is 0
-// or 1.
+// or 1 in a book that keeps its rules. Any byte may stand in both: numbers, no enum and no bool.
 #[derive(Clone, Copy, Debug, PartialEq, Eq)]
 pub struct Request {
     pub order: u16,
@@ -98,6 +101,11 @@ pub struct Request {
     pub origclordid: Text,
     pub downstream: Text,
 }
+
+// The zeros are constants, with every field, and no derived `Default`: of an array std says that each item is a
+// default, not that it is the zeros of specs/Orders.antt, so each of the four would need a lemma where the
+// constant is the definition as it stands. The functions below are the public names with their contracts; the
+// constants are public since a struct update takes one.
 
 // No replace waits.
 pub const NO_PENDING: Pending = Pending {
@@ -191,10 +199,10 @@ pub fn no_request() -> Request
 
 // The book, where the buffer has its length.
 #[tactic(auto, using(crate::proofs::Loaded::sized))]
-fn whole(buffer: &[u8]) -> Option<&[u8; layout::BOOK]>
+fn whole(buffer: &[u8]) -> Option<&layout::Bytes>
     ensures { MatchOption result (is_book buffer.now ≡ false) (λ book. (is_book buffer.now ≡ true) × (book.now ≡ buffer.now)) }
 {
-    cells::array(buffer)
+    buffer.as_array()
 }
 
 // Whether the buffer is a book, and i is the index of one of `most` records.
@@ -267,6 +275,7 @@ pub fn load_order(book: &[u8], i: usize) -> Order
 }
 
 // Writes record i, or nothing where there is no such record.
+#[tactic(auto, using(prelude::specs::Cases::if_true, prelude::specs::Cases::if_false), unfolding(crate::specs::Book::store_order))]
 pub fn store_order(book: &mut [u8], i: usize, o: Order)
     ensures { book.new ≡ store_order book.old i o }
 {
@@ -276,13 +285,14 @@ pub fn store_order(book: &mut [u8], i: usize, o: Order)
 }
 
 // Writes an order behind those in use, or nothing where the table is full.
+#[tactic(auto, using(prelude::specs::Cases::if_true, prelude::specs::Cases::if_false), unfolding(crate::specs::Book::add_order, crate::specs::Book::set_count))]
 pub fn add_order(book: &mut [u8], o: Order)
     ensures { book.new ≡ add_order book.old o }
 {
     let n = order_count(book);
     if has_record(book, layout::MOST_ORDERS, n) {
         write_order(book, n, o);
-        // At most 64: `try_from` would have a branch that nothing takes.
+        // At most 64: by `as`, which is proved to lose nothing.
         cells::put16(book, layout::ORDER_COUNT, (n + 1) as u16);
     }
 }
@@ -295,6 +305,7 @@ pub fn load_request(book: &[u8], i: usize) -> Request
 }
 
 // Writes a request behind those in use, with its origin, or nothing where the table is full.
+#[tactic(auto, using(prelude::specs::Cases::if_true, prelude::specs::Cases::if_false), unfolding(crate::specs::Book::add_request, crate::specs::Book::put_request, crate::specs::Book::set_count))]
 pub fn add_request(book: &mut [u8], origin: u16, r: Request)
     ensures { book.new ≡ add_request book.old origin r }
 {
@@ -302,7 +313,7 @@ pub fn add_request(book: &mut [u8], origin: u16, r: Request)
     if has_record(book, layout::MOST_REQUESTS, n) {
         let at = layout::REQUESTS + n * layout::REQUEST;
         cells::put(book, at, &requests::encode(origin, r));
-        // At most 256, likewise.
+        // At most 256: by `as`, which is proved to lose nothing.
         cells::put16(book, layout::REQUEST_COUNT, (n + 1) as u16);
     }
 }
@@ -342,6 +353,7 @@ pub fn load_open(book: &[u8], i: usize) -> u64
 }
 
 // Writes the word of order i's place behind the tables, or nothing where there is no such place.
+#[tactic(auto, using(prelude::specs::Cases::if_true, prelude::specs::Cases::if_false), unfolding(crate::specs::Book::store_open))]
 pub fn store_open(book: &mut [u8], i: usize, quantity: u64)
     ensures { book.new ≡ store_open book.old i quantity }
 {

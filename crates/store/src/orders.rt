@@ -1,5 +1,6 @@
-// An order's record: 256 bytes, of which 247 are used; a pair of functions for each group of fields
-// (no methods, since Terms is prelude's). Rests on cells.
+// An order's record: 256 bytes, of which 247 are used; a pair of functions for each group of fields. A trait
+// with ghost members for what each reads, its widths and its pieces would be longer than the six pairs.
+// Rests on cells.
 ghost use Rattle.std.specs.Prelude.{◌≡◌, [], ◌∷◌, ◌++◌, replicate};
 ghost use Rattle.store.specs.Layout.{names·name, terms·side, state·status, links·amendments, pending·request, gateway·stage};
 ghost use Rattle.prelude.specs.Pieces.{writes};
@@ -18,6 +19,7 @@ const SENT: u8 = 2;
 const STUCK: u8 = 3;
 
 // Whether a stage and the link beside it do not go together.
+#[tactic(auto, using(prelude::specs::Cases::if_true, prelude::specs::Cases::if_false), unfolding(crate::specs::Orders::malformed))]
 fn malformed_pair(stage: u8, link: u16) -> bool
     ensures { result ≡ malformed stage link }
 {
@@ -44,17 +46,15 @@ pub fn stuck_of(stage: u8, link: u16) -> bool
     malformed_pair(stage, link) | (stage == STUCK)
 }
 
+#[tactic(auto, using(prelude::specs::Cases::if_true, prelude::specs::Cases::if_false), unfolding(crate::specs::Orders::stage_of))]
 fn stage_of(g: GatewayCancel) -> u8
     ensures { result ≡ stage_of g }
 {
-    if g.origdownstream == 0 {
-        0
-    } else if g.unsent {
-        UNSENT
-    } else if g.stuck {
-        STUCK
-    } else {
-        SENT
+    match (g.origdownstream, g.unsent, g.stuck) {
+        (0, _, _) => 0,
+        (_, true, _) => UNSENT,
+        (_, _, true) => STUCK,
+        _ => SENT,
     }
 }
 

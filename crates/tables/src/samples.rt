@@ -1,6 +1,5 @@
 // Orders and requests that fill the tables: each field from the index by a rule of its own, so that
-// no two fields of a record are alike. Remainders become bytes by `as`: `try_from` would have branches
-// that nothing takes.
+// no two fields of a record are alike. Remainders become bytes by `as`, which is proved to lose nothing.
 ghost use Rattle.std.specs.Prelude.{◌<◌};
 
 use prelude::{Terms, Text};

@@ -2,4 +2,5 @@
 pub mod ByWords
 pub mod InPlace
 pub mod Numbered
+pub mod Pushed
 pub mod Names

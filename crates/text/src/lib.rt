@@ -1,12 +1,12 @@
-// Texts: the empty one, comparison, range, and numbered names. Rests on prelude and words. Every
+// Texts: the empty one, comparison, range, and numbered names. Rests on prelude, words and decimal. Every
 // public function is total: an index past the end of a slice has a stated answer.
 #![tactic(auto)]
 
 ghost use Rattle.std.specs.Prelude.{◌≡◌, ◌+◌, ◌≤◌, length};
 ghost use Rattle.prelude.specs.Number.{word64};
-ghost use Rattle.prelude.specs.Texts.{text_at, same_text, is_text, contents, text_of};
-ghost use Rattle.text.specs.Words.{no_text, holds, text_is, text_fine, push_text, push_all};
-ghost use Rattle.text.specs.Numbered.{decimal, numbered_text};
+ghost use Rattle.prelude.specs.Texts.{text_at, same_text, is_text};
+ghost use Rattle.text.specs.Words.{no_text, holds, text_is, text_fine};
+ghost use Rattle.text.specs.Numbered.{numbered_text};
 
 use prelude::Text;
 
@@ -77,7 +77,7 @@ fn stored(bytes: &[u8], len: u8) -> bool
     n <= 32 && bytes[n..].iter().fold(0, |all, x| all | *x) == 0
 }
 
-// Whether a text is as it is stored.
+// Whether a text is as it is stored. Nothing here calls it, but as a public function it keeps its promise.
 pub fn text_ok(t: Text) -> bool
     ensures { result ≡ is_text t }
 {
@@ -92,64 +92,22 @@ pub fn text_fine(s: &[u8], at: usize) -> bool
     holds(s, at) && stored(&s[at..at + 32], s[at + 32])
 }
 
-// A text with one byte more, or as it is where it is full.
-#[tactic(auto, using(prelude::specs::Cases::if_true, prelude::specs::Cases::if_false), unfolding(crate::specs::Words::push_text))]
-fn push(mut t: Text, x: u8) -> Text
-    ensures { result ≡ push_text t x }
-{
-    let n = usize::from(t.len);
-    if n < 32 {
-        t.bytes[n] = x;
-        t.len += 1;
-    }
-    t
-}
-
-// A text with zeros behind it, whatever stood there.
-#[tactic(auto, using(crate::specs::Laws::InPlace::trimmed_text))]
-fn trimmed(t: Text) -> Text
-    requires { t.len ≤ 32 }
-    ensures { result ≡ text_of (contents t) }
-{
-    let n = usize::from(t.len);
-    let mut bytes = [0u8; 32];
-    bytes[..n].copy_from_slice(&t.bytes[..n]);
-    Text { bytes, len: t.len }
-}
-
-// How many digits k has.
-#[tactic(auto, using(crate::specs::Laws::Numbered::length_decimal, prelude::specs::Cases::if_true, prelude::specs::Cases::if_false))]
-fn decimal_len(k: u16) -> usize
-    ensures { (result ≡ length (decimal k)) × (result ≤ 5) }
-{
-    match k {
-        0..=9 => 1,
-        10..=99 => 2,
-        100..=999 => 3,
-        1000..=9999 => 4,
-        _ => 5,
-    }
-}
-
-// A text with k in decimal behind it: by recursion, since the highest digit comes first.
-fn push_decimal(t: Text, k: u16) -> Text
-    ensures { result ≡ push_all t (decimal k) }
-{
-    // A digit, here and below: `try_from` would have a branch that nothing takes.
-    if k < 10 {
-        return push(t, b'0' + k as u8);
-    }
-    let high = push_decimal(t, k / 10);
-    push(high, b'0' + (k % 10) as u8)
-}
-
-// The name, a dash and k in decimal, or the empty text where that does not fit.
+// The name, a dash and k in decimal, or the empty text where that does not fit: no Option, since the
+// function could not fail before, and its definition gives a text.
 pub fn numbered(name: Text, k: u16) -> Text
     ensures { result ≡ numbered_text name k }
 {
-    if usize::from(name.len) + 1 + decimal_len(k) > 32 {
+    let n = usize::from(name.len);
+    let number = u64::from(k);
+    let long = n + 1 + decimal::decimal_length(number, 0);
+    if long > 32 {
         return no_text();
     }
-    let dash = push(trimmed(name), b'-');
-    push_decimal(dash, k)
+    let mut bytes = words::padded::<32>(&name.bytes[..n]);
+    bytes[n] = b'-';
+    decimal::put_decimal(&mut bytes, n + 1, number, 0);
+    Text {
+        bytes,
+        len: long as u8, // at most 32, so it loses nothing
+    }
 }

@@ -1,5 +1,5 @@
 // Two-word numbers, `[u64; 2]` by value with the low word first, as prices stand in records and in
-// the book, and the price of a fill. Each function is total and equals a definition of
+// the book, and the price of a fill. Each public function is total and equals a definition of
 // specs/Wide.antt. Rests on the module `division` and on prelude's words.
 #![tactic(auto)]
 
@@ -18,8 +18,8 @@ pub struct Priced {
     pub source: u8,
 }
 
-// The sources of a price: the venue's LastPx, the implied quotient, the average. A byte of messages, 0 for
-// none, in which any may stand: numbers, no enum.
+// The sources of a price: the venue's LastPx, the implied quotient, the average. Numbers, no enum: the
+// definitions, their laws and a message's field have this number, and 0 where there is no price.
 pub const FROM_LAST_PX: u8 = 1;
 
 pub const FROM_QUOTIENT: u8 = 2;
@@ -40,7 +40,7 @@ fn joined(w: [u64; 2]) -> u128
 fn split(n: u128) -> [u64; 2]
     ensures { result ≡ words n }
 {
-    // Both are below 2^64: `try_from` would have branches that nothing takes.
+    // Both are below 2^64: by `as`, which is proved to lose nothing.
     [(n % WORD) as u64, (n / WORD) as u64]
 }
 
@@ -66,7 +66,8 @@ pub fn minus(a: [u64; 2], b: [u64; 2]) -> [u64; 2]
 }
 
 // What rounding adds to a quotient, 0 or 1, where `rest` is left of the division by `d`: the rest is
-// compared with what lacks to `d`, as its double may pass a word.
+// compared with what lacks to `d`, as its double may pass a word. A half stands by itself and the quotient is
+// told, which a half that goes up does not ask, so that another rule for it is one line (docs/DECISIONS.md).
 #[tactic(auto, using(std::proofs::lemmas::Bool::Decides::nat_tests, prelude::specs::Cases::if_true, prelude::specs::Cases::if_false), unfolding(crate::specs::Wide::up, crate::specs::Wide::at_half))]
 fn round(quotient: u64, rest: u64, d: u64) -> u64
     requires { rest < d }
@@ -79,7 +80,8 @@ fn round(quotient: u64, rest: u64, d: u64) -> u64
     }
 }
 
-// `n / d` rounded to the nearest, and 0 where `d` is 0: long division, a word at a time.
+// `n / d` rounded to the nearest, and 0 where `d` is 0, so that it is total (docs/DECISIONS.md): long
+// division, a word at a time.
 #[tactic(auto, using(crate::proofs::Carried::by_words, crate::specs::Rounding::nearest_none, crate::specs::Rounding::nearest_le, crate::specs::Words::value_fits))]
 pub fn long(n: [u64; 2], d: u64) -> [u64; 2]
     ensures { result ≡ words (nearest (value n) d) }
@@ -92,7 +94,8 @@ pub fn long(n: [u64; 2], d: u64) -> [u64; 2]
     split(joined([low.quotient, n[1] / d]) + u128::from(add))
 }
 
-// The same of a single word, by the machine's own division.
+// The same of a single word, 0 for 0 too, by the machine's own division: in less than half the time
+// (docs/SPEED.md).
 #[tactic(auto, using(crate::specs::Rounding::nearest_none, crate::specs::Rounding::nearest_by, crate::specs::Rounding::nearest_le))]
 pub fn plain(n: u64, d: u64) -> u64
     ensures { result ≡ nearest n d }
@@ -124,67 +127,70 @@ pub struct Tenth {
 }
 
 // `n / 10` and `n % 10`: the digits of two words, the lowest first.
-#[tactic(auto, using(crate::proofs::Carried::carried, crate::specs::Words::two_words))]
 pub fn by_ten(n: [u64; 2]) -> Tenth
     ensures { (result.quotient ≡ words (value n / 10)) × (result.digit ≡ value n % 10) }
 {
-    let low = divide(n[1] % 10, n[0], 10);
-    let quotient = [low.quotient, n[1] / 10];
+    let n = joined(n);
     Tenth {
-        quotient,
-        digit: low.rest,
+        quotient: split(n / 10),
+        digit: (n % 10) as u64, // a digit, which loses nothing
     }
 }
 
-// Does the report's LastPx tell the price? It is above 0, and there is no rise or it is LastQty.
-#[tactic(auto, unfolding(crate::specs::Wide::by_last_px))]
-pub fn by_last_px(lastqty: u64, lastpx: u64, rise: u64) -> bool
-    ensures { result ≡ by_last_px lastqty lastpx rise }
-{
-    0 < lastpx && (rise == 0 || rise == lastqty)
+// What the price of a fill is asked with: the report's LastQty, LastPx, CumQty and AvgPx, the order's
+// cumulative quantity and average, and the rise. Quantities are counts of 1/10,000, prices of 10^-8.
+#[derive(Clone, Copy)]
+pub struct Fill {
+    pub lastqty: u64,
+    pub lastpx: u64,
+    pub cumqty: u64,
+    pub avgpx: u64,
+    pub oldcum: u64,
+    pub oldavg: u64,
+    pub rise: u64,
 }
 
-// The price that the change of the average implies for the rise; 0 where it is not positive.
-#[tactic(auto, using(crate::specs::Words::value_of), unfolding(crate::specs::Wide::implied))]
-pub fn implied(cumqty: u64, avgpx: u64, oldcum: u64, oldavg: u64, rise: u64) -> [u64; 2]
-    ensures { result ≡ words (implied cumqty avgpx oldcum oldavg rise) }
-{
-    let new = product(cumqty, avgpx);
-    let old = product(oldcum, oldavg);
-    quotient(minus(new, old), rise)
-}
-
-// The price of a fill and where it came from: the report's LastQty, LastPx, CumQty and AvgPx, the
-// order's cumulative quantity and average, and the rise. Quantities are counts of 1/10,000, prices
-// of 10^-8.
-#[tactic(auto, using(crate::specs::Words::value_of, crate::specs::Words::one_word, std::proofs::lemmas::Bool::Decides::nat_tests, prelude::specs::Cases::if_true, prelude::specs::Cases::if_false), unfolding(crate::specs::Wide::fill_price))]
-pub fn fill_price(
-    lastqty: u64,
-    lastpx: u64,
-    cumqty: u64,
-    avgpx: u64,
-    oldcum: u64,
-    oldavg: u64,
-    rise: u64,
-) -> Priced
-    ensures { result ≡ fill_price lastqty lastpx cumqty avgpx oldcum oldavg rise }
-{
-    if by_last_px(lastqty, lastpx, rise) {
-        return Priced {
-            price: [lastpx, 0],
-            source: FROM_LAST_PX,
-        };
+impl Fill {
+    // Does the report's LastPx tell the price? It is above 0, and there is no rise or it is LastQty.
+    #[tactic(auto, unfolding(crate::specs::Wide::by_last_px))]
+    pub fn by_last_px(self) -> bool
+        ensures { result ≡ by_last_px self.lastqty self.lastpx self.rise }
+    {
+        0 < self.lastpx && (self.rise == 0 || self.rise == self.lastqty)
     }
-    let price = implied(cumqty, avgpx, oldcum, oldavg, rise);
-    if 0 < joined(price) {
-        Priced {
-            price,
-            source: FROM_QUOTIENT,
+
+    // The price that the change of the average implies for the rise; 0 where it is not positive.
+    #[tactic(auto, using(crate::specs::Words::value_of), unfolding(crate::specs::Wide::implied))]
+    pub fn implied(self) -> [u64; 2]
+        ensures { result ≡ words (implied self.cumqty self.avgpx self.oldcum self.oldavg self.rise) }
+    {
+        let new = product(self.cumqty, self.avgpx);
+        let old = product(self.oldcum, self.oldavg);
+        quotient(minus(new, old), self.rise)
+    }
+
+    // The price and where it came from.
+    #[tactic(auto, using(crate::specs::Words::value_of, crate::specs::Words::one_word, std::proofs::lemmas::Bool::Decides::nat_tests, prelude::specs::Cases::if_true, prelude::specs::Cases::if_false), unfolding(crate::specs::Wide::fill_price))]
+    pub fn price(self) -> Priced
+        ensures { result ≡ fill_price self.lastqty self.lastpx self.cumqty self.avgpx self.oldcum self.oldavg self.rise }
+    {
+        if self.by_last_px() {
+            return Priced {
+                price: [self.lastpx, 0],
+                source: FROM_LAST_PX,
+            };
         }
-    } else {
-        Priced {
-            price: [avgpx, 0],
-            source: FROM_AVERAGE,
+        let price = self.implied();
+        if 0 < joined(price) {
+            Priced {
+                price,
+                source: FROM_QUOTIENT,
+            }
+        } else {
+            Priced {
+                price: [self.avgpx, 0],
+                source: FROM_AVERAGE,
+            }
         }
     }
 }

@@ -1,29 +1,37 @@
 -- `format::name_ok`: the length, then the bytes, then NONE. Rests on Laws.Codes.
-use Rattle.std.proofs.Common.{◌≡◌, ℕ, take, rules, sym, ap, ◌∙◌, arith, le-leb}
-use Rattle.std.proofs.lemmas.Bool.Decides.{nat_tests}
-use Rattle.std.proofs.lemmas.Iterator.{YieldsList-from_slice}
-use Rattle.std.proofs.lemmas.Iterator.Search.{all_from_yields_List}
+use Rattle.std.proofs.Common.{◌≡◌, ◌≤◌, ℕ, length, Bool, true, take, leb, leb-true, rules, refl, sym, ap, ◌∙◌, arith}
+use Rattle.std.proofs.lemmas.Bool.{and_parts}
+use Rattle.std.specs.List.{list_all}
 use Rattle.prelude.specs.Below.{all_below}
-use Rattle.format.specs.Codes.{alnum_at, is_alnum, is_name}
+use Rattle.prelude.specs.declared.Text.{Text}
+use Rattle.format.specs.Codes.{within, alnum_at, is_alnum, is_name}
 use Rattle.format.specs.Laws.Codes.{all_front}
 use Rattle.format.proofs.name_ok.Goals as goal
-use Rattle.format.proofs.name_ok.Goals.{After-all}
+use Rattle.format.proofs.name_ok.Goals.{After-contains}
 
-bytes : (c : After-all) → c.all.result ≡ all_below (alnum_at c.args.name) c.args.name.len
-bytes c =
-    all_from_yields_List is_alnum _ _ _ c.all.ensures.ran (YieldsList-from_slice (take c.args.name.len c.args.name.bytes) (c.iter.ensures.rest ∙ ap (λ (n : ℕ). take n c.args.name.bytes) c.from-n.ensures)) (λ x b q k. search rules)
-    ∙ all_front is_alnum c.args.name.bytes c.args.name.len (omega arith)
+told : (c : After-contains) → c.contains.result ≡ within 1 20 c.args.name.len
+told c = let e : c.contains.result ≡ within 1 20 c.from-n.result = search rules in rw c.from-n.ensures at e
 
-pub returns-then-n-lt1 : goal.returns-then-n-lt1
+short : (n : ℕ) → within 1 20 n ≡ true → n ≤ 20
+short n w = leb-true n 20 (and_parts (leb 1 n) (leb n 20) w).1
+
+bytes : (t : Text) (n : ℕ) (b : Bool) → n ≡ t.len → t.len ≤ length t.bytes → b ≡ list_all is_alnum (take n t.bytes) → b ≡ all_below (alnum_at t) t.len
+bytes t n b e h q = q ∙ ap (λ (k : ℕ). list_all is_alnum (take k t.bytes)) e ∙ all_front is_alnum t.bytes t.len h
+
+pub returns-then-not-contains : goal.returns-then-not-contains
 unfolding is_name
-returns-then-n-lt1 c = grind (arith, nat_tests)
+returns-then-not-contains c = rw (sym (told (goal.at.returns-then-not-contains c).After-contains) ∙ c.if-not-contains.true) refl
 
-pub returns-then-all : goal.returns-then-all
+pub returns-then-alnums : goal.returns-then-alnums
 unfolding is_name
-returns-then-all c =
-    rw (le-leb 1 c.args.name.len (omega arith), le-leb c.args.name.len 20 (omega arith), sym (bytes (goal.at.returns-then-all c).After-all) ∙ c.if-all.true, ← c.is_none.ensures)
+returns-then-alnums c =
+    let w = sym (told (goal.at.returns-then-alnums c).After-contains) ∙ c.if-not-contains.false in
+    let b = bytes c.args.name c.from-n.result c.alnums.result c.from-n.ensures (omega (arith, short c.args.name.len w)) c.alnums.ensures in
+    rw (w, sym b ∙ c.if-alnums.true, ← c.is_none.ensures)
 
-pub returns-else-all : goal.returns-else-all
+pub returns-else-alnums : goal.returns-else-alnums
 unfolding is_name
-returns-else-all c =
-    c.if-all.false ∙ sym (rw (le-leb 1 c.args.name.len (omega arith), le-leb c.args.name.len 20 (omega arith), sym (bytes (goal.at.returns-else-all c).After-all) ∙ c.if-all.false))
+returns-else-alnums c =
+    let w = sym (told (goal.at.returns-else-alnums c).After-contains) ∙ c.if-not-contains.false in
+    let b = bytes c.args.name c.from-n.result c.alnums.result c.from-n.ensures (omega (arith, short c.args.name.len w)) c.alnums.ensures in
+    c.if-alnums.false ∙ sym (rw (w, sym b ∙ c.if-alnums.false))

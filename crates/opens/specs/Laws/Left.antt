@@ -137,9 +137,17 @@ module _ (b : List ℕ) where
           ∙ first_word j (open_at b j) (open_of (book_of b) (order_at b j).client) at.0 f (sym (load_open_in b j at.0)) refl
           ∙ all_elim right_first (order_count b) a j at.0
 
--- ---- for the tactics of functions: the sum with one order more, one order asked, and all asked
+  not_wrong : (i : ℕ) → i < order_count b → opens_right b ≡ true → (t : Bool) → right_first i ≡ t → right_first i ≡ true
+  not_wrong i h e true f = f
+  not_wrong i h e false f = absurd (clash (opens_right b) e (first_wrong i h f))
+
+  -- all of them asked, in one
+  pub right_all : all_below right_first (order_count b) ≡ opens_right b
+  right_all =
+      both_ways (all_below right_first (order_count b)) (opens_right b) first_right
+      (λ e. all_intro right_first (order_count b) (λ i h. not_wrong i h e (right_first i) refl))
+
+-- ---- for the tactics of functions: the sum with one order more, and one order asked
 pub ruleset summed = (leaves_small, left_own, left_other, left_most)
 
 pub ruleset asked = (first_word, not_first, no_first)
-
-pub ruleset all_asked = (all_none, all_more, all_done, first_wrong, first_right)

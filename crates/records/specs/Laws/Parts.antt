@@ -22,8 +22,8 @@ module _ (s : List ℕ) where
   refusal_0 h g = rw (h, g) refl
 
   -- a slice that is refused has no parts
-  pub parts_none : (n : ℕ) (r : Parts) → parts_refusal s ≡ n → (n ≡ 0 → ⊥) → PartsOf s r → ⊥
-  parts_none n r e z p = z (sym e ∙ p.taken)
+  pub refused_no_parts : (n : ℕ) (r : Parts) → parts_refusal s ≡ n → (n ≡ 0 → ⊥) → PartsOf s r → ⊥
+  refused_no_parts n r e z p = z (sym e ∙ p.taken)
 
   -- when it is no message
   pub no_shape : shaped s 0 ≡ false → whole_message s ≡ false

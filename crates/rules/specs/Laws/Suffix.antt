@@ -77,6 +77,10 @@ module _ (k : ℕ) where
         short = omega arith;
       }
 
+  -- the same, the hundreds by one division
+  pub suffix_hundreds : 100 ≤ k → k < 1000 → IsSuffix k (45 + 256 * ((48 + k / 100) + 256 * ((48 + k / 10 % 10) + 256 * (48 + k % 10)))) 4
+  suffix_hundreds l h = let e : k / 100 ≡ k / 10 / 10 = omega arith in rw e (suffix_3 l h)
+
 -- ---- a start, by three words that overlap
 
 module _ (s : List ℕ) (bytes : Bytes s) (x y : ℕ) where

@@ -1,12 +1,13 @@
--- Decimal digits and numbered names: how many digits, that they tell the number, and bytes pushed behind a text. Rests on Numbered.
+-- Decimal digits and numbered names: how many digits, that they tell the number, and a name as it is written. Rests on Numbered and on the crate decimal.
 use Rattle.std.specs.Prelude.{◌≡◌, refl, ℕ, zero, suc, ◌+◌, ◌-◌, ◌*◌, ◌/◌, ◌%◌, ◌≤◌, ◌<◌, min, ltb, length, take, set, List, [], ◌∷◌, ◌++◌, replicate}
-use Rattle.std.proofs.Common.{sym, ap, ◌∙◌, arith, lt-ltb, le-ltb, ltb-true, ltb-false, length-append, length-take, append_assoc, append-nil}
-use Rattle.std.proofs.Math.Seq.{take-set-lt, set-append_seam}
-use Rattle.std.proofs.lemmas.List.{replicate-append-replicate, take-append-le}
+use Rattle.std.proofs.Common.{sym, ap, ◌∙◌, arith, lt-ltb, le-ltb, ltb-true, ltb-false, length-append, length-take}
 use Rattle.prelude.specs.Cases.{if◌then◌otherwise◌, split_if}
-use Rattle.prelude.specs.Texts.{contents, text_of}
+use Rattle.prelude.specs.Span.{splice, padded}
+use Rattle.prelude.specs.Texts.{contents}
 use Rattle.prelude.specs.declared.Text.{Text}
-use Rattle.text.specs.Words.{push_text, push_all}
+use Rattle.decimal.specs.Decimal as Decimal
+use Rattle.decimal.specs.Decimal.{digits_by, digits}
+use Rattle.decimal.specs.Laws.Width.{three}
 use Rattle.text.specs.Numbered.{decimal, digits_of, numbered_bytes}
 
 open_digits : (f k : ℕ) → 10 ≤ k → digits_of (suc f) k ≡ digits_of f (k / 10) ++ ((48 + k % 10) ∷ [])
@@ -101,38 +102,7 @@ width_most k =
     (λ e. split_if (λ n. n ≤ 5) (ltb k 1000) (λ e. omega arith)
     (λ e. split_if (λ n. n ≤ 5) (ltb k 10000) (λ e. omega arith) (λ e. omega arith))))
 
--- ---- bytes pushed behind a text
-
-module _ (l : List ℕ) where
-  pub push_text_lem : (x : ℕ) → length l < 32 → push_text (text_of l) x ≡ text_of (l ++ (x ∷ []))
-  unfolding push_text text_of if◌then◌otherwise◌
-  push_text_lem x h = rw (lt-ltb (length l) 32 h) (λ i. record { bytes = bytes i; len = sym (length-append l (x ∷ [])) i })
-    where
-      -- the zeros behind x, one more than are looked at
-      tail : l ++ (x ∷ replicate 32 0) ≡ (l ++ (x ∷ replicate 31 0)) ++ (0 ∷ [])
-      tail = ap (λ (z : List ℕ). l ++ (x ∷ z)) (sym (replicate-append-replicate 31 1 0)) ∙ sym (append_assoc l (x ∷ replicate 31 0) (0 ∷ []))
-
-      enough_long : 32 ≤ length (l ++ (x ∷ replicate 31 0))
-      enough_long = simp length-append (omega arith)
-
-      bytes : set (take 32 (l ++ replicate 32 0)) (length l) x ≡ take 32 ((l ++ (x ∷ [])) ++ replicate 32 0)
-      bytes =
-          sym (take-set-lt 32 (l ++ replicate 32 0) (length l) x h)
-          ∙ ap (take 32) (set-append_seam l 0 (replicate 31 0) x)
-          ∙ sym (take-append-le 32 (l ++ (x ∷ replicate 31 0)) (0 ∷ []) enough_long)
-          ∙ ap (take 32) (sym tail ∙ sym (append_assoc l (x ∷ []) (replicate 32 0)))
-
-pub push_all_text : (l xs : List ℕ) → length l + length xs ≤ 32 → push_all (text_of l) xs ≡ text_of (l ++ xs)
-push_all_text l [] h = ap text_of (sym (append-nil l))
-push_all_text l (x ∷ xs) h =
-    let n : length (l ++ (x ∷ [])) ≡ length l + 1 = length-append l (x ∷ []) in
-    ap (λ (t : Text). push_all t xs) (push_text_lem l x (omega arith))
-    ∙ push_all_text (l ++ (x ∷ [])) xs (omega arith)
-    ∙ ap text_of (append_assoc l (x ∷ []) xs)
-
-pub push_all_more : (t : Text) (xs : List ℕ) (x : ℕ) → push_all t (xs ++ (x ∷ [])) ≡ push_text (push_all t xs) x
-push_all_more t [] x = refl
-push_all_more t (y ∷ xs) x = push_all_more (push_text t y) xs x
+-- ---- the name, a dash and the number
 
 pub length_numbered_bytes : (t : Text) (k : ℕ) → length (numbered_bytes t k) ≡ length (contents t) + (length (decimal k) + 1)
 length_numbered_bytes t k = length-append (contents t) (45 ∷ decimal k) ∙ omega arith
@@ -140,3 +110,26 @@ length_numbered_bytes t k = length-append (contents t) (45 ∷ decimal k) ∙ om
 pub length_contents : (t : Text) → length t.bytes ≡ 32 → length (contents t) ≡ min t.len 32
 unfolding contents
 length_contents t h = simp (length-take, h)
+
+-- ---- a numbered name as it is written: the name over zeros, a dash, and the digits as the crate decimal has them
+
+digits_same : (f k : ℕ) → k ≤ f → digits_of f k ≡ digits_by f k
+unfolding digits_of digits_by if◌then◌otherwise◌
+digits_same zero k h = let e : 48 + k ≡ 48 + k % 10 = omega arith in ap (λ (d : ℕ). d ∷ []) e
+digits_same (suc f) k h =
+    split_if (λ ds. ds ≡ digits_by (suc f) k) (ltb k 10)
+    (λ e. let m : k < 10 = ltb-true k 10 e in let d : 48 + k ≡ 48 + k % 10 = omega arith in rw e (ap (λ (x : ℕ). x ∷ []) d))
+    (λ e. let m : 10 ≤ k = ltb-false k 10 e in rw e (ap (λ (ds : List ℕ). ds ++ ((48 + k % 10) ∷ [])) (digits_same f (k / 10) (omega arith))))
+
+pub decimal_written : (k : ℕ) → Decimal.decimal 0 k ≡ decimal k
+unfolding decimal Decimal.decimal digits
+decimal_written k = sym (digits_same k k (omega arith))
+
+pub numbered_put : (t : Text) (k n : ℕ) → n ≡ length (contents t) → length (numbered_bytes t k) ≤ 32
+    → splice (set (take 32 (contents t ++ replicate 32 0)) n 45) (n + 1) (decimal k) ≡ take 32 (numbered_bytes t k ++ replicate 32 0)
+numbered_put t k n e h =
+    let l : length (contents t) + (length (decimal k) + 1) ≤ 32 = omega (arith, length_numbered_bytes t k) in
+    ap (λ (s : List ℕ). splice (set s n 45) (n + 1) (decimal k)) (sym (padded 32 (contents t) (omega arith)))
+    ∙ ap (λ (i : ℕ). splice (set (splice (replicate 32 0) 0 (contents t)) i 45) (i + 1) (decimal k)) (let z : n ≡ 0 + length (contents t) = omega arith in z)
+    ∙ three (replicate 32 0) 0 (contents t) 45 (decimal k) (omega arith)
+    ∙ padded 32 (numbered_bytes t k) h

@@ -19,4 +19,4 @@ returns-in-Words c = rw c.in-Words.is (rw c.words.ensures at c.less-in-Words.ens
 pub returns-in-Exec : goal.returns-in-Exec
 unfolding long_of
 returns-in-Exec c =
-    rw (c.in-Exec.is, ← less_more c.args.room c.in-Exec.count _, ← c.less-in-Exec.ensures, ← decimal_none c.in-Exec.n, ← c.decimal_length.ensures.0) c.less-in-Exec-2.ensures
+    rw (c.in-Exec.is, ← less_more c.args.room c.in-Exec.count _, ← c.less-in-Exec.ensures, ← decimal_none c.in-Exec.number, ← c.decimal_length.ensures.0) c.less-in-Exec-2.ensures

@@ -8,7 +8,7 @@ use Rattle.records.specs.Parts.{parts_refusal}
 use Rattle.records.specs.Laws.Refused.{number_not}
 use Rattle.fix_words.specs.Spelling.{spellings}
 use Rattle.fix_words.specs.Message.{bytes_for, inner}
-use Rattle.fix_words.specs.Record.{Session, session, writing_of}
+use Rattle.fix_words.specs.Record.{Session, writing_of}
 use Rattle.fix.specs.Laws.Plan.{Parted, less_by, frame_long, inner_long}
 use Rattle.fix.specs.Laws.Whole.{room_some, room_none, fit_or_not, whole_long, inner_long_lem, answer_parts, answer_9, answer_10, answer_0, whole_parted, whole_kind}
 use Rattle.fix.proofs.write.decide.Goals as goal
@@ -18,7 +18,7 @@ abbrev src : Start → List ℕ
 src s = s.args.«record».now
 
 abbrev told : Start → Session
-told s = session s.args.header.now.sender.now s.args.header.now.target.now s.args.header.now.sequence s.args.header.now.time.now
+told s = s.args.header.now
 
 abbrev begun : In_ok-parts → Start
 begun e = (goal.at.In_ok-parts e).Start
@@ -37,7 +37,7 @@ abbrev long : In_ok-parts → ℕ
 long e =
     let s = begun e in
     let p = e.in_ok-parts.parts in
-    inner_long (length s.args.header.now.sender.now) (length s.args.header.now.target.now) s.args.header.now.sequence (length s.args.header.now.time.now) (kind_at (src s) 0) p.map p.at p.numbers p.high
+    inner_long (length s.args.header.now.sender) (length s.args.header.now.target) s.args.header.now.sequence (length s.args.header.now.time) (kind_at (src s) 0) p.map p.at p.numbers p.high
 
 inner_is : (e : In_ok-parts) → length (spellings (inner (writing_of (src (begun e)) (told (begun e))))) ≡ long e
 inner_is e =

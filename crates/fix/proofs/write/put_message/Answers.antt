@@ -6,7 +6,7 @@ use Rattle.format.specs.Places.{kind_at}
 use Rattle.fix_words.specs.Spelling.{spellings}
 use Rattle.fix_words.specs.Values.{rows}
 use Rattle.fix_words.specs.Message.{trailer, inner, front}
-use Rattle.fix_words.specs.Record.{Session, session, writing_of, write_of, write_refusal}
+use Rattle.fix_words.specs.Record.{Session, writing_of, write_of, write_refusal}
 use Rattle.fix.specs.Laws.Plan.{Parted, planned, rows_long, rows_shown, first_two, head_fields, stamp_fields}
 use Rattle.fix.specs.Laws.Planned.{plan_sound}
 use Rattle.fix.specs.Laws.Putting.{Rest, rest_start, rest_room, rest_next}
@@ -19,7 +19,7 @@ abbrev src : Start → List ℕ
 src s = s.args.«record».now
 
 abbrev told : Start → Session
-told s = session s.args.header.now.sender.now s.args.header.now.target.now s.args.header.now.sequence s.args.header.now.time.now
+told s = s.args.header.now
 
 abbrev whole : Start → List ℕ
 whole s = write_of (src s) (told s)
@@ -46,13 +46,13 @@ abbrev tail4 : Start → List ℕ
 tail4 s = spellings (trailer (front10 s) ∷ [])
 
 abbrev tail3 : Start → List ℕ
-tail3 s = spellings (stamp_fields (k s) s.args.header.now.time.now) ++ tail4 s
+tail3 s = spellings (stamp_fields (k s) s.args.header.now.time) ++ tail4 s
 
 abbrev tail2 : Start → List ℕ
 tail2 s = rows_shown (src s) (rows (k s)) (f s) ++ tail3 s
 
 abbrev head : Start → List ℕ
-head s = spellings (head_fields (k s) s.args.header.now.sender.now s.args.header.now.target.now s.args.header.now.sequence s.args.header.now.time.now)
+head s = spellings (head_fields (k s) s.args.header.now.sender s.args.header.now.target s.args.header.now.sequence s.args.header.now.time)
 
 abbrev tail1 : Start → List ℕ
 tail1 s = head s ++ tail2 s
@@ -92,7 +92,8 @@ third c =
 
 fourth : (c : After-put_stamp-d) → Rest c.args.out.now 0 (whole (goal.at.After-put_stamp-d c).Start) c.put_stamp-d.new.out c.put_stamp-d.result (tail4 (goal.at.After-put_stamp-d c).Start)
 fourth c =
-    rest_next (spellings (stamp_fields (k (goal.at.After-put_stamp-d c).Start) c.args.header.now.time.now)) (tail4 (goal.at.After-put_stamp-d c).Start) (third (goal.at.After-put_stamp-d c).After-put_body-c) c.put_stamp-d.ensures.1 c.put_stamp-d.ensures.0
+    let e = ap (λ (n : Session). n.time) c.header.view_is in
+    rest_next (spellings (stamp_fields (k (goal.at.After-put_stamp-d c).Start) c.args.header.now.time)) (tail4 (goal.at.After-put_stamp-d c).Start) (third (goal.at.After-put_stamp-d c).After-put_body-c) (rw e at c.put_stamp-d.ensures.1) (rw e at c.put_stamp-d.ensures.0)
 
 summed : (c : After-put_stamp-d) → span c.put_stamp-d.new.out 0 c.put_stamp-d.result ≡ front10 (goal.at.After-put_stamp-d c).Start
 summed c =
@@ -119,7 +120,8 @@ put_body-c-requires c =
 
 pub put_stamp-d-requires : goal.put_stamp-d-requires
 put_stamp-d-requires c =
-    rest_room (spellings (stamp_fields (k (goal.at.put_stamp-d-requires c).Start) c.args.header.now.time.now)) (tail4 (goal.at.put_stamp-d-requires c).Start) (third (goal.at.put_stamp-d-requires c).After-put_body-c)
+    let e = ap (λ (n : Session). n.time) c.header.view_is in
+    rw e (rest_room (spellings (stamp_fields (k (goal.at.put_stamp-d-requires c).Start) c.args.header.now.time)) (tail4 (goal.at.put_stamp-d-requires c).Start) (third (goal.at.put_stamp-d-requires c).After-put_body-c))
 
 pub put_trailer-requires : goal.put_trailer-requires
 put_trailer-requires c =

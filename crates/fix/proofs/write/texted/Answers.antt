@@ -18,9 +18,9 @@ unfolding texted
 returns-then-is_text-3 c =
     let p = c.args.parts.now in
     let r = c.args.«record».now in
-    let s = c.args.header.now.sender.now in
-    let t = c.args.header.now.target.now in
-    let u = c.args.header.now.time.now in
+    let s = c.header.inside.sender.now in
+    let t = c.header.inside.target.now in
+    let u = c.header.inside.time.now in
     let one : c.if-is_text.value ≡ (is_text s && is_text t) =
     elim c.if-is_text.branch [
       | then-is_text w ↦ w.value-is ∙ w.is_text-then-is_text.ensures ∙ rw (sym c.is_text.ensures ∙ w.if-is_text.true)
@@ -31,7 +31,9 @@ returns-then-is_text-3 c =
       | then-is_text-2 w ↦ w.value-is ∙ w.is_text-then-is_text-2.ensures ∙ rw (sym one ∙ w.if-is_text-2.true)
       | else-is_text-2 w ↦ w.value-is ∙ w.if-is_text-2.false ∙ rw (sym one ∙ w.if-is_text-2.false)
     ] in
+    rw (← c.header.view_is) (
     c.texts_right.ensures
     ∙ texts_right_lem r p.map p.at p.numbers p.high c.requires
     ∙ sym (ap (λ (x : Bool). x && all_below (λ b. text_at b (field_at r b)) 32) (sym two ∙ c.if-is_text-3.true))
     ∙ and_assoc (is_text s) (is_text t) (is_text u) (all_below (λ b. text_at b (field_at r b)) 32)
+    )

@@ -2,7 +2,7 @@
 use Rattle.std.proofs.Common.{eq-eqb, ne_eqb, ◌∙◌, List, ℕ, length}
 use Rattle.prelude.specs.Cases.{if◌then◌otherwise◌}
 use Rattle.records.specs.Laws.Refused.{number_not}
-use Rattle.fix_words.specs.Record.{Session, session, write_refusal}
+use Rattle.fix_words.specs.Record.{Session, write_refusal}
 use Rattle.fix_claims.specs.Call.{wrote, write_call}
 use Rattle.fix.proofs.write.write.Goals as goal
 use Rattle.fix.proofs.write.write.Goals.{Start}
@@ -11,7 +11,7 @@ abbrev src : Start → List ℕ
 src s = s.args.«record».now
 
 abbrev told : Start → Session
-told s = session s.args.header.now.sender.now s.args.header.now.target.now s.args.header.now.sequence s.args.header.now.time.now
+told s = s.args.header.now
 
 pub returns-in-Ok : goal.returns-in-Ok
 unfolding write_call if◌then◌otherwise◌

@@ -51,7 +51,7 @@ returns c =
     let k : ℕ = length nm + 1 in
     let e : same nm (take (length nm) v) ≡ true = same_turned nm (take (length nm) v) ∙ told_same (take (length nm) v) nm c.ne.result c.ne.ensures c.if-ne.false in
     let x : eqb 46 (get_or v (length nm) 0) ≡ true = eq-eqb 46 (get_or v (length nm) 0) (sym c.if-v-k-ne46.false) in
-    let n : c.wrapped.result ≡ number_in (after 46 v) % word = c.wrapped.ensures ∙ ap (λ (u : List ℕ). number_in u % word) c.behind_point.ensures in
+    let n : get_or c.wrapped.result 0 0 ≡ number_in (after 46 v) % word = c.wrapped.ensures.0 ∙ ap (λ (u : List ℕ). number_in u % word) c.behind_point.ensures in
     c.spelled.ensures
     ∙ (λ i. same (digits (n i)) (take_rest v k i))
     ∙ ap (λ (j : ℕ). same (tail s) (drop j v)) (add-one (length nm))

@@ -3,7 +3,7 @@ use Rattle.std.proofs.Common.{◌≡◌, ℕ, ◌+◌, ◌-◌, ◌*◌, ◌/◌
 use Rattle.prelude.specs.Cases.{if_true, if_false}
 use Rattle.decimal.specs.Decimal.{is_digit}
 use Rattle.fix_reader.specs.Laws.Numbers.{word, step_other, step_more}
-use Rattle.fix_reader.specs.Laws.Wrapping.{step_high, tenfold_wraps}
+use Rattle.fix_reader.specs.Laws.Wrapping.{step_high, tenfold_wraps, over_word}
 use Rattle.fix_reader.proofs.price.step.Goals as goal
 
 high_same : (low high c : ℕ) → is_digit c ≡ false → step_high low high c ≡ high
@@ -26,9 +26,11 @@ returns c =
     let a = c.args in
     let n0 : ℕ = get_or a.n 0 0 in
     let n1 : ℕ = get_or a.n 1 0 in
-    let t = c.times_ten-low in
+    let m = c.carrying_mul-low.result in
+    let f : Fits w64 m.0 = search rules in
+    let t = over_word (n0 * 10 + c.from.result) m.0 m.1 (omega (arith, c.carrying_mul-low.ensures)) (omega (arith, f.fits)) in
     let yes : is_digit a.c ≡ true = sym c.is_ascii_digit.ensures.value ∙ c.if-not-is_ascii_digit.false in
     let d = c.from.ensures in (
-      t.ensures.0 ∙ ap (λ (x : ℕ). (n0 * 10 + x) % word) d ∙ sym (ap (λ (x : ℕ). x % word) (step_more n0 a.c yes)),
-      tenfold_wraps n1 t.result.over ∙ ap (λ (x : ℕ). (n1 * 10 + x) % word) (t.ensures.1 ∙ ap (λ (x : ℕ). (n0 * 10 + x) / word) d) ∙ sym (high_more n0 n1 a.c yes),
+      t.0 ∙ ap (λ (x : ℕ). (n0 * 10 + x) % word) d ∙ sym (ap (λ (x : ℕ). x % word) (step_more n0 a.c yes)),
+      tenfold_wraps n1 m.1 ∙ ap (λ (x : ℕ). (n1 * 10 + x) % word) (t.1 ∙ ap (λ (x : ℕ). (n0 * 10 + x) / word) d) ∙ sym (high_more n0 n1 a.c yes),
     )

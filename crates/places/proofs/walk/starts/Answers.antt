@@ -19,5 +19,5 @@ loop-b-preserved c =
       omega arith,
       simp length-set l.invariant.2,
       rw add-one (c.next_at-at.ensures.0 ∙ ap (next a.s.now a.map l.b) q),
-      fill f l.out l.b l.at (omega arith) q l.invariant.4,
+      rw c.from.ensures (fill f l.out l.b l.at (omega arith) q l.invariant.4),
     )

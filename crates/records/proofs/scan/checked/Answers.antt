@@ -5,14 +5,18 @@ use Rattle.records.proofs.scan.checked.Goals as goal
 
 pub returns-then-not-has-clause-ok : goal.returns-then-not-has-clause-ok
 unfolding if◌then◌otherwise◌
-returns-then-not-has-clause-ok c = rw (sym c.has.ensures ∙ c.if-not-has.true) (refl, refl)
+returns-then-not-has-clause-ok c = rw (rw c.from.ensures at (sym c.has.ensures ∙ c.if-not-has.true)) (refl, refl)
 
 pub returns-then-may_hold-clause-ok : goal.returns-then-may_hold-clause-ok
 unfolding if◌then◌otherwise◌
 returns-then-may_hold-clause-ok c =
-    rw (sym c.has.ensures ∙ c.if-not-has.false, ← c.value_of-v.ensures) (sym c.may_hold.ensures ∙ c.if-may_hold.true, refl)
+    let h = rw c.from.ensures at (sym c.has.ensures ∙ c.if-not-has.false) in
+    let m = rw c.from-2.ensures at (sym c.may_hold.ensures ∙ c.if-may_hold.true) in
+    rw (h, ← c.value_of-v.ensures) (m, refl)
 
 pub returns-else-may_hold-clause-err : goal.returns-else-may_hold-clause-err
 unfolding if◌then◌otherwise◌
 returns-else-may_hold-clause-err c =
-    rw (sym c.has.ensures ∙ c.if-not-has.false, ← c.value_of-v.ensures) (sym c.may_hold.ensures ∙ c.if-may_hold.false, refl)
+    let h = rw c.from.ensures at (sym c.has.ensures ∙ c.if-not-has.false) in
+    let m = rw c.from-2.ensures at (sym c.may_hold.ensures ∙ c.if-may_hold.false) in
+    rw (h, ← c.value_of-v.ensures) (m, refl)

@@ -1,14 +1,15 @@
 -- `Pair::amounts` meets its contract: an order more each turn. Rests on Pair.
-use Rattle.std.proofs.Common.{arith}
+use Rattle.std.proofs.Common.{◌≡◌, arith, rules}
 use Rattle.store.specs.Book.{book_of}
 use Rattle.store.specs.Laws.Stored.{length_orders}
-use Rattle.net.specs.Laws.Pair.{in_use, sum_none, sum_all}
+use Rattle.net.specs.Laws.Pair.{none, in_use, sum_none, sum_all}
 use Rattle.net.proofs.pair.Pair.amounts.Goals as goal
 
 pub loop-k-init : goal.loop-k-init
 loop-k-init c =
     let b = c.args.book.now.bytes.now in
-    (c.requires.0, sum_none (book_of b) c.args.self.client c.args.self.symbol c.args.n (omega (arith, length_orders b)) c.requires.1)
+    let z : c.default-a.result ≡ none = search rules in
+    (c.requires.0, rw z (sum_none (book_of b) c.args.self.client c.args.self.symbol c.args.n (omega (arith, length_orders b)) c.requires.1))
 
 pub with-a-requires : goal.with-a-requires
 with-a-requires c = (in_use c.args.book.now.bytes.now c.loop-k.k (omega (arith, c.order_count-k-end.ensures)), c.loop-k.invariant.1)
