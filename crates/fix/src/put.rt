@@ -1,7 +1,7 @@
 // A message's fields, written into a slice that has room for them. The slice, where to write and what come
 // one by one, as decimal's functions take them: a struct of the first two would be made for each call, since
 // each goes on from where the last one ended. Rests on `value`, fix_table and decimal.
-ghost use Rattle.std.specs.Prelude.{◌≡◌, Some, [], ◌∷◌, ◌++◌, ℕ, ◌+◌, ◌*◌, ◌^◌, ◌≤◌, ◌<◌, length};
+ghost use Rattle.std.specs.Prelude.{◌≡◌, Some, [], ◌∷◌, ◌++◌, ℕ, ◌+◌, ◌≤◌, ◌<◌, length};
 ghost use Rattle.prelude.specs.Span.{span, splice};
 ghost use Rattle.decimal.specs.Decimal.{digits, decimal};
 ghost use Rattle.fix_words.specs.Spelling.{field, spellings};
@@ -11,6 +11,7 @@ ghost use Rattle.fix.specs.Laws.Plan.{said_by, long_of, field_long, field_shown,
 
 use crate::session::Session;
 use crate::value::{Value, value_at};
+use decimal::digits::Digits;
 use fix_table::spoken::words;
 use records::parts::Parts;
 
@@ -25,62 +26,43 @@ fn put_bytes(out: &mut [u8], at: usize, text: &[u8]) -> usize
     end
 }
 
-// Some bytes of a slice.
-#[tactic(auto, using(prelude::specs::Span::part_span, prelude::specs::Span::length_span))]
-fn put_part(out: &mut [u8], at: usize, s: &[u8], from: usize, count: usize) -> usize
-    requires { («from» + count ≤ length s.now) × (at + count ≤ length out.old) }
-    ensures { (result ≡ at + count) × (out.new ≡ splice out.old at (span s.now «from» count)) }
-{
-    put_bytes(out, at, &s[from..from + count])
-}
-
-// A number of two words, as one where the upper is 0. The question stands in `room` and in the reader too:
-// each asks it of another function of decimal's, and what would answer it once is a type for either.
+// A number with decimals.
 #[tactic(auto, using(decimal::specs::Laws::Columns::written_room))]
-fn put_decimal(out: &mut [u8], at: usize, low: u64, high: u64, places: u8) -> usize
-    requires { at + length (decimal places (low + 2 ^ 64 * high)) ≤ length out.old }
-    ensures { (result ≡ at + length (decimal places (low + 2 ^ 64 * high))) × (out.new ≡ splice out.old at (decimal places (low + 2 ^ 64 * high))) }
+fn put_decimal<N: Digits>(out: &mut [u8], at: usize, n: N, places: u8) -> usize
+    requires { at + length (decimal places (N.number n)) ≤ length out.old }
+    ensures { (result ≡ at + length (decimal places (N.number n))) × (out.new ≡ splice out.old at (decimal places (N.number n))) }
 {
-    if high == 0 {
-        return at + decimal::put_decimal(out, at, low, places);
-    }
-    at + decimal::put_decimal(out, at, [low, high], places)
-}
-
-// The digits of a number.
-#[tactic(auto, using(decimal::specs::Laws::Columns::written_room))]
-fn put_digits(out: &mut [u8], at: usize, n: u64) -> usize
-    requires { at + length (decimal 0 n) ≤ length out.old }
-    ensures { (result ≡ at + length (decimal 0 n)) × (out.new ≡ splice out.old at (decimal 0 n)) }
-{
-    at + decimal::put_decimal(out, at, n, 0)
+    at + decimal::put_decimal(out, at, n, places)
 }
 
 // A name, a point and a number.
-fn put_exec(out: &mut [u8], at: usize, s: &[u8], from: usize, count: usize, n: u64) -> usize
-    requires { («from» + count ≤ length s.now) × (at + (count + (1 + length (digits n))) ≤ length out.old) }
-    ensures { (result ≡ at + (count + (1 + length (digits n)))) × (out.new ≡ splice out.old at (span s.now «from» count ++ (46 ∷ digits n))) }
+#[tactic(auto, using(fix_words::specs::Laws::Counting::decimal_none, decimal::specs::Laws::Width::three))]
+fn put_exec(out: &mut [u8], at: usize, name: &[u8], n: u64) -> usize
+    requires { at + (length name.now + (1 + length (digits n))) ≤ length out.old }
+    ensures { (result ≡ at + (length name.now + (1 + length (digits n)))) × (out.new ≡ splice out.old at (name.now ++ (46 ∷ digits n))) }
 {
-    let a = put_part(out, at, s, from, count);
+    let a = put_bytes(out, at, name);
     out[a] = b'.';
-    put_digits(out, a + 1, n)
+    put_decimal(out, a + 1, n, 0)
 }
 
 // A value. That its bytes stand in the record is asked here and of `put_field` and `put_body`: the record
 // travels beside the value, and a type of both would hold the record once for each field.
+#[tactic(auto, using(prelude::specs::Span::part_span, prelude::specs::Span::length_span), unfolding(crate::specs::Laws::Plan::said_by, crate::specs::Laws::Plan::long_of))]
 fn put_value(out: &mut [u8], at: usize, s: &[u8], v: Value) -> usize
     requires { (Sound s.now (Some v)) × (at + long_of v ≤ length out.old) }
     ensures { (result ≡ at + long_of v) × (out.new ≡ splice out.old at (said_by s.now v)) }
 {
     match v {
-        Value::Bytes { from, count } => put_part(out, at, s, from, count),
-        Value::Number { low, high, places } => put_decimal(out, at, low, high, places),
+        Value::Bytes { from, count } => put_bytes(out, at, &s[from..from + count]),
+        Value::Number { n, places } => put_decimal(out, at, n, places),
+        Value::Price { low, high, places } => put_decimal(out, at, [low, high], places),
         Value::Words(n) => put_bytes(out, at, words(n)),
         Value::Exec {
             from,
             count,
             number,
-        } => put_exec(out, at, s, from, count, number),
+        } => put_exec(out, at, &s[from..from + count], number),
     }
 }
 
@@ -93,7 +75,7 @@ fn put_field(out: &mut [u8], at: usize, tag: u64, s: &[u8], v: Option<Value>) ->
     let Some(value) = v else {
         return at;
     };
-    let a = put_digits(out, at, tag);
+    let a = put_decimal(out, at, tag, 0);
     out[a] = b'=';
     let b = put_value(out, a + 1, s, value);
     out[b] = 1;
@@ -124,17 +106,7 @@ fn put_number(out: &mut [u8], at: usize, tag: u64, n: u64) -> usize
     requires { at + length (spellings (field tag (digits n) ∷ [])) ≤ length out.old }
     ensures { (result ≡ at + length (spellings (field tag (digits n) ∷ []))) × (out.new ≡ splice out.old at (spellings (field tag (digits n) ∷ []))) }
 {
-    put_field(
-        out,
-        at,
-        tag,
-        &[],
-        Some(Value::Number {
-            low: n,
-            high: 0,
-            places: 0,
-        }),
-    )
+    put_field(out, at, tag, &[], Some(Value::Number { n, places: 0 }))
 }
 
 // 8 and 9.

@@ -4,8 +4,7 @@
 // byte, and one generic over a sink would need a law of each field for both sinks, where now each function
 // has one contract. A room is an Option on the way in too, as the definition `less_by` takes it: so its laws join
 // lengths with no case for None. Rests on `value`, fix_table and decimal.
-ghost use Rattle.std.specs.Prelude.{◌≡◌, ◌+◌, ◌*◌, ◌^◌, ◌≤◌, length};
-ghost use Rattle.decimal.specs.Decimal.{decimal};
+ghost use Rattle.std.specs.Prelude.{◌≡◌, length};
 ghost use Rattle.fix_words.specs.Values.{rows};
 ghost use Rattle.fix.specs.Laws.Plan.{less_by, long_of, field_long, rows_long, planned, head_long, stamp_long, frame_long};
 
@@ -21,22 +20,15 @@ pub(crate) fn less(room: Option<usize>, n: usize) -> Option<usize>
     room?.checked_sub(n)
 }
 
-// How many bytes a number of two words takes.
-pub(crate) fn number_length(low: u64, high: u64, places: u8) -> usize
-    ensures { result ≡ length (decimal places (low + 2 ^ 64 * high)) }
-{
-    if high == 0 {
-        return decimal::decimal_length(low, places);
-    }
-    decimal::decimal_length([low, high], places)
-}
-
 fn less_value(room: Option<usize>, v: Value) -> Option<usize>
     ensures { result ≡ less_by room (long_of v) }
 {
     match v {
         Value::Bytes { count, .. } => less(room, count),
-        Value::Number { low, high, places } => less(room, number_length(low, high, places)),
+        Value::Number { n, places } => less(room, decimal::decimal_length(n, places)),
+        Value::Price { low, high, places } => {
+            less(room, decimal::decimal_length([low, high], places))
+        }
         Value::Words(n) => less(room, spoken::words(n).len()),
         Value::Exec { count, number, .. } => less(
             less(room, count),

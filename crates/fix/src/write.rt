@@ -93,13 +93,9 @@ fn decide(record: &[u8], header: &Session, room: usize) -> Result<Plan, Refusal>
         return Err(Refusal::BadText);
     }
     let left = inside(room, header, record[0], &parts);
-    let Some(rest) = left else {
-        return Err(Refusal::NoRoom);
-    };
+    let rest = left.ok_or(Refusal::NoRoom)?;
     let body = (room - rest) as u64;
-    if room::less_frame(left, body).is_none() {
-        return Err(Refusal::NoRoom);
-    }
+    room::less_frame(left, body).ok_or(Refusal::NoRoom)?;
     Ok(Plan { parts, body })
 }
 

@@ -16,20 +16,16 @@ fn behind_point(v: &[u8]) -> &[u8]
     }
 }
 
-// Whether a value is the ExecID of an order of this name. By places and no `strip_prefix`: the law
-// `exec_parts` parts the value at the name's length; and one `if` for each question, as in `ending`.
+// Whether a value is the ExecID of an order of this name.
+#[tactic(auto, using(crate::specs::Laws::Special::exec_other, crate::specs::Laws::Special::exec_short, crate::specs::Laws::Special::exec_unpointed, crate::specs::Laws::Special::exec_pointed), unfolding(decimal::specs::Decimal::decimal))]
 pub(crate) fn exec_fits(name: &[u8], v: &[u8]) -> bool
     ensures { result ≡ same (name.now ++ (46 ∷ digits (number_in (after 46 v.now) % word))) v.now }
 {
-    let k = name.len();
-    if v.len() <= k {
+    let Some(rest) = v.strip_prefix(name) else {
         return false;
+    };
+    match rest {
+        [b'.', number @ ..] => values::spelled(number, price::wrapped(behind_point(v))[0], 0),
+        _ => false,
     }
-    if v[k] != b'.' {
-        return false;
-    }
-    if &v[..k] != name {
-        return false;
-    }
-    values::spelled(&v[k + 1..], price::wrapped(behind_point(v))[0], 0)
 }

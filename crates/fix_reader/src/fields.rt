@@ -1,6 +1,6 @@
 // A message and the table of its fields: their tags, where their values start and how long they are.
 // Rests on specs/Laws/Cut.
-ghost use Rattle.std.specs.Prelude.{◌≡◌, ◌<◌, length, drop};
+ghost use Rattle.std.specs.Prelude.{◌≡◌, length, drop, slice_index};
 ghost use Rattle.fix_words.specs.Spelling.{fields_in};
 ghost use Rattle.fix_words.specs.Rows.{leads};
 ghost use Rattle.fix_words.specs.Message.{value_at};
@@ -16,6 +16,14 @@ pub(crate) struct Fields<'a> {
     pub ghost cut: { Cut message.now table.now.count table.now.tag table.now.at table.now.length } by { Prim.hlevel cut_props },
 }
 
+// Entry i of a table as a size, 0 behind the last.
+fn entry(t: &[u64], i: usize) -> usize
+    ensures { result ≡ slice_index t.now i }
+{
+    // By `as`: the C structure has u64 here, for which std has no `From` to a size.
+    t.get(i).copied().unwrap_or(0) as usize
+}
+
 impl<'a> Fields<'a> {
     // How many there are.
     pub(crate) fn count(&self) -> usize
@@ -27,21 +35,18 @@ impl<'a> Fields<'a> {
 
     // The tag of field i, 0 behind the last.
     pub(crate) fn tag(&self, i: usize) -> u32
-        requires { i < 32 }
         ensures { result ≡ tag_of (fields_in self.now.message.now) i }
     {
-        self.table.tag[i]
+        self.table.tag.get(i).copied().unwrap_or(0)
     }
 
     // The value of field i, no bytes behind the last.
     #[tactic(auto, using(crate::specs::Laws::Cut::part_within, crate::specs::Laws::Cut::part_value))]
     pub(crate) fn value(&self, i: usize) -> &'a [u8]
-        requires { i < 32 }
         ensures { result.now ≡ value_at (fields_in self.now.message.now) i }
     {
-        // By `as`: the C structure has u64 here, for which std has no `From` to a size.
-        let at = self.table.at[i] as usize;
-        &self.message[at..at + self.table.length[i] as usize]
+        let at = entry(&self.table.at, i);
+        &self.message[at..at + entry(&self.table.length, i)]
     }
 
     // Whether field i stands and has this tag.

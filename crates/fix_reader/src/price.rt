@@ -19,7 +19,8 @@ fn step(n: [u64; 2], c: u8) -> [u64; 2]
     [low, n[1].wrapping_mul(10).wrapping_add(over)]
 }
 
-// The number that a value's digits are, modulo 2^128: its two words.
+// The number that a value's digits are, modulo 2^128: its two words, and no u128, since decimal's `Digits` has no
+// instance for it, and wide keeps its conversions to itself.
 #[tactic(auto, using(crate::specs::Laws::Numbers::read_more, crate::specs::Laws::Numbers::read_all, crate::specs::Laws::Wrapping::step_word, crate::specs::Laws::Wrapping::step_high_lem))]
 pub(crate) fn wrapped(v: &[u8]) -> [u64; 2]
     ensures { (slice_index result 0 ≡ number_in v.now % word) × (slice_index result 1 ≡ number_in v.now / word % word) }
@@ -33,15 +34,10 @@ pub(crate) fn wrapped(v: &[u8]) -> [u64; 2]
     n
 }
 
-// Whether a value is a price of two words: spelled as one word where the upper one is 0, since most are.
+// Whether a value is a price of two words.
 #[tactic(auto, unfolding(crate::specs::Laws::Wrapping::two_low))]
 pub(crate) fn price_fits(v: &[u8]) -> bool
     ensures { result ≡ same (decimal 8 (two_low (number_in v.now))) v.now }
 {
-    let n = wrapped(v);
-    if n[1] == 0 {
-        values::spelled(v, n[0], 8)
-    } else {
-        values::spelled(v, n, 8)
-    }
+    values::spelled(v, wrapped(v), 8)
 }

@@ -101,22 +101,18 @@ fn is_whole(v: &[u8]) -> bool
 }
 
 // Whether a value is the decimal of the number that it is.
-#[tactic(auto, using(std::proofs::lemmas::List::take_rest, crate::specs::Laws::Decimals::pointed_is, crate::specs::Laws::Decimals::pointed_parts, crate::specs::Laws::Decimals::pointed_short, crate::specs::Laws::Decimals::whole_is), unfolding(decimal::specs::Decimal::decimal))]
+#[tactic(auto, using(crate::specs::Laws::Decimals::pointed_is, crate::specs::Laws::Decimals::pointed_parts, crate::specs::Laws::Decimals::pointed_short, crate::specs::Laws::Decimals::whole_is), unfolding(decimal::specs::Decimal::decimal))]
 fn is_decimal(v: &[u8], places: u8) -> bool
     ensures { result ≡ same (decimal places (number_in v.now)) v.now }
 {
     if places == 0 {
         return is_whole(v);
     }
-    let p = usize::from(places);
-    if v.len() < p + 2 {
-        return false;
+    let point = v.len().saturating_sub(usize::from(places) + 1);
+    match v.split_at(point) {
+        (whole, [b'.', rest @ ..]) => is_whole(whole) && all_digits(rest),
+        _ => false,
     }
-    let k = v.len() - (p + 1);
-    if v[k] != b'.' {
-        return false;
-    }
-    is_whole(&v[..k]) && all_digits(&v[k + 1..])
 }
 
 // Whether a value is a number of bit b, spelled with so many decimals.
@@ -135,23 +131,16 @@ pub(crate) fn is_number(v: &[u8]) -> bool
     is_whole(v) && number(v).is_some()
 }
 
-// Whether all bytes are letters and digits: format's `alnums` in fix_words' word for a list, `every`.
-fn alnums(v: &[u8]) -> bool
-    ensures { result ≡ every is_alnum v.now }
-{
-    v.iter().all(|c| format::is_alnum(*c))
-}
-
 // Whether a value is an order's name; in a reject it may be NONE. Of bytes of any length, where format's
 // `name_ok` has a `Text`.
-#[tactic(auto, using(fix_words::specs::Laws::Lists::same_list, prelude::specs::Cases::if_true, prelude::specs::Cases::if_false))]
+#[tactic(auto, using(fix_words::specs::Laws::Lists::same_list, fix_words::specs::Laws::Lists::every_list, prelude::specs::Cases::if_true, prelude::specs::Cases::if_false))]
 pub(crate) fn name_fits(kind: u8, v: &[u8]) -> bool
     ensures { result ≡ (if same v.now none_word then (kind == 17) otherwise (within 1 20 (length v.now) && every is_alnum v.now)) }
 {
     if v == b"NONE".as_slice() {
         return kind == codes::CANCEL_REJECT;
     }
-    (1..=20).contains(&v.len()) && alnums(v)
+    (1..=20).contains(&v.len()) && format::alnums(v)
 }
 
 // Whether a value is one of the fixed texts.

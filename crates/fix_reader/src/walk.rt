@@ -1,6 +1,6 @@
 // The rows of a kind walked over the fields behind the header: each takes the field that is next, if it
 // has its tag and the value is one that the writer yields. Rests on fix_table and `values`.
-ghost use Rattle.std.specs.Prelude.{◌≡◌, ◌<◌, true, List, ◌∷◌};
+ghost use Rattle.std.specs.Prelude.{◌≡◌, true, List, ◌∷◌};
 ghost use Rattle.format.specs.Codes.{within};
 ghost use Rattle.fix_words.specs.Lists.{every, is_print};
 ghost use Rattle.fix_words.specs.Rows.{Row, in_rows};
@@ -53,14 +53,14 @@ fn value_fits(kind: MessageKind, b: usize, v: &[u8], name: &[u8]) -> bool
 
 // The same of field i; behind a venue's text no words of our own stand.
 fn asked(f: &Fields, kind: MessageKind, b: usize, i: usize, seen: bool) -> bool
-    requires { (in_rows (rows kind.number) b ≡ true) × (i < 32) }
+    requires { in_rows (rows kind.number) b ≡ true }
     ensures { result ≡ asked_by kind.number (value_at (fields_in f.now.message.now) 7) seen b (value_at (fields_in f.now.message.now) i) }
 {
     value_fits(kind, b, f.value(i), f.value(7)) && !(seen && b == bit::FIXEDTEXT)
 }
 
 // One row.
-#[tactic(auto, using(crate::specs::Laws::Taking::row_taken, crate::specs::Laws::Taking::row_refused, crate::specs::Laws::Taking::row_missing, crate::specs::Laws::Taking::row_passed, crate::specs::Laws::Taking::led_within))]
+#[tactic(auto, using(crate::specs::Laws::Taking::row_taken, crate::specs::Laws::Taking::row_refused, crate::specs::Laws::Taking::row_missing, crate::specs::Laws::Taking::row_passed))]
 fn take_row(f: &Fields, kind: MessageKind, row: &fix_table::Row, t: Taken) -> Option<Taken>
     requires { in_rows (rows kind.number) row.now.bit ≡ true }
     ensures { (rs : List Row) → walk_on (fields_in f.now.message.now) kind.number result rs ≡ walk_on (fields_in f.now.message.now) kind.number (Some t) (as_row row.now ∷ rs) }

@@ -1,12 +1,13 @@
 // The bits that a message treats in a way of their own, once for the writer and the reader, as indices: of
-// a record's parts and in `Row`. Those by which code shifts are format's `bit`. Rests on nothing.
+// a record's parts and in `Row`. The numbers are those of format's `bit`, by which code shifts; by `as`, which is
+// proved to lose nothing, since a constant takes no `From`.
 
-pub const NAME: usize = 2;
+pub const NAME: usize = format::bit::NAME as usize;
 
-pub const TEXT: usize = 20;
+pub const TEXT: usize = format::bit::TEXT as usize;
 
-pub const EXEC: usize = 25;
+pub const EXEC: usize = format::bit::EXEC as usize;
 
-pub const FILLPRICE: usize = 26;
+pub const FILLPRICE: usize = format::bit::FILLPRICE as usize;
 
-pub const FIXEDTEXT: usize = 27;
+pub const FIXEDTEXT: usize = format::bit::FIXEDTEXT as usize;

@@ -29,6 +29,8 @@ pub const REDELIVERED: u32 = 21;
 
 pub const BLOCKED: u32 = 22;
 
+pub const EXEC: u32 = 25;
+
 pub const FILLPRICE: u32 = 26;
 
 pub const FIXEDTEXT: u32 = 27;

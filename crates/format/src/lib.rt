@@ -158,13 +158,13 @@ fn is_kind(kind: u8) -> bool
 fn is_joined(kind: u8, map: u32) -> bool
     ensures { result ≡ joined kind map }
 {
-    // Digits, and no `has`: two of them are added, and the definition compares the other two.
-    let texts = bits::digit_of(map, bit::TEXT) + bits::digit_of(map, bit::FIXEDTEXT);
+    let text = bits::has(map, bit::TEXT);
+    let fixed = bits::has(map, bit::FIXEDTEXT);
     match kind {
         codes::REPORT => {
-            bits::digit_of(map, bit::REASON) == bits::digit_of(map, bit::ORIGIN) && texts <= 1
+            bits::has(map, bit::REASON) == bits::has(map, bit::ORIGIN) && !(text && fixed)
         }
-        codes::CANCEL_REJECT => texts == 1,
+        codes::CANCEL_REJECT => text != fixed,
         _ => true,
     }
 }

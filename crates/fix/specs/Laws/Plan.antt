@@ -1,6 +1,6 @@
 -- What the writer's functions promise each other: a value planned before it is written, its length, and the room that is left.
 -- No promise to others rests on this. Rests on Values and Record.
-use Rattle.std.specs.Prelude.{ℕ, ◌+◌, ◌-◌, ◌*◌, ◌^◌, ◌≤◌, ◌<◌, ◌≡◌, List, [], ◌∷◌, ◌++◌, Bool, true, not, eqb, leb, length, get_or, drop, Option, None, Some}
+use Rattle.std.specs.Prelude.{ℕ, ◌+◌, ◌-◌, ◌*◌, ◌^◌, ◌≤◌, ◌<◌, ◌≡◌, List, [], ◌∷◌, ◌++◌, Bool, true, not, ◌&&◌, eqb, leb, length, get_or, drop, Option, None, Some}
 use Rattle.prelude.specs.Cases.{if◌then◌otherwise◌}
 use Rattle.prelude.specs.Below.{all_below}
 use Rattle.prelude.specs.Number.{number}
@@ -20,7 +20,7 @@ use Rattle.fix_words.specs.Values.{rows, type_of}
 use Rattle.fix_words.specs.Message.{version, is_text, inner}
 use Rattle.fix_words.specs.Record.{Session, writing_of, write_refusal}
 use Rattle.fix.specs.declared.value.Value.{Value}
-use Rattle.fix.specs.declared.value.Value.TheVariants.{Bytes, Number, Words, Exec}
+use Rattle.fix.specs.declared.value.Value.TheVariants.{Bytes, Number, Price, Words, Exec}
 use Rattle.fix.specs.declared.write.Plan.{Plan}
 
 -- ---- a record's parts, as records gives them
@@ -39,7 +39,7 @@ pub record Parted (s : List ℕ) (m : ℕ) (at ns : List ℕ) (upper : ℕ) : Ty
 abbrev pub by_form : (to n high b : ℕ) → Form → Value
 by_form to n high b Text = Bytes (to - n) n
 by_form to n high b Code = Bytes (to - 1) 1
-by_form to n high b (Decimals places) = Number n (if eqb b 26 then high otherwise 0) places
+by_form to n high b (Decimals places) = if eqb b 26 && not (eqb high 0) then Price n high places otherwise Number n places
 
 unfoldable pub plain_plan : (to n high b : ℕ) → Value
 plain_plan to n high b = by_form to n high b (form_of b)
@@ -70,7 +70,8 @@ planned k m at ns high b =
 
 unfoldable pub said_by : List ℕ → Value → List ℕ
 said_by s (Bytes f n) = span s f n
-said_by s (Number l h p) = decimal p (l + 2 ^ 64 * h)
+said_by s (Number n p) = decimal p n
+said_by s (Price l h p) = decimal p (l + 2 ^ 64 * h)
 said_by s (Words n) = get_or spoken n []
 said_by s (Exec f n l) = span s f n ++ (46 ∷ digits l)
 
@@ -80,7 +81,8 @@ shown s (Some v) = Some (said_by s v)
 
 unfoldable pub long_of : Value → ℕ
 long_of (Bytes f n) = n
-long_of (Number l h p) = length (decimal p (l + 2 ^ 64 * h))
+long_of (Number n p) = length (decimal p n)
+long_of (Price l h p) = length (decimal p (l + 2 ^ 64 * h))
 long_of (Words n) = length (get_or spoken n [])
 long_of (Exec f n l) = n + (1 + length (digits l))
 
@@ -96,7 +98,8 @@ field_shown s tag v = spellings (field_of tag (shown s v) [])
 abbrev pub reach : Option Value → ℕ
 reach None = 0
 reach (Some (Bytes f n)) = f + n
-reach (Some (Number l h p)) = 0
+reach (Some (Number n p)) = 0
+reach (Some (Price l h p)) = 0
 reach (Some (Words n)) = 0
 reach (Some (Exec f n l)) = f + n
 

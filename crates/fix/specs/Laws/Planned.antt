@@ -1,5 +1,5 @@
 -- A value planned from a record's parts is the one that the definitions say, and its bytes stand in the record. Rests on Plan.
-use Rattle.std.specs.Prelude.{ℕ, suc, ◌+◌, ◌-◌, ◌*◌, ◌^◌, ◌≤◌, ◌<◌, ◌≡◌, Bool, not, ◌||◌, leb, take, drop, Option, None, Some, refl, List, [], ◌∷◌, ◌++◌, true, false, eqb, length, get_or}
+use Rattle.std.specs.Prelude.{ℕ, suc, ◌+◌, ◌-◌, ◌*◌, ◌^◌, ◌≤◌, ◌<◌, ◌≡◌, Bool, not, ◌&&◌, ◌||◌, leb, take, drop, Option, None, Some, refl, List, [], ◌∷◌, ◌++◌, true, false, eqb, length, get_or}
 use Rattle.std.proofs.Common.{sym, ap, subst, ◌∙◌, add-one, lit<, lit≤, take_all, arith, eqb-true, ne_eqb, leb-true, length-drop}
 use Rattle.std.proofs.Math.Decide.{ℕ_discrete}
 use Rattle.std.proofs.Math.ListN.{get_or-append}
@@ -20,7 +20,7 @@ use Rattle.decimal.specs.Decimal.{digits, decimal}
 use Rattle.fix_words.specs.Values.{texts, words_of, none_word, is_plain, places, spelling, over, or_else, either, exec_id, fixed_words, value_of}
 use Rattle.fix_words.specs.Record.{field_at}
 use Rattle.fix.specs.declared.value.Value.{Value}
-use Rattle.fix.specs.declared.value.Value.TheVariants.{Bytes, Number, Words, Exec}
+use Rattle.fix.specs.declared.value.Value.TheVariants.{Bytes, Number, Price, Words, Exec}
 use Rattle.fix.specs.Laws.Plan.{Parted, plain_plan, fixed_plan, exec_plan, instead_plan, planned, said_by, shown, Sound}
 use Rattle.fix_table.specs.Table.{spoken, form_of}
 
@@ -30,9 +30,13 @@ shown_bytes : (s : List ℕ) (f n : ℕ) → shown s (Some (Bytes f n)) ≡ Some
 unfolding shown said_by
 shown_bytes s f n = refl
 
-shown_number : (s : List ℕ) (l h p : ℕ) → shown s (Some (Number l h p)) ≡ Some (decimal p (l + 2 ^ 64 * h))
+shown_number : (s : List ℕ) (n p : ℕ) → shown s (Some (Number n p)) ≡ Some (decimal p n)
 unfolding shown said_by
-shown_number s l h p = refl
+shown_number s n p = refl
+
+shown_price : (s : List ℕ) (l h p : ℕ) → shown s (Some (Price l h p)) ≡ Some (decimal p (l + 2 ^ 64 * h))
+unfolding shown said_by
+shown_price s l h p = refl
 
 shown_words : (s : List ℕ) (n : ℕ) → shown s (Some (Words n)) ≡ Some (get_or spoken n [])
 unfolding shown said_by
@@ -182,29 +186,36 @@ module _ (s : List ℕ) (m : ℕ) (at ns : List ℕ) (high : ℕ) (p : Parted s 
 
   plain_shown : (b : ℕ) → b < 32 → bit m b ≡ true → shown s (Some (plain_plan (get_or at (b + 1) 0) (get_or ns b 0) high b)) ≡ Some (spelling b (content s 0 m b))
   unfolding plain_plan form_of spelling is_plain if◌then◌otherwise◌
-  plain_shown b h e = go (is_text_bit b) refl (within side status (range b)) refl (eqb b 26) refl
+  plain_shown b h e = go (is_text_bit b) refl (within side status (range b)) refl (eqb b 26) refl (eqb high 0) refl
     where
-      go : (x : Bool) → is_text_bit b ≡ x → (y : Bool) → within side status (range b) ≡ y → (z : Bool) → eqb b 26 ≡ z
+      go : (x : Bool) → is_text_bit b ≡ x → (y : Bool) → within side status (range b) ≡ y → (z : Bool) → eqb b 26 ≡ z → (u : Bool) → eqb high 0 ≡ u
           → shown s (Some (plain_plan (get_or at (b + 1) 0) (get_or ns b 0) high b)) ≡ Some (spelling b (content s 0 m b))
-      go true t y w z q = rw (t) (shown_bytes s (get_or at (b + 1) 0 - get_or ns b 0) (get_or ns b 0) ∙ ap {B = Option (List ℕ)} Some (text_there b h t))
-      go false t true w z q = rw (t, w) (shown_bytes s (get_or at (b + 1) 0 - 1) 1 ∙ ap {B = Option (List ℕ)} Some (code_there b h t w e).0)
-      go false t false w true q =
-          let i : b ≡ 26 = eqb-true b 26 q in
-          let n : get_or ns b 0 + 2 ^ 64 * high ≡ number (content s 0 m b) = subst (λ (j : ℕ). get_or ns j 0 + 2 ^ 64 * high ≡ number (content s 0 m j)) (sym i) (large_number (rw i at e)) in
-          rw (t, w, q) (shown_number s (get_or ns b 0) high (places b) ∙ ap {B = Option (List ℕ)} (λ (j : ℕ). Some (decimal (places b) j)) n)
-      go false t false w false q =
-          let n : get_or ns b 0 + 2 ^ 64 * 0 ≡ number (content s 0 m b) = omega (arith, small_number b h t e (number_eight b h t w q)) in
-          rw (t, w, q) (shown_number s (get_or ns b 0) 0 (places b) ∙ ap {B = Option (List ℕ)} (λ (j : ℕ). Some (decimal (places b) j)) n)
+      go true t y w z q u v = rw (t) (shown_bytes s (get_or at (b + 1) 0 - get_or ns b 0) (get_or ns b 0) ∙ ap {B = Option (List ℕ)} Some (text_there b h t))
+      go false t true w z q u v = rw (t, w) (shown_bytes s (get_or at (b + 1) 0 - 1) 1 ∙ ap {B = Option (List ℕ)} Some (code_there b h t w e).0)
+      go false t false w true q u v = wide u v
+        where
+          n : get_or ns b 0 + 2 ^ 64 * high ≡ number (content s 0 m b)
+          n = subst (λ (j : ℕ). get_or ns j 0 + 2 ^ 64 * high ≡ number (content s 0 m j)) (sym (eqb-true b 26 q)) (large_number (rw (eqb-true b 26 q) at e))
+
+          wide : (u : Bool) → eqb high 0 ≡ u → shown s (Some (plain_plan (get_or at (b + 1) 0) (get_or ns b 0) high b)) ≡ Some (spelling b (content s 0 m b))
+          wide true v =
+              rw (t, w, q, v)
+              (shown_number s (get_or ns b 0) (places b) ∙ ap {B = Option (List ℕ)} (λ (j : ℕ). Some (decimal (places b) j)) (omega (arith, n, eqb-true high 0 v)))
+          wide false v = rw (t, w, q, v) (shown_price s (get_or ns b 0) high (places b) ∙ ap {B = Option (List ℕ)} (λ (j : ℕ). Some (decimal (places b) j)) n)
+      go false t false w false q u v =
+          rw (t, w, q)
+          (shown_number s (get_or ns b 0) (places b) ∙ ap {B = Option (List ℕ)} (λ (j : ℕ). Some (decimal (places b) j)) (small_number b h t e (number_eight b h t w q)))
 
   plain_sound : (b : ℕ) → b < 32 → bit m b ≡ true → Sound s (Some (plain_plan (get_or at (b + 1) 0) (get_or ns b 0) high b))
   unfolding plain_plan form_of if◌then◌otherwise◌
-  plain_sound b h e = go (is_text_bit b) refl (within side status (range b)) refl (eqb b 26) refl
+  plain_sound b h e = go (is_text_bit b) refl (within side status (range b)) refl (eqb b 26 && not (eqb high 0)) refl
     where
-      go : (x : Bool) → is_text_bit b ≡ x → (y : Bool) → within side status (range b) ≡ y → (z : Bool) → eqb b 26 ≡ z
+      go : (x : Bool) → is_text_bit b ≡ x → (y : Bool) → within side status (range b) ≡ y → (z : Bool) → eqb b 26 && not (eqb high 0) ≡ z
           → Sound s (Some (plain_plan (get_or at (b + 1) 0) (get_or ns b 0) high b))
       go true t y w z q = rw (t) (text_sound b h t)
       go false t true w z q = rw (t, w) (code_there b h t w e).1
-      go false t false w z q = rw (t, w) (omega arith)
+      go false t false w true q = rw (t, w, q) (omega arith)
+      go false t false w false q = rw (t, w, q) (omega arith)
 
   -- ---- fixed texts and the ExecID
 

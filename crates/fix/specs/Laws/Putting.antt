@@ -12,19 +12,23 @@ use Rattle.fix_words.specs.Laws.Rows.{or_right}
 use Rattle.fix_words.specs.Laws.Counting.{field_long_lem, decimal_none}
 use Rattle.fix_table.specs.Table.{spoken}
 use Rattle.fix.specs.declared.value.Value.{Value}
-use Rattle.fix.specs.declared.value.Value.TheVariants.{Bytes, Number, Words, Exec}
+use Rattle.fix.specs.declared.value.Value.TheVariants.{Bytes, Number, Price, Words, Exec}
 use Rattle.fix.specs.Laws.Plan.{said_by, shown, long_of, field_long, field_shown, Sound, rows_long, rows_shown, less_by, head_long, stamp_fields, stamp_long}
 
--- ---- the four forms of a value that stands: how long each is, and what it says
+-- ---- the five forms of a value that stands: how long each is, and what it says
 
 pub form_1 : (s : List ℕ) (v : Value) (f n : ℕ) → v ≡ Bytes f n → (long_of v ≡ n) × (said_by s v ≡ span s f n)
 unfolding long_of said_by
 form_1 s v f n e = (rw e refl, rw e refl)
 
-pub form_2 : (s : List ℕ) (v : Value) (l h p : ℕ) → v ≡ Number l h p
+pub form_2 : (s : List ℕ) (v : Value) (n p : ℕ) → v ≡ Number n p → (long_of v ≡ length (decimal p n)) × (said_by s v ≡ decimal p n)
+unfolding long_of said_by
+form_2 s v n p e = (rw e refl, rw e refl)
+
+pub form_5 : (s : List ℕ) (v : Value) (l h p : ℕ) → v ≡ Price l h p
     → (long_of v ≡ length (decimal p (l + 2 ^ 64 * h))) × (said_by s v ≡ decimal p (l + 2 ^ 64 * h))
 unfolding long_of said_by
-form_2 s v l h p e = (rw e refl, rw e refl)
+form_5 s v l h p e = (rw e refl, rw e refl)
 
 pub form_3 : (s : List ℕ) (v : Value) (n : ℕ) → v ≡ Words n → (long_of v ≡ length (get_or spoken n [])) × (said_by s v ≡ get_or spoken n [])
 unfolding long_of said_by
@@ -40,7 +44,8 @@ form_4 s v f n l e = (rw e refl, rw e refl)
 pub said_long : (s : List ℕ) (v : Value) → Sound s (Some v) → length (said_by s v) ≡ long_of v
 unfolding said_by long_of
 said_long s (Bytes f n) h = length_span s f n h
-said_long s (Number l g p) h = refl
+said_long s (Number n p) h = refl
+said_long s (Price l g p) h = refl
 said_long s (Words n) h = refl
 said_long s (Exec f n l) h = length-append (span s f n) (46 ∷ digits l) ∙ omega (arith, length_span s f n h)
 
@@ -63,17 +68,15 @@ unfolding shown field_long spellings
 shown_none s tag v e = (rw e refl, rw e refl)
 
 -- a number and a text as fields
-number_said : (s : List ℕ) (tag n : ℕ) → field_shown s tag (Some (Number n 0 0)) ≡ spellings (field tag (decimal 0 (n + 2 ^ 64 * 0)) ∷ [])
+number_said : (s : List ℕ) (tag n : ℕ) → field_shown s tag (Some (Number n 0)) ≡ spellings (field tag (decimal 0 n) ∷ [])
 unfolding shown said_by
 number_said s tag n = refl
 
-pub number_field : (s : List ℕ) (tag n : ℕ) → field_shown s tag (Some (Number n 0 0)) ≡ spellings (field tag (digits n) ∷ [])
-number_field s tag n =
-    let z : n + 2 ^ 64 * 0 ≡ n = omega arith in
-    number_said s tag n ∙ ap (λ (v : List ℕ). spellings (field tag v ∷ [])) (ap (decimal 0) z ∙ decimal_none n)
+pub number_field : (s : List ℕ) (tag n : ℕ) → field_shown s tag (Some (Number n 0)) ≡ spellings (field tag (digits n) ∷ [])
+number_field s tag n = number_said s tag n ∙ ap (λ (v : List ℕ). spellings (field tag v ∷ [])) (decimal_none n)
 
-pub number_long : (tag n : ℕ) → field_long tag (Some (Number n 0 0)) ≡ length (spellings (field tag (digits n) ∷ []))
-number_long tag n = sym (shown_long [] tag (Some (Number n 0 0)) (omega arith)) ∙ ap length (number_field [] tag n)
+pub number_long : (tag n : ℕ) → field_long tag (Some (Number n 0)) ≡ length (spellings (field tag (digits n) ∷ []))
+number_long tag n = sym (shown_long [] tag (Some (Number n 0)) (omega arith)) ∙ ap length (number_field [] tag n)
 
 text_said : (s : List ℕ) (tag n : ℕ) → field_shown s tag (Some (Bytes 0 n)) ≡ spellings (field tag (span s 0 n) ∷ [])
 unfolding shown said_by

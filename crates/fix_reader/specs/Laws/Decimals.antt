@@ -4,6 +4,7 @@ use Rattle.std.specs.Prelude.{◌≡◌, ℕ, zero, suc, ◌+◌, ◌-◌, ◌*�
 use Rattle.std.proofs.Common.{sym, ap, ◌∙◌, ⊎_elim, arith, add-one, eqb-true, eq-eqb, leb-true, ltb-true, lt-ltb, length-append, length-drop, take_at}
 use Rattle.std.proofs.Math.Decide.{dec_lt}
 use Rattle.std.proofs.Math.Seq.{split_at, get_or_at}
+use Rattle.std.proofs.lemmas.List.{take_rest}
 use Rattle.std.proofs.lemmas.Bool.{and_parts, and_from, or_cases}
 use Rattle.std.specs.Cmp.{both_ways}
 use Rattle.prelude.specs.Cases.{if_true, if_false, clash}
@@ -142,6 +143,21 @@ pub pointed_parts : (p : ℕ) (v : List ℕ) → is_pointed p v ≡ (is_whole (t
 unfolding is_pointed
 pointed_parts p v = refl
 
+-- a point, and digits behind it
+abbrev pub pointed : List ℕ → Bool
+pointed [] = false
+pointed (c ∷ s) = c == 46 && every is_digit s
+
+pointed_at : (v : List ℕ) (k : ℕ) → (slice_index v k == 46 && every is_digit (drop (suc k) v)) ≡ pointed (drop k v)
+pointed_at [] zero = refl
+pointed_at [] (suc k) = refl
+pointed_at (c ∷ v) zero = refl
+pointed_at (c ∷ v) (suc k) = pointed_at v k
+
+pub pointed_rest : (s : List ℕ) → 1 ≤ length s → slice_index s 0 ≡ 46 → pointed s ≡ every is_digit (take (length s - 1) (drop 1 s))
+pointed_rest [] h e = absurd (omega arith)
+pointed_rest (c ∷ s) h e = ap (λ (b : Bool). b && every is_digit s) (eq-eqb c 46 e) ∙ sym (ap (every is_digit) (take_rest (c ∷ s) 1))
+
 module _ (p : ℕ) (some : 0 < p) where
   -- what is written has that form
   written_pointed : (n : ℕ) → is_pointed p (decimal p n) ≡ true
@@ -187,9 +203,8 @@ module _ (p : ℕ) (some : 0 < p) where
         ∙ ap (λ (l : List ℕ). l ++ (46 ∷ b)) (back_digits a h.0)
         ∙ sym w
 
-    -- THE LAW with decimals
-    pub pointed_is : same (decimal p (number_in v)) v ≡ is_pointed p v
-    pointed_is =
+    pointed_long : same (decimal p (number_in v)) v ≡ is_pointed p v
+    pointed_long =
         both_ways (same (decimal p (number_in v)) v) (is_pointed p v)
         (λ e. ap (is_pointed p) (sym (same_true (decimal p (number_in v)) v e)) ∙ written_pointed (number_in v))
         (λ e. ap (λ (w : List ℕ). same w v) (pointed_back e) ∙ same_self v)
@@ -207,3 +222,26 @@ module _ (p : ℕ) (some : 0 < p) where
             length_low p n,
             width_some (down p n),
           ))
+
+  pointed_none : (v : List ℕ) → length v < p + 2 → is_pointed p v ≡ false
+  unfolding is_pointed
+  pointed_none v h =
+      let z : point_at p v ≡ 0 = omega arith in
+      ap (λ (j : ℕ). is_whole (take j v) && (slice_index v (point_at p v) == 46 && every is_digit (drop (point_at p v + 1) v))) z
+      ∙ ap (λ (x : Bool). x && (slice_index v (point_at p v) == 46 && every is_digit (drop (point_at p v + 1) v))) (whole_none [] refl)
+
+  -- THE LAW with decimals
+  pub pointed_is : (v : List ℕ) → same (decimal p (number_in v)) v ≡ is_pointed p v
+  pointed_is v = go (dec_lt (length v) (p + 2))
+    where
+      go : Dec (length v < p + 2) → same (decimal p (number_in v)) v ≡ is_pointed p v
+      go (yes h) = pointed_short v h ∙ sym (pointed_none v h)
+      go (no h) = pointed_long v (omega arith)
+
+  -- the same by the bytes from the point on
+  pub pointed_split : (v : List ℕ) → same (decimal p (number_in v)) v ≡ (is_whole (take (point_at p v) v) && pointed (drop (point_at p v) v))
+  pointed_split v =
+      let k : ℕ = point_at p v in
+      pointed_is v
+      ∙ pointed_parts p v
+      ∙ ap (λ (x : Bool). is_whole (take k v) && x) (ap (λ (j : ℕ). slice_index v k == 46 && every is_digit (drop j v)) (add-one k) ∙ pointed_at v k)

@@ -1,6 +1,6 @@
 -- The header's questions in the order of the code. Rests on Checks, Classes,
 -- Cut and Taking.
-use Rattle.std.specs.Prelude.{◌≡◌, ℕ, ◌<◌, ◌≤◌, Bool, true, false, not, ◌&&◌, leb, ltb, ◌⊎◌, List, [], ◌∷◌, length, ◌==◌, ◌≢◌, nat_le, nat_lt, slice_index, Option, None, Some, refl}
+use Rattle.std.specs.Prelude.{◌≡◌, ℕ, ◌≤◌, Bool, true, false, not, ◌&&◌, leb, ltb, ◌⊎◌, List, [], ◌∷◌, length, ◌==◌, ◌≢◌, nat_le, nat_lt, slice_index, Option, None, Some, refl}
 use Rattle.std.proofs.Common.{sym, ◌∙◌, inl, inr, ⊎_elim, arith, eqb-true, eq-eqb, ne_eqb, leb-true, le-leb, ap}
 use Rattle.std.proofs.Math.Bool.{and-false}
 use Rattle.std.proofs.Math.Decide.{ℕ_discrete}
@@ -139,20 +139,20 @@ module _ (s : List ℕ) (n : ℕ) (tag at len : List ℕ) (z : Cut s n tag at le
   fs = fields_in s
 
   tags_are : head_tags fs ≡ tags_in tag
-  tags_are = sym (λ i. (z.tags 0 (omega arith) i == 8) && (z.tags 1 (omega arith) i == 9 && (z.tags 2 (omega arith) i == 35 && (z.tags 3 (omega arith) i == 49
-      && (z.tags 4 (omega arith) i == 56 && (z.tags 5 (omega arith) i == 34 && z.tags 6 (omega arith) i == 52))))))
+  tags_are = sym (λ i. (z.tags 0 i == 8) && (z.tags 1 i == 9 && (z.tags 2 i == 35 && (z.tags 3 i == 49
+      && (z.tags 4 i == 56 && (z.tags 5 i == 34 && z.tags 6 i == 52))))))
 
-  text_some_at : (i : ℕ) → i < 32 → is_text (value_at fs i) ≡ nat_lt 0 (length (value_at fs i))
-  text_some_at i h = text_some (value_at fs i) (part_prints s at len z.placed i h)
+  text_some_at : (i : ℕ) → is_text (value_at fs i) ≡ nat_lt 0 (length (value_at fs i))
+  text_some_at i = text_some (value_at fs i) (part_prints s at len z.placed i)
 
-  text_at : (i : ℕ) → i < 32 → is_text (value_at fs i) ≡ nat_lt 0 (slice_index len i)
-  text_at i h = text_some_at i h ∙ ap (ltb 0) (value_long s at len z.placed i h)
+  text_at : (i : ℕ) → is_text (value_at fs i) ≡ nat_lt 0 (slice_index len i)
+  text_at i = text_some_at i ∙ ap (ltb 0) (value_long s at len z.placed i)
 
   pub header_is : headed fs ≡ (tags_in tag && (same (value_at fs 0) version && (is_type (value_at fs 2) && (is_number (value_at fs 5) && (nat_lt 0 (slice_index len 3) && (nat_lt 0 (slice_index len 4) && nat_lt 0 (slice_index len 6)))))))
   unfolding headed
   header_is =
       (λ i. tags_are i && (same (value_at fs 0) version && (within 16 20 (kind_in fs) && (same (value_at fs 2) (type_of (kind_in fs) ∷ [])
-      && (text_at 3 (omega arith) i && (text_at 4 (omega arith) i && (is_number (value_at fs 5) && text_at 6 (omega arith) i)))))))
+      && (text_at 3 i && (text_at 4 i && (is_number (value_at fs 5) && text_at 6 i)))))))
       ∙ ap (λ (b : Bool). tags_in tag && b)
       (arranged (same (value_at fs 0) version) (within 16 20 (kind_in fs)) (same (value_at fs 2) (type_of (kind_in fs) ∷ [])) (nat_lt 0 (slice_index len 3)) (nat_lt 0 (slice_index len 4)) (is_number (value_at fs 5)) (nat_lt 0 (slice_index len 6)))
 
@@ -165,14 +165,14 @@ module _ (s : List ℕ) (r : FixFields) (z : Cut s r.count r.tag r.at r.length) 
   abbrev gs : List Field
   gs = fields_in s
 
-  some_at : (i : ℕ) → i < 32 → is_text (value_at gs i) ≡ not (length (value_at gs i) == 0)
-  some_at i h = text_some_at s r.count r.tag r.at r.length z i h ∙ some_is (length (value_at gs i))
+  some_at : (i : ℕ) → is_text (value_at gs i) ≡ not (length (value_at gs i) == 0)
+  some_at i = text_some_at s r.count r.tag r.at r.length z i ∙ some_is (length (value_at gs i))
 
   kind_is : kind_headed gs ≡ asked_in_turn (tags_in r.tag) (same (value_at gs 0) version) (type_kind (value_at gs 2)) (texts_right gs)
   unfolding kind_headed headed type_kind
   kind_is =
       in_turn (head_tags gs) (same (value_at gs 0) version) (within 16 20 (kind_in gs)) (same (value_at gs 2) (type_of (kind_in gs) ∷ [])) (is_text (value_at gs 3)) (is_text (value_at gs 4)) (is_number (value_at gs 5)) (is_text (value_at gs 6)) (kind_in gs)
-      ∙ (λ i. asked_in_turn (tags_are s r.count r.tag r.at r.length z i) (same (value_at gs 0) version) (type_kind (value_at gs 2)) (some_at 3 (omega arith) i && (some_at 4 (omega arith) i && (is_number (value_at gs 5) && some_at 6 (omega arith) i))))
+      ∙ (λ i. asked_in_turn (tags_are s r.count r.tag r.at r.length z i) (same (value_at gs 0) version) (type_kind (value_at gs 2)) (some_at 3 i && (some_at 4 i && (is_number (value_at gs 5) && some_at 6 i))))
 
   pub kind_untagged : tags_in r.tag ≡ false → None ≡ kind_headed gs
   kind_untagged a = sym (kind_is ∙ (λ i. asked_in_turn (a i) (same (value_at gs 0) version) (type_kind (value_at gs 2)) (texts_right gs)))

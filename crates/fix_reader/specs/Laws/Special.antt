@@ -1,11 +1,12 @@
 -- What fits the bits that go their own way: the ExecID, LastPx of two words, and the words of our own. What a value holds is its number modulo
--- the size of its bit, so that code may let the number wrap. Rests on Fits and Wrapping.
-use Rattle.std.specs.Prelude.{◌≡◌, ℕ, zero, suc, ◌+◌, ◌*◌, ◌%◌, ◌<◌, ◌≤◌, Bool, true, false, not, ◌&&◌, ◌||◌, cond, leb, ltb, List, [], ◌∷◌, ◌++◌, length, take, drop, ◌==◌, ◌≢◌, nat_le, nat_lt, slice_index, slice_index_or, Option, None, Some, refl}
-use Rattle.std.proofs.Common.{ap, sym, ◌∙◌, drop_of_length-le, drop-cons, arith, eq-eqb, lt-ltb, le-leb, leb-true}
+-- the size of its bit, so that code may let the number wrap. Rests on Fits, Wrapping and Ending.
+use Rattle.std.specs.Prelude.{◌≡◌, ℕ, suc, ◌+◌, ◌-◌, ◌*◌, ◌%◌, ◌<◌, ◌≤◌, Bool, true, false, not, ◌&&◌, ◌||◌, cond, leb, ltb, List, [], ◌∷◌, ◌++◌, length, take, drop, ◌==◌, ◌≢◌, nat_eq, nat_le, nat_lt, slice_index, slice_index_or, Option, None, Some, refl}
+use Rattle.std.proofs.Common.{ap, sym, ◌∙◌, drop_of_length-le, drop-cons, arith, eq-eqb, ne_eqb, lt-ltb, le-leb, leb-true}
 use Rattle.std.proofs.Math.ListN.{get_or-append}
-use Rattle.std.proofs.Math.Seq.{split_at}
+use Rattle.std.proofs.lemmas.List.{take_rest}
 use Rattle.std.proofs.lemmas.Bool.{and_parts, and_from}
 use Rattle.std.specs.List.{position_or_len}
+use Rattle.std.specs.Cmp.Lexicographic.{pointwise}
 use Rattle.std.proofs.lemmas.Bool.Decides.{nat_tests}
 use Rattle.std.specs.Cmp.{both_ways}
 use Rattle.prelude.specs.Cases.{if◌then◌otherwise◌, if_true, if_false, maybe_none, maybe_some}
@@ -20,12 +21,13 @@ use Rattle.format.specs.Places.{value}
 use Rattle.fix_words.specs.Lists.{every, same, after}
 use Rattle.fix_words.specs.Values.{texts, words_of, word_number, is_plain, places, spelling, unspelled, held_in, none_word}
 use Rattle.fix_words.specs.Message.{shape_at, range_at, text_at}
-use Rattle.fix_words.specs.Laws.Lists.{every_below, below_every}
+use Rattle.fix_words.specs.Laws.Lists.{same_list, every_below, below_every}
 use Rattle.fix_words.proofs.Laws.Kinds.{right}
 use Rattle.fix_table.specs.Table.{spoken}
 use Rattle.fix_reader.specs.Laws.Numbers.{word}
 use Rattle.fix_reader.specs.Laws.Wrapping.{two_low, low_word, low_words}
 use Rattle.fix_reader.specs.Laws.Fits.{respelled, fits}
+use Rattle.fix_reader.specs.Laws.Ending.{same_turned}
 
 bytes_every : (k n : ℕ) → every (λ x. nat_lt x 256) (bytes_of k n) ≡ true
 bytes_every k n = below_every (λ x. nat_lt x 256) (bytes_of k n) (λ i h. lt-ltb (slice_index (bytes_of k n) i) 256 (bytes_of_lem k n i))
@@ -189,28 +191,54 @@ behind_none v = go (ltb (position_or_len is_point v) (length v)) refl
         let h : length v ≤ position_or_len is_point v = grind (arith, nat_tests) in
         sym (after_is v ∙ drop_of_length-le v {i = position_or_len is_point v + 1} (omega arith))
 
--- a name, a point and digits
-same_joined : (a d b e : List ℕ) (x y : ℕ) → length a ≡ length b → same (a ++ (x ∷ d)) (b ++ (y ∷ e)) ≡ (same a b && (x == y && same d e))
-same_joined [] d [] e x y l = refl
-same_joined [] d (c ∷ b) e x y l = absurd (omega arith)
-same_joined (c ∷ a) d [] e x y l = absurd (omega arith)
-same_joined (c ∷ a) d (f ∷ b) e x y l =
-    ap (λ (z : Bool). (c == f) && z) (same_joined a d b e x y (omega arith)) ∙ assoc (c == f) (same a b) (x == y && same d e)
+-- what begins with a name
+pub exec_parts : (nm d v : List ℕ) → same (nm ++ d) v ≡ (same nm (take (length nm) v) && same d (drop (length nm) v))
+exec_parts [] d v = refl
+exec_parts (x ∷ nm) d [] = refl
+exec_parts (x ∷ nm) d (y ∷ v) =
+    ap (λ (b : Bool). (x == y) && b) (exec_parts nm d v) ∙ assoc (x == y) (same nm (take (length nm) v)) (same d (drop (length nm) v))
   where
     assoc : (x y z : Bool) → (x && (y && z)) ≡ ((x && y) && z)
     assoc true y z = refl
     assoc false y z = refl
 
-pub exec_parts : (nm d v : List ℕ) → length nm < length v
-    → same (nm ++ (46 ∷ d)) v ≡ (same nm (take (length nm) v) && (46 == slice_index v (length nm) && same d (drop (suc (length nm)) v)))
-exec_parts nm d v h =
-    ap (same (nm ++ (46 ∷ d))) (split_at v (length nm) 0 h)
-    ∙ same_joined nm d (take (length nm) v) (drop (suc (length nm)) v) 46 (slice_index v (length nm)) (sym (taken (length nm) v h))
-  where
-    taken : (n : ℕ) (v : List ℕ) → n < length v → length (take n v) ≡ n
-    taken zero v h = refl
-    taken (suc n) [] h = absurd (omega arith)
-    taken (suc n) (x ∷ v) h = ap suc (taken n v (omega arith))
+module _ (nm d v : List ℕ) where
+  exec_told : (b : Bool) → pointwise nat_eq (take (length nm) v) nm ≡ b → same (nm ++ d) v ≡ (b && same d (drop (length nm) v))
+  exec_told b e =
+      exec_parts nm d v
+      ∙ ap (λ (b : Bool). b && same d (drop (length nm) v)) (same_turned nm (take (length nm) v) ∙ sym (same_list (take (length nm) v) nm) ∙ e)
+
+  pub exec_other : pointwise nat_eq (take (length nm) v) nm ≡ false → same (nm ++ d) v ≡ false
+  exec_other e = exec_told false e
+
+  pub exec_behind : pointwise nat_eq (take (length nm) v) nm ≡ true → same (nm ++ d) v ≡ same d (drop (length nm) v)
+  exec_behind e = exec_told true e
+
+-- a name, a point and digits, by the bytes s behind the name
+module _ (nm d v s : List ℕ) (e : pointwise nat_eq (take (length nm) v) nm ≡ true) (q : s ≡ drop (length nm) v) where
+  behind : same (nm ++ (46 ∷ d)) v ≡ same (46 ∷ d) s
+  behind = exec_behind nm (46 ∷ d) v e ∙ ap (same (46 ∷ d)) (sym q)
+
+  pub exec_short : length s < 1 → same (nm ++ (46 ∷ d)) v ≡ false
+  exec_short h = behind ∙ go s h
+    where
+      go : (s : List ℕ) → length s < 1 → same (46 ∷ d) s ≡ false
+      go [] h = refl
+      go (c ∷ s) h = absurd (omega arith)
+
+  pub exec_unpointed : (slice_index s 0 ≢ 46) → same (nm ++ (46 ∷ d)) v ≡ false
+  exec_unpointed h = behind ∙ go s h
+    where
+      go : (s : List ℕ) → (slice_index s 0 ≢ 46) → same (46 ∷ d) s ≡ false
+      go [] h = refl
+      go (c ∷ s) h = ap (λ (b : Bool). b && same d s) (ne_eqb 46 c (λ z. h (sym z)))
+
+  pub exec_pointed : 1 ≤ length s → slice_index s 0 ≡ 46 → same (nm ++ (46 ∷ d)) v ≡ same d (take (length s - 1) (drop 1 s))
+  exec_pointed h z = behind ∙ go s h z
+    where
+      go : (s : List ℕ) → 1 ≤ length s → slice_index s 0 ≡ 46 → same (46 ∷ d) s ≡ same d (take (length s - 1) (drop 1 s))
+      go [] h z = absurd (omega arith)
+      go (c ∷ s) h z = ap (λ (b : Bool). b && same d s) (eq-eqb 46 c (sym z)) ∙ sym (ap (same d) (take_rest (c ∷ s) 1))
 
 -- ---- every byte
 

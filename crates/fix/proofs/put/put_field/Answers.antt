@@ -6,7 +6,7 @@ use Rattle.fix_words.specs.Laws.Counting.{field_long_lem, field_put}
 use Rattle.fix.specs.Laws.Plan.{said_by, long_of, Sound}
 use Rattle.fix.specs.Laws.Putting.{said_long, shown_some, shown_none, field_some}
 use Rattle.fix.proofs.put.put_field.Goals as goal
-use Rattle.fix.proofs.put.put_field.Goals.{After-put_digits-a, In-Some}
+use Rattle.fix.proofs.put.put_field.Goals.{After-put_decimal-a, In-Some}
 
 -- all four parts have room
 room : (c : In-Some) → let a = c.args in a.at + length (decimal 0 a.tag) + 1 + long_of c.in-Some.value + 1 ≤ length a.out.now
@@ -16,8 +16,8 @@ sound : (c : In-Some) → Sound c.args.s.now (Some c.in-Some.value)
 sound c = rw c.in-Some.is at c.requires.0
 
 -- after the tag: the length of the buffer with = behind it
-after_tag : (c : After-put_digits-a) → let p = c.put_digits-a in length (set p.new.out p.result 61) ≡ length c.args.out.now
-after_tag c = let p = c.put_digits-a in length-set p.new.out p.result 61 ∙ p.auto.out
+after_tag : (c : After-put_decimal-a) → let p = c.put_decimal-a in length (set p.new.out p.result 61) ≡ length c.args.out.now
+after_tag c = let p = c.put_decimal-a in length-set p.new.out p.result 61 ∙ p.auto.out
 
 pub returns-in_default : goal.returns-in_default
 returns-in_default c =
@@ -28,17 +28,17 @@ returns-in_default c =
 pub put_value-b-requires : goal.put_value-b-requires
 put_value-b-requires c =
     let s = (goal.at.put_value-b-requires c).In-Some in
-    (sound s, omega (arith, room s, c.put_digits-a.ensures.0, after_tag (goal.at.put_value-b-requires c).After-put_digits-a))
+    (sound s, omega (arith, room s, c.put_decimal-a.ensures.0, after_tag (goal.at.put_value-b-requires c).After-put_decimal-a))
 
 pub bounds-out-b : goal.bounds-out-b
 bounds-out-b c =
     let p = c.put_value-b in
-    omega (arith, room (goal.at.bounds-out-b c).In-Some, c.put_digits-a.ensures.0, after_tag (goal.at.bounds-out-b c).After-put_digits-a, p.ensures.0, p.auto.out)
+    omega (arith, room (goal.at.bounds-out-b c).In-Some, c.put_decimal-a.ensures.0, after_tag (goal.at.bounds-out-b c).After-put_decimal-a, p.ensures.0, p.auto.out)
 
 pub returns : goal.returns
 returns c =
     let p = c.put_value-b in
-    let q = c.put_digits-a in
+    let q = c.put_decimal-a in
     let a = c.args in
     let w = c.in-Some.value in
     let v : List ℕ = said_by a.s.now w in

@@ -10,7 +10,11 @@ returns-in-Bytes c = rw c.in-Bytes.is c.less.ensures
 
 pub returns-in-Number : goal.returns-in-Number
 unfolding long_of
-returns-in-Number c = rw c.in-Number.is (rw c.number_length.ensures at c.less-in-Number.ensures)
+returns-in-Number c = rw c.in-Number.is (rw c.decimal_length.ensures.0 at c.less-in-Number.ensures)
+
+pub returns-in-Price : goal.returns-in-Price
+unfolding long_of
+returns-in-Price c = rw c.in-Price.is (rw c.decimal_length-in-Price.ensures.0 at c.less-in-Price.ensures)
 
 pub returns-in-Words : goal.returns-in-Words
 unfolding long_of
@@ -19,4 +23,4 @@ returns-in-Words c = rw c.in-Words.is (rw c.words.ensures at c.less-in-Words.ens
 pub returns-in-Exec : goal.returns-in-Exec
 unfolding long_of
 returns-in-Exec c =
-    rw (c.in-Exec.is, ← less_more c.args.room c.in-Exec.count _, ← c.less-in-Exec.ensures, ← decimal_none c.in-Exec.number, ← c.decimal_length.ensures.0) c.less-in-Exec-2.ensures
+    rw (c.in-Exec.is, ← less_more c.args.room c.in-Exec.count _, ← c.less-in-Exec.ensures, ← decimal_none c.in-Exec.number, ← c.decimal_length-in-Exec.ensures.0) c.less-in-Exec-2.ensures

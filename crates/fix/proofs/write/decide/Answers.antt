@@ -1,6 +1,6 @@
 -- `fix::write::decide`: the questions in their order. Assumes nothing.
-use Rattle.std.proofs.Common.{leb-true, leb-false, ◌≡◌, sym, ap, ◌∙◌, List, true, not, ℕ, ◌+◌, ◌-◌, ◌≤◌, arith, leb, length, Some}
-use Rattle.std.specs.Option.{is_some}
+use Rattle.std.proofs.Common.{leb-true, leb-false, ◌≡◌, sym, ap, ◌∙◌, List, true, ℕ, ◌+◌, ◌-◌, ◌≤◌, arith, leb, length, Option, None, Some, Err}
+use Rattle.std.specs.Option.{is_some, ok_or}
 use Rattle.std.proofs.lemmas.Result.{err_from_is_err_and}
 use Rattle.format.specs.Codes.{within}
 use Rattle.format.specs.Places.{kind_at}
@@ -12,7 +12,7 @@ use Rattle.fix_words.specs.Record.{Session, writing_of}
 use Rattle.fix.specs.Laws.Plan.{Parted, less_by, frame_long, inner_long}
 use Rattle.fix.specs.Laws.Whole.{room_some, room_none, fit_or_not, whole_long, inner_long_lem, answer_parts, answer_9, answer_10, answer_0, whole_parted, whole_kind}
 use Rattle.fix.proofs.write.decide.Goals as goal
-use Rattle.fix.proofs.write.decide.Goals.{After-is_none, In_ok-parts, In-Some, Start}
+use Rattle.fix.proofs.write.decide.Goals.{After-less_frame, In_ok-parts, In_ok-rest, Start}
 
 abbrev src : Start → List ℕ
 src s = s.args.«record».now
@@ -47,23 +47,30 @@ inner_is e =
 whole_is : (e : In_ok-parts) → length (bytes_for (writing_of (src (begun e)) (told (begun e)))) ≡ long e + frame_long (long e)
 whole_is e = whole_long (writing_of (src (begun e)) (told (begun e))) ∙ (λ i. inner_is e i + frame_long (inner_is e i))
 
-abbrev els : In-Some → In_ok-parts
-els c = (goal.at.In-Some c).In_ok-parts
+-- what `ok_or` refuses with
+refused : {T E : Type 0} (o : Option T) (e f : E) → Err e ≡ ok_or o f → e ≡ f
+refused None e f q = cc
+refused (Some x) e f q = cc
+
+abbrev els : In_ok-rest → In_ok-parts
+els c = (goal.at.In_ok-rest c).In_ok-parts
 
 -- the room behind what 9 counts, and its length
-left_is : (c : In-Some) → (long (els c) ≤ c.args.room) × (c.in-Some.rest ≡ c.args.room - long (els c))
-left_is c = room_some c.args.room (long (els c)) c.in-Some.rest (sym c.inside-left.ensures ∙ c.in-Some.is)
+left_some : (c : In_ok-rest) → c.inside-left.result ≡ Some c.in_ok-rest.rest
+left_some c = c.in_ok-rest.ensures.ok_part
 
-body_is : (c : In-Some) → c.args.room - c.in-Some.rest ≡ long (els c)
+left_is : (c : In_ok-rest) → (long (els c) ≤ c.args.room) × (c.in_ok-rest.rest ≡ c.args.room - long (els c))
+left_is c = room_some c.args.room (long (els c)) c.in_ok-rest.rest (sym c.inside-left.ensures ∙ left_some c)
+
+body_is : (c : In_ok-rest) → c.args.room - c.in_ok-rest.rest ≡ long (els c)
 body_is c = omega (arith, (left_is c).0, (left_is c).1)
 
 -- whether the frame fits behind it
-framed : (c : After-is_none) → let s = (goal.at.After-is_none c).In-Some in leb (frame_long (long (els s))) c.in-Some.rest ≡ not c.is_none.result
+framed : (c : After-less_frame) → let s = (goal.at.After-less_frame c).In_ok-rest in is_some c.less_frame.result ≡ leb (frame_long (long (els s))) c.in_ok-rest.rest
 framed c =
-    let s = (goal.at.After-is_none c).In-Some in
-    sym (fit_or_not c.in-Some.rest (frame_long (long (els s))))
-    ∙ sym (ap is_some (c.less_frame.ensures ∙ ap (λ (n : ℕ). less_by (Some c.in-Some.rest) (frame_long n)) (body_is s)))
-    ∙ c.is_none.ensures
+    let s = (goal.at.After-less_frame c).In_ok-rest in
+    ap is_some (c.less_frame.ensures ∙ (λ i. less_by (left_some s i) (frame_long (body_is s i))))
+    ∙ fit_or_not c.in_ok-rest.rest (frame_long (long (els s)))
 
 pub returns-in_err-parts-clause-err : goal.returns-in_err-parts-clause-err
 returns-in_err-parts-clause-err c =
@@ -84,30 +91,36 @@ returns-then-not-texted-clause-err c =
 pub bounds-record-0 : goal.bounds-record-0
 bounds-record-0 c = omega (arith, (kind (goal.at.bounds-record-0 c).In_ok-parts).1)
 
-pub returns-in_default-clause-err : goal.returns-in_default-clause-err
-returns-in_default-clause-err c =
-    let e = (goal.at.returns-in_default-clause-err c).In_ok-parts in
+pub returns-in_err-rest-clause-err : goal.returns-in_err-rest-clause-err
+returns-in_err-rest-clause-err c =
+    let e = (goal.at.returns-in_err-rest-clause-err c).In_ok-parts in
     let s = begun e in
-    let l = room_none s.args.room (long e) (sym c.inside-left.ensures ∙ c.in_default.is) in
-    sym (answer_10 (src s) (told s) s.args.room (zero e) (sym c.texted.ensures ∙ c.if-not-texted.false) (omega (arith, l, whole_is e)))
+    let p = err_from_is_err_and c.from_residual-in_err-rest.result c.from_residual-in_err-rest.ensures.1 in
+    let l = room_none s.args.room (long e) (sym c.inside-left.ensures ∙ c.in_err-rest.ensures.ok_part) in
+    rw (p.1, p.2, refused _ _ _ c.in_err-rest.ensures.value)
+    (sym (answer_10 (src s) (told s) s.args.room (zero e) (sym c.texted.ensures ∙ c.if-not-texted.false) (omega (arith, l, whole_is e))))
 
 pub overflow_sub-body : goal.overflow_sub-body
-overflow_sub-body c = omega (arith, (left_is c).0, (left_is c).1)
+overflow_sub-body c =
+    let l = left_is (goal.at.overflow_sub-body c).In_ok-rest in
+    omega (arith, l.0, l.1)
 
-pub returns-then-is_none-clause-err : goal.returns-then-is_none-clause-err
-returns-then-is_none-clause-err c =
-    let b = (goal.at.returns-then-is_none-clause-err c).In-Some in
+pub returns-in_err-ok_or-clause-err : goal.returns-in_err-ok_or-clause-err
+returns-in_err-ok_or-clause-err c =
+    let b = (goal.at.returns-in_err-ok_or-clause-err c).In_ok-rest in
     let e = els b in
     let s = begun e in
-    let l = leb-false (frame_long (long e)) c.in-Some.rest (framed (goal.at.returns-then-is_none-clause-err c).After-is_none ∙ ap not c.if-is_none.true) in
-    sym (answer_10 (src s) (told s) s.args.room (zero e) (sym c.texted.ensures ∙ c.if-not-texted.false) (omega (arith, l, whole_is e, (left_is b).0, (left_is b).1)))
+    let p = err_from_is_err_and c.from_residual-in_err-ok_or.result c.from_residual-in_err-ok_or.ensures.1 in
+    let l = leb-false (frame_long (long e)) c.in_ok-rest.rest (sym (framed (goal.at.returns-in_err-ok_or-clause-err c).After-less_frame) ∙ sym c.in_err-ok_or.ensures.variant) in
+    rw (p.1, p.2, refused _ _ _ c.in_err-ok_or.ensures.value)
+    (sym (answer_10 (src s) (told s) s.args.room (zero e) (sym c.texted.ensures ∙ c.if-not-texted.false) (omega (arith, l, whole_is e, (left_is b).0, (left_is b).1))))
 
 pub returns-clause-ok : goal.returns-clause-ok
 returns-clause-ok c =
-    let b = (goal.at.returns-clause-ok c).In-Some in
+    let b = (goal.at.returns-clause-ok c).In_ok-rest in
     let e = els b in
     let s = begun e in
-    let l = leb-true (frame_long (long e)) c.in-Some.rest (framed (goal.at.returns-clause-ok c).After-is_none ∙ ap not c.if-is_none.false) in
+    let l = leb-true (frame_long (long e)) c.in_ok-rest.rest (sym (framed (goal.at.returns-clause-ok c).After-less_frame) ∙ sym c.in_ok-ok_or.ensures.variant) in
     record {
       taken = answer_0 (src s) (told s) s.args.room (zero e) (sym c.texted.ensures ∙ c.if-not-texted.false) (omega (arith, l, whole_is e, (left_is b).0, (left_is b).1));
       parted = parted e;

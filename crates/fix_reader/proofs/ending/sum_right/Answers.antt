@@ -7,5 +7,5 @@ use Rattle.fix_reader.proofs.ending.sum_right.Goals as goal
 pub slice_bounds-is_sum-end : goal.slice_bounds-is_sum-end
 slice_bounds-is_sum-end c =
     let f = c.args.f.now in
-    let p = part_within f.message.now f.table.now.at f.table.now.length f.cut.placed c.args.i (omega (arith, c.count.ensures, f.cut.count, f.cut.few)) in
+    let p = part_within f.message.now f.table.now.at f.table.now.length f.cut.placed c.args.i in
     omega (arith, p, length-take-le (get_or f.table.now.at c.args.i 0 - 3) f.message.now)
