@@ -19,7 +19,7 @@ need_rt() {
     command -v rt >/dev/null || die "needs 'rt', the build and proof command of the Rattle kit (compiler and prover, Linux with glibc), on the path: README.md says more"
 }
 
-# need_library NAME..: these libraries must be there. A comparison without its library would hold a stand-in against itself.
+# need_library NAME..: these libraries must be there. A comparison without its library would compare a stand-in with itself.
 need_library() {
     local library
     for library in "$@"; do

@@ -1,5 +1,5 @@
 //! Links the static libraries that `tools/staticlib` writes: `gateway` for the feature `book`, `fix` for the feature `fix`. They
-//! stand in `target/staticlib` of the repository, or in the folder that `JUBAFIYE_LIB` names. Where one is missing, the build
+//! stand in `target/staticlib` of the repository, or in the folder that `JUBAFIYE_LIB` names. If one is missing, the build
 //! ends here with one message and never reaches the linker.
 //!
 //! What is linked is a copy in which each function begins with `jubafiye_` (`host/prefix`): the library's own names, `check` or

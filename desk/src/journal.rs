@@ -208,7 +208,7 @@ impl Journal {
         Ok(Self { db, now: Now { book, seq: 0, sum: first, snapshot: 0 }, stopped: false })
     }
 
-    /// Opens a journal: the last snapshot is taken up and the events behind it are run again, each answer held against the one that
+    /// Opens a journal: the last snapshot is taken up and the events behind it are run again, each answer compared with the one that
     /// was kept. What may not have been handed over before is marked and settled: see [`Journal::outbox`].
     ///
     /// ```
@@ -362,7 +362,7 @@ impl Journal {
         rows.map(outgoing).collect()
     }
 
-    /// Hands each message of the outbox to `send`, in order, and notes those that it took. Where it fails, those before are noted and
+    /// Hands each message of the outbox to `send`, in order, and notes those that it took. If it fails, those before are noted and
     /// the rest stays. Gives how many were handed over.
     /// ```
     /// use desk::{Error, Journal};
@@ -436,7 +436,7 @@ impl Journal {
         self.now.book.setting()
     }
 
-    /// Runs a step in one transaction. With an error the book is what it was; where the disk may have taken the step all the same,
+    /// Runs a step in one transaction. With an error the book is what it was; if the disk may have taken the step all the same,
     /// the journal stops.
     fn write<T>(&mut self, step: impl FnOnce(&mut Step<'_>) -> Result<T, Error>) -> Result<T, Error> {
         if self.stopped {
@@ -451,7 +451,7 @@ impl Journal {
         done
     }
 
-    /// Runs the events behind the snapshot again; holds every event's sum, and each answer that is run against the one kept.
+    /// Runs the events behind the snapshot again; checks every event's sum, and compares each answer that is run with the one kept.
     fn replay(&mut self) -> Result<(), Error> {
         let now = &mut self.now;
         let mut rows = self.db.prepare("SELECT seq, record, refusal, answer, sum FROM event ORDER BY seq")?;
@@ -515,7 +515,7 @@ struct Step<'a> {
     now: &'a mut Now,
 }
 
-/// Runs a step in one transaction, with a snapshot where one is due.
+/// Runs a step in one transaction, with a snapshot if one is due.
 fn commit<T>(
     db: &mut Connection,
     now: &mut Now,
@@ -641,7 +641,7 @@ fn known(db: &Connection) -> Result<(), Error> {
     }
 }
 
-/// The last snapshot: its number and its book, and the sum that the first event is chained to. Every snapshot's sum is held.
+/// The last snapshot: its number and its book, and the sum that the first event is chained to. Every snapshot's sum is checked.
 fn last_snapshot(db: &Connection) -> Result<(u64, Book, u64), Error> {
     let mut rows = db.prepare("SELECT seq, layout, book, sum FROM snapshot ORDER BY seq")?;
     let mut rows = rows.query([])?;

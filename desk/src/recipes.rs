@@ -19,7 +19,7 @@
 use jubafiye::{Book, Event, ExecType, OrdStatus, Stage, VenueReport};
 
 /// An order that the venue no longer knows (alarm 4), once a person has decided that it is done there: a report of the venue's that
-/// cancels it with what was filled so far. None where the book has no such order or it is done already.
+/// cancels it with what was filled so far. None if the book has no such order or it is done already.
 ///
 /// ```
 /// use jubafiye::{Book, Booking, Event, OrdStatus, Qty, Side};

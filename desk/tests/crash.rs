@@ -1,5 +1,5 @@
 //! A worker that takes events and hands messages over is killed, thousands of times: at every write of a run, half-way through it, with
-//! and without what was not synced, and at random. After each kill the journal is held against what was acknowledged and what went out.
+//! and without what was not synced, and at random. After each kill the journal is compared with what was acknowledged and what went out.
 //!
 //! `cargo test --test crash` is the short form, `cargo test --test crash -- --long` the other.
 
@@ -261,7 +261,7 @@ fn message(record: &[u8]) -> Message {
     Answer::read(&[&length[..], &[1, 0, 0], record].concat()).unwrap().messages.remove(0)
 }
 
-/// Holds the journal against what was acknowledged and what went out.
+/// Compares the journal with what was acknowledged and what went out.
 fn verify(folder: &Path, count: &mut Count) {
     let journal =
         Journal::read(file(folder, "journal")).unwrap_or_else(|why| panic!("{why}: {}", folder.display()));

@@ -106,7 +106,7 @@ impl fmt::Display for Answer {
     }
 }
 
-/// The bytes of the answer at the front of a buffer, where the buffer has as many as it says.
+/// The bytes of the answer at the front of a buffer, if the buffer has as many as it says.
 pub(crate) fn whole(buffer: &[u8]) -> Option<&[u8]> {
     let [low, high, ..] = *buffer else { return None };
     buffer.get(..usize::from(u16::from_le_bytes([low, high])))

@@ -1,5 +1,5 @@
-//! Which ClOrdID stands for which order: the chain of a client's ClOrdID back to the first; and the links of a book from before
-//! they were stored. Rests on entries, layout and book.
+//! Which ClOrdID stands for which order: the chain of a client's ClOrdID back to the first; and the links of a book older than
+//! those. Rests on entries, layout and book.
 
 use crate::book::Book;
 use crate::entries::{self, BookBytes, CHAIN_ENTRY, REQUESTS};
@@ -81,7 +81,7 @@ pub struct ChainEntry {
 shown!(ChainEntry { cl_ord_id as text, outcome });
 
 impl ChainEntry {
-    /// The entry at the front of some bytes; none where they are no entry.
+    /// The entry at the front of some bytes; none if they are no entry.
     ///
     /// ```
     /// use jubafiye::{ChainEntry, Outcome, CHAIN_ENTRY_BYTES};

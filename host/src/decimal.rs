@@ -25,7 +25,7 @@ pub struct Qty(
     pub u64,
 );
 
-/// A net quantity: a count of 1/10,000 with a sign, below 0 where more was sold than bought.
+/// A net quantity: a count of 1/10,000 with a sign, below 0 if more was sold than bought.
 ///
 /// As text it is a decimal number, shown exactly.
 ///
@@ -66,7 +66,7 @@ macro_rules! counted {
     ($($name:ident: $count:ident, $one:literal)*) => {
         $(
             impl $name {
-                /// The sum of two, where the bits hold it.
+                /// The sum of two, if the bits hold it.
                 ///
                 /// ```
                 #[doc = concat!("# use jubafiye::", stringify!($name), ";")]
@@ -81,7 +81,7 @@ macro_rules! counted {
                     }
                 }
 
-                /// The first less the second, where the bits hold it.
+                /// The first less the second, if the bits hold it.
                 ///
                 /// ```
                 #[doc = concat!("# use jubafiye::", stringify!($name), ";")]
@@ -96,7 +96,7 @@ macro_rules! counted {
                 }
             }
 
-            /// The sum, or the largest that the bits hold where they do not hold it.
+            /// The sum, or the largest that the bits hold if they do not hold it.
             impl Sum for $name {
                 fn sum<I: Iterator<Item = Self>>(all: I) -> Self {
                     all.fold(Self::default(), |sum, one| Self(sum.0.saturating_add(one.0)))
@@ -282,7 +282,7 @@ impl fmt::Display for Price {
     }
 }
 
-/// The count that a text says; `u128::MAX` where 128 bits do not hold it.
+/// The count that a text says; `u128::MAX` if 128 bits do not hold it.
 fn read(text: &str, decimals: usize) -> Result<u128, DecimalError> {
     let point = text.find('.');
     let other = text.char_indices().find(|&(at, c)| !c.is_ascii_digit() && point != Some(at));

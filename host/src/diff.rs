@@ -24,9 +24,9 @@ pub struct Change {
     pub record: String,
     /// The field, by its name in docs/LAYOUT.md.
     pub field: &'static str,
-    /// Its value in the first book; none where the first has not that record.
+    /// Its value in the first book; none if the first does not have that record.
     pub before: Option<String>,
-    /// Its value in the second book; none where the second has not that record.
+    /// Its value in the second book; none if the second does not have that record.
     pub after: Option<String>,
 }
 
@@ -84,7 +84,7 @@ impl Book {
     }
 }
 
-/// The same record of two books, each where the book has it.
+/// The same record of two books, none for a book that does not have it.
 type Both<'a> = [Option<(&'a BookBytes, Raw<'a>)>; 2];
 
 /// A record's title: its name, of the first book that has it.

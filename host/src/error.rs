@@ -278,7 +278,7 @@ pub enum Error {
 }
 
 impl Error {
-    /// The number that the library returned: the refusal's, or 0 where the event was taken.
+    /// The number that the library returned: the refusal's, or 0 if the event was taken.
     ///
     /// ```
     /// # use jubafiye::{Error, Refusal};
@@ -291,7 +291,7 @@ impl Error {
         }
     }
 
-    /// The refusal, where the event was not taken.
+    /// The refusal, if the event was not taken.
     /// ```
     /// # use jubafiye::{Error, Refusal};
     /// assert_eq!(Error::Refused(Refusal::Full).refusal(), Some(Refusal::Full));

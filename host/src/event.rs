@@ -38,7 +38,7 @@ pub struct Booking<'a> {
     pub ord_type: OrdType,
     /// OrderQty(38).
     pub qty: Qty,
-    /// Price(44), exactly where the type is limit.
+    /// Price(44), exactly if the type is limit.
     pub price: Option<Price>,
     /// TimeInForce(59), if the client named one.
     pub time_in_force: Option<TimeInForce>,
@@ -109,11 +109,11 @@ pub struct Replace<'a> {
     pub qty: Qty,
     /// The host's risk verdict on the new terms.
     pub verdict: Result<(), RiskReject>,
-    /// The new OrdType(40); the order's where there is none.
+    /// The new OrdType(40); the order's if there is none.
     pub ord_type: Option<OrdType>,
-    /// The new Price(44), exactly where the type is then limit.
+    /// The new Price(44), exactly if the type is then limit.
     pub price: Option<Price>,
-    /// The new TimeInForce(59); the order's where there is none.
+    /// The new TimeInForce(59); the order's if there is none.
     pub time_in_force: Option<TimeInForce>,
     /// Whether an operator blocked the client: a replace may then not raise the quantity.
     pub blocked: bool,

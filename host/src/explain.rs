@@ -1,5 +1,5 @@
 //! Why a book is refused: the rules of docs/SCOPE.md, Rules, decided here a second time, with the place where each is broken. What
-//! the library's `check` says is what counts; a test holds this against it. Rests on layout, kinds, read and fields.
+//! the library's `check` says is what counts; a test compares this with it. Rests on layout, kinds, read and fields.
 
 use std::fmt;
 
@@ -67,7 +67,7 @@ impl fmt::Display for Broken {
     }
 }
 
-/// The rules that some bytes break as a book, in the order of docs/SCOPE.md; none exactly where `Book::from_bytes` takes them. It needs
+/// The rules that some bytes break as a book, in the order of docs/SCOPE.md; none exactly if `Book::from_bytes` takes them. It needs
 /// no library.
 ///
 /// ```
@@ -153,7 +153,7 @@ impl<'a> Look<'a> {
         self.note(within(header::REQUESTS, REQUESTS), Rule::Ranges, "header".into(), raw, header::REQUESTS);
     }
 
-    /// The ranges of an order's names and codes, and its name against the others.
+    /// The ranges of an order's names and codes, and that no other order has its name.
     fn order(&mut self, index: usize) {
         let raw = self.raw_order(index);
         let texts = [
@@ -228,7 +228,7 @@ impl<'a> Look<'a> {
         self.of_order(!is_done(raw), Rule::Done, index, order::STAGE);
     }
 
-    /// The request that a link of an order leads to, where it is the order's own.
+    /// The request that a link of an order leads to, if it is the order's own.
     fn own(&self, index: usize, spot: Spot) -> Option<Raw<'a>> {
         let link = self.raw_order(index).link(spot).filter(|&link| link < self.requests())?;
         let request = self.raw_request(link);
@@ -288,7 +288,7 @@ impl<'a> Look<'a> {
         self.note(right, Rule::OpenQuantity, format!("client {client} (word {index})"), word, OPEN);
     }
 
-    /// The ranges of a request, and its ClOrdIDs against the others'.
+    /// The ranges of a request, and that no other request has its ClOrdIDs.
     fn request(&mut self, index: usize) {
         let raw = self.raw_request(index);
         let kind = raw.byte(request::KIND);
@@ -375,7 +375,7 @@ pub(crate) fn origin(book: &BookBytes, index: usize) -> Option<u16> {
     (0..index).find(own).and_then(|index| u16::try_from(index.saturating_add(1)).ok())
 }
 
-/// The client of the order at an index, and what the order leaves open: nothing where it is done or done for the day.
+/// The client of the order at an index, and what the order leaves open: nothing if it is done or done for the day.
 pub(crate) fn leaves(book: &BookBytes, index: usize) -> (u16, u64) {
     let order = layout::order(book, index);
     let nothing = OrdStatus::from_code(order.byte(order::STATUS)).is_some_and(OrdStatus::leaves_nothing);

@@ -134,7 +134,7 @@ pub fn to_vec(record: &[u8], header: &Header<'_>) -> Result<Vec<u8>, Refusal> {
 
 /// The records of an answer's messages, as [`write()`] takes them, for a host that reads no types; [`outgoing`] has both. An
 /// answer's messages have no lengths of their own, and the library says where each stands. Refused with [`Refusal::Record`] or
-/// [`Refusal::Range`] where the bytes are no answer.
+/// [`Refusal::Range`] if the bytes are no answer.
 ///
 /// ```
 /// # use jubafiye::{fix, Refusal};

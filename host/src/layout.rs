@@ -1,5 +1,5 @@
 //! The book's bytes (docs/LAYOUT.md): where each field stands, under its name there. The numbers stand here and nowhere else in the
-//! crate; `tests/layout.rs` and `tests/explain.rs` hold them against the library. Rests on nothing.
+//! crate; `tests/layout.rs` and `tests/explain.rs` compare them with the library. Rests on nothing.
 
 /// The version of the book's layout (docs/LAYOUT.md, Version). A book's bytes do not say theirs: a store keeps this number beside them.
 ///
@@ -144,7 +144,7 @@ pub(crate) mod request {
 /// The word of an order's place: its client's open quantity.
 pub(crate) const OPEN: Spot = Spot { at: 0, bytes: OPEN_BYTES, name: "open quantity", shape: Shape::Qty };
 
-/// A text as it stands: cut at 32 bytes where its length runs over.
+/// A text as it stands: cut at 32 bytes if its length runs over.
 #[derive(Clone, Copy, PartialEq, Eq)]
 pub(crate) struct Text<'a> {
     pub(crate) text: &'a [u8],

@@ -22,7 +22,7 @@ macro_rules! listed {
                 match self { $(Self::$variant => $byte),* }
             }
 
-            /// The value of a byte, where the list has it.
+            /// The value of a byte, if the list has it.
             #[doc = concat!("[`", stringify!($name), "`] has an example.")]
             pub const fn $from(byte: u8) -> Option<Self> {
                 match byte { $($byte => Some(Self::$variant),)* _ => None }

@@ -178,7 +178,7 @@ impl<B: AsRef<[u8]>> Marks<B> {
 
 impl<B: AsRef<[u8]> + AsMut<[u8]>> Marks<B> {
     /// Sets a mark: the book's image goes to the first place of that name, in the place of what it held, else to the first free
-    /// one. A name that is not 1 to 16 letters or digits is refused with [`Refusal::MarkName`], a new one where no place is free
+    /// one. A name that is not 1 to 16 letters or digits is refused with [`Refusal::MarkName`], a new one if no place is free
     /// with [`Refusal::NoPlace`]; the buffer is then as it was.
     /// [`Marks`] has an example.
     pub fn set(&mut self, book: &Book, name: impl AsRef<[u8]>) -> Result<(), Refusal> {
@@ -192,7 +192,7 @@ impl<B: AsRef<[u8]>> fmt::Debug for Marks<B> {
     }
 }
 
-/// The name of a place, empty where the place is free; none where it belongs to nobody.
+/// The name of a place, empty if the place is free; none if it belongs to nobody.
 fn name(place: &[u8]) -> Option<&str> {
     let field = place.get(..MARK_NAME)?;
     let length = field.iter().position(|&byte| byte == 0).unwrap_or(MARK_NAME);

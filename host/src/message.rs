@@ -59,7 +59,7 @@ pub struct Report {
     pub last_qty: Qty,
     /// LastPx(31): the price of the rise, in a report without one the venue's LastPx or else its AvgPx.
     pub last_px: Price,
-    /// Where `last_px` comes from: none in a report that answers no venue's report, where it is 0.
+    /// Where `last_px` comes from: none in a report that answers no venue's report, in which it is 0.
     pub price_source: Option<PriceSource>,
     /// CumQty(14).
     pub cum_qty: Qty,
@@ -123,7 +123,7 @@ listed! {
 pub struct CancelReject {
     /// The client's number.
     pub client: u16,
-    /// Our OrderID(37), where the order is known.
+    /// Our OrderID(37), if the order is known.
     pub name: Option<Vec<u8>>,
     /// ClOrdID(11) of the request.
     pub cl_ord_id: Vec<u8>,
@@ -173,7 +173,7 @@ pub struct ToVenue {
     pub price: Option<Price>,
     /// TimeInForce(59).
     pub time_in_force: Option<TimeInForce>,
-    /// The venue's OrderID(37), where it gave one.
+    /// The venue's OrderID(37), if it gave one.
     pub venue_order_id: Option<Vec<u8>>,
 }
 

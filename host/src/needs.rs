@@ -26,9 +26,9 @@ pub struct Needs {
     pub messages: u32,
     /// The request records that it adds to the book, at most one.
     pub requests: u32,
-    /// The fields of the first message, 0 where there is none: one for each bit of its map.
+    /// The fields of the first message, 0 if there is none: one for each bit of its map.
     pub fields_first: u32,
-    /// The fields of the second message, 0 where there is none.
+    /// The fields of the second message, 0 if there is none.
     pub fields_second: u32,
 }
 

@@ -59,7 +59,7 @@ pub struct NetLine {
 shown!(NetLine { client, symbol as text, net });
 
 impl NetLine {
-    /// The line at the front of some bytes; none where they are no line.
+    /// The line at the front of some bytes; none if they are no line.
     ///
     /// ```
     /// use jubafiye::{Net, NetLine};

@@ -1,4 +1,4 @@
-//! The open quantity of a client, and how a book from before it was stored is carried over. Rests on entries, layout, book,
+//! The open quantity of a client, and how an older book, without it, is carried over. Rests on entries, layout, book,
 //! chain and explain.
 
 use crate::book::Book;
@@ -10,7 +10,7 @@ use crate::explain::leaves;
 use crate::layout::{self, OPEN};
 
 impl Book {
-    /// A client's open quantity: the sum of what its orders leave open, 0 where it has none. The book keeps its rules, so that
+    /// A client's open quantity: the sum of what its orders leave open, 0 if it has none. The book keeps its rules, so that
     /// the library refuses nothing; should one of another version do so, the quantity is 0.
     ///
     /// ```
@@ -32,9 +32,9 @@ impl Book {
     }
 
     /// A book from the bytes of one that was stored **before** books had open quantities (docs/changes/04.md). Its other bytes are
-    /// right as they are, but where they have a live order [`Book::from_bytes`] refuses them, since the sums are not there.
+    /// right as they are, but if the book has a live order, [`Book::from_bytes`] refuses it, since the sums are not there.
     /// Here each client's sum is worked out from its orders and written; so is the link to the request that an OrigClOrdID names
-    /// (docs/changes/09.md); then all rules are asked. What an answered request came to stands nowhere in a book from before
+    /// (docs/changes/09.md); then all rules are asked. What an answered request came to stands nowhere in a book without
     /// outcomes: one that has such a request stays refused.
     ///
     /// Bytes of a book of today come back as they are. Whoever takes a book up after a restart still uses [`Book::from_bytes`]:
@@ -49,7 +49,7 @@ impl Book {
     /// # })).unwrap();
     /// # let mut stored = book.into_bytes();
     /// # stored[49_408..].fill(0);
-    /// // `stored` is a book from before, in which client 7 has a live order of 100
+    /// // `stored` is an older book, in which client 7 has a live order of 100
     /// assert!(matches!(Book::from_bytes(&stored), Err(Refusal::Book)));
     /// let book = Book::carry_over(&stored)?;
     /// assert_eq!(book.open_quantity(7), Qty::units(100));

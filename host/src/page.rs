@@ -74,7 +74,7 @@ impl Page {
         self.bytes
     }
 
-    /// The page as a text, where its bytes are UTF-8: always if no symbol has a byte above 127, and else only if such bytes
+    /// The page as a text, if its bytes are UTF-8: always if no symbol has a byte above 127, and else only if such bytes
     /// spell characters, of which each takes more columns than one.
     /// ```
     /// # use jubafiye::{Book, Booking, Event, Qty, Side};

@@ -1,5 +1,5 @@
 //! Event records read: which field is wrong and why, and else the event in its types (docs/SCOPE.md, Records, Events, Questions 3 and
-//! 4). What the library says is what counts; a test holds this against it. Rests on event, record, error, fields, decimal and words.
+//! 4). What the library says is what counts; a test compares this with it. Rests on event, record, error, fields, decimal and words.
 
 use std::error;
 use std::fmt;
@@ -99,7 +99,7 @@ pub(crate) const fn kind(number: u8) -> Option<(&'static str, &'static [usize], 
 #[derive(Debug, Clone, PartialEq, Eq)]
 #[non_exhaustive]
 pub enum RecordFault {
-    /// It has not the five bytes of a kind and a map.
+    /// It does not have the five bytes of a kind and a map.
     Short,
     /// This kind, which is none of an event.
     Kind(u8),
@@ -216,7 +216,7 @@ impl fmt::Display for BadRecord {
 
 impl error::Error for BadRecord {}
 
-/// Which field of a record is wrong, and why; nothing is wrong exactly where the book, should it keep its rules, refuses the record
+/// Which field of a record is wrong, and why; nothing is wrong exactly if a book that keeps its rules refuses the record
 /// with neither 3 nor 4.
 ///
 /// ```

@@ -88,7 +88,7 @@ impl<'a> Writer<'a> {
         self.bytes.extend_from_slice(bytes);
     }
 
-    /// A field of one byte, where there is one.
+    /// A field of one byte, if there is one.
     pub(crate) fn put_if(&mut self, bit: Bit, byte: Option<u8>) {
         if let Some(byte) = byte {
             self.put(bit, &[byte]);

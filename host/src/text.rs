@@ -18,7 +18,7 @@
 //!
 //! The fields may stand in any order. Codes are words, or FIX's own characters (`side=1`). A text with other bytes than letters, digits
 //! and `._:/+-` stands in quotes, with `\"`, `\\` and `\xNN`. `record` has the bytes of a record that is no event's, in hexadecimal
-//! digits. Behind `#` stands a comment where it begins a line or follows a blank.
+//! digits. Behind `#` stands a comment if the `#` begins a line or follows a blank.
 //!
 //! ```
 //! use jubafiye::text::{records, to_text};
@@ -344,7 +344,7 @@ fn word(holds: Holds, code: u8) -> Option<String> {
     Some(word.replace(' ', "-"))
 }
 
-/// The text of fields; none where a code is not listed.
+/// The text of fields; none if a code is not listed.
 fn fields_text(fields: &Fields<'_>) -> Option<String> {
     let mut text = kind(fields.kind)?.0.to_string();
     for bit in 0..24 {

@@ -35,7 +35,7 @@ pub struct Pending {
     pub qty: Qty,
     /// OrdType(40).
     pub ord_type: OrdType,
-    /// Price(44), exactly where the type is limit.
+    /// Price(44), exactly if the type is limit.
     pub price: Option<Price>,
     /// TimeInForce(59).
     pub time_in_force: Option<TimeInForce>,
@@ -107,7 +107,7 @@ pub struct Order<'a> {
     pub time_in_force: Option<TimeInForce>,
     /// OrderQty(38).
     pub qty: Qty,
-    /// Price(44), exactly where the type is limit.
+    /// Price(44), exactly if the type is limit.
     pub price: Option<Price>,
     /// OrdStatus(39).
     pub status: OrdStatus,
@@ -121,7 +121,7 @@ pub struct Order<'a> {
     pub amendments: u16,
     /// The index of the request by which the venue knows it now.
     pub current: usize,
-    /// The index of the cancel sent last, whosever.
+    /// The index of the cancel sent last, whoever asked for it.
     pub cancel: Option<usize>,
     /// A replace that waits for the venue's answer.
     pub pending: Option<Pending>,
@@ -130,7 +130,7 @@ pub struct Order<'a> {
 }
 
 impl<'a> Order<'a> {
-    /// The order at an index; none where a field is none that a book which keeps its rules has.
+    /// The order at an index; none if a field has a value that no book which keeps its rules has.
     fn read(book: &'a BookBytes, index: usize) -> Option<Self> {
         let raw = layout::order(book, index);
         let text = |spot| raw.text(spot).text;
@@ -161,7 +161,7 @@ impl<'a> Order<'a> {
         })
     }
 
-    /// LeavesQty(151): nothing where it is done or done for the day.
+    /// LeavesQty(151): nothing if it is done or done for the day.
     ///
     /// ```
     /// # use jubafiye::{Book, Booking, Event, OrdType, Qty, Side};
@@ -181,7 +181,7 @@ impl<'a> Order<'a> {
     }
 }
 
-/// A time in force, of which 0 is none; no value where it is not listed.
+/// A time in force, of which 0 is none; no value if it is not listed.
 fn time_in_force(code: u8) -> Option<Option<TimeInForce>> {
     match code {
         0 => Some(None),
@@ -259,7 +259,7 @@ pub struct Request<'a> {
 }
 
 impl<'a> Request<'a> {
-    /// The request at an index; none where a field is none that a book which keeps its rules has.
+    /// The request at an index; none if a field has a value that no book which keeps its rules has.
     fn read(book: &'a BookBytes, index: usize) -> Option<Self> {
         let raw = layout::request(book, index);
         let order = usize::from(raw.short(request::ORDER));

@@ -1,4 +1,4 @@
-//! `explain` against the library's `check` on damaged books, and `explain_record` against `event` on damaged records.
+//! `explain` compared with the library's `check` on damaged books, and `explain_record` with `event` on damaged records.
 
 mod common;
 

@@ -1,4 +1,4 @@
-//! The numbers and versions of the headers against those of this crate; the fields' bits are compared in src/record.rs.
+//! The numbers and versions of the headers compared with those of this crate; the fields' bits are compared in src/record.rs.
 
 use jubafiye::{
     Alarm, Event, Outcome, Refusal, ANSWER_BYTES, BOOK_BYTES, CHAIN_BYTES, CHAIN_ENTRY_BYTES, LAYOUT_VERSION,

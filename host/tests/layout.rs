@@ -67,7 +67,7 @@ impl Is {
     }
 }
 
-/// Holds a record against what is expected of each of its fields, all of which are listed; `Book::diff` lists those that are not 0.
+/// Compares a record with what is expected of each of its fields, all of which are listed; `Book::diff` lists those that are not 0.
 fn hold(book: &Book, record: &str, heading: &str, start: usize, expected: &[(&str, Is)]) {
     let empty = Book::new(0);
     let changes = empty.diff(book);

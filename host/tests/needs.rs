@@ -1,4 +1,4 @@
-//! What an event will need, over the linked library: before each event of a day, against the event then run on a copy.
+//! What an event will need, over the linked library: what is said before each event of a day, compared with the event then run on a copy.
 
 use jubafiye::{
     Amend, Book, Booking, Error, Event, ExecType, Needs, OrdStatus, OrdType, Price, Qty, Refusal,
@@ -35,7 +35,7 @@ fn head() -> usize {
     Book::new(10_000).take_record_into(&silent, &mut answer).unwrap().len()
 }
 
-/// The numbers of an event that is run, and the refusal where it is not taken.
+/// The numbers of an event that is run, or the refusal if it is not taken.
 fn run(book: &mut Book, record: &[u8]) -> Result<[u32; 5], Refusal> {
     let (mut answer, before) = ([0xAA; ANSWER_BYTES], requests(book));
     let answer = book.take_record_into(record, &mut answer)?;

@@ -1,4 +1,4 @@
-//! Open quantities over the linked library: what moves them, and books from before they were stored.
+//! Open quantities over the linked library: what moves them, and older books, without them.
 
 use jubafiye::{
     Amend, Book, Booking, Error, Event, ExecType, OrdStatus, OrdType, Price, Qty, Refusal, RejectedRequest,

@@ -30,7 +30,7 @@ fn anothers_check_is_not_taken() {
     std::fs::create_dir_all(&folder).unwrap();
     let copy = Path::new(env!("JUBAFIYE_GATEWAY"));
     assert_eq!(beside(&folder, copy, true), "0 0 42\n");
-    // The names of the papers: ours is taken, which is why there is a copy.
+    // Under the plain names of docs/SCOPE.md the other object calls our `check` for its own, which is why there is a copy.
     let plain = folder.join("libgateway.a");
     let undo: Vec<String> = ["start", "event", "check", "page", "needs", "chain"]
         .map(|name| format!("--redefine-sym=jubafiye_{name}={name}"))

@@ -1,4 +1,4 @@
-//! Orders and requests as the views show them. `tests/layout.rs` holds where each field stands.
+//! Orders and requests as the views show them. `tests/layout.rs` checks where each field stands.
 
 mod common;
 

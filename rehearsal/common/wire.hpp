@@ -38,7 +38,7 @@ struct Line {
 FIX::SessionSettings sessions(const std::string &dir, const std::string &role, const std::vector<Line> &lines,
                               bool accepts, long port);
 
-std::string field(const FIX::FieldMap &map, int tag); // "" where it is not there
+std::string field(const FIX::FieldMap &map, int tag); // "" if it is not there
 FIX::Message message(const std::string &type);
 // Sends by the session of the two CompIDs; the session keeps it if the peer is away.
 void send(FIX::Message &message, const Line &line);

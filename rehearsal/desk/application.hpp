@@ -15,7 +15,7 @@ namespace desk {
 //
 // QuickFIX stores the number of a message that came in after fromApp has returned, and a message that goes out before it is
 // sent. So a message that the journal has may come again after a crash, and is never lost; one that was handed over is sent by
-// the session again, even where the connection was down.
+// the session again, even if the connection was down.
 class Application : public FIX::Application, public Sessions {
 public:
     void serve(Taker &taker) { taker_ = &taker; }

@@ -36,7 +36,7 @@ struct Order {
 
 class Books {
 public:
-    // Puts an event to a book, which is made where it is not there yet.
+    // Puts an event to a book, which is made if it is not there yet.
     Answer take(size_t book, const Bytes &record);
 
     // The name and the book of the next order that is booked.

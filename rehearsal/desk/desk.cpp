@@ -186,7 +186,7 @@ Bytes Desk::told(const Record &event, const Bytes &message) const {
     return Record::read(message).number(JUBAFIYE_LAST_QTY, event.number(JUBAFIYE_LAST_QTY)).bytes();
 }
 
-// A venue's message that became no event that was taken: a line of DIR/desk-refused.tsv, number 0 where it became no event.
+// A venue's message that became no event that was taken: a line of DIR/desk-refused.tsv, number 0 if it became no event.
 void Desk::log_refused(uint64_t seq, uint32_t refusal, const FIX::Message &message, const std::string &why) {
     const std::string path = options_.dir + "/desk-refused.tsv";
     const bool fresh = !std::ifstream(path).good();

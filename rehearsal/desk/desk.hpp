@@ -27,7 +27,7 @@ struct Options {
 
 class Desk : public Taker {
 public:
-    // Opens DIR/journal.sqlite: every event is run again and its answer held against the kept one, and what waits is settled.
+    // Opens DIR/journal.sqlite: every event is run again and its answer compared with the kept one, and what waits is settled.
     Desk(const Options &options, Sessions &sessions);
 
     void take(const FIX::Message &message, const std::string &session) override;

@@ -39,7 +39,7 @@ struct Row {
     bool repeat; // it may have been handed over before a restart
 };
 
-// Every call throws std::runtime_error where SQLite fails: the desk then ends, and what is on the disk is found by opening.
+// Every call throws std::runtime_error if SQLite fails: the desk then ends, and what is on the disk is found by opening.
 class Journal {
 public:
     // Opens or makes the journal. With `sync` a commit is on the disk when it returns, else with the operating system.

@@ -49,7 +49,7 @@ desk::Fault fault(const std::string &name) {
     misused("no fault is named " + name);
 }
 
-// Takes a switch that has a value; false where it is none.
+// Takes a switch that has a value; false if it is none.
 bool take_valued(Arguments &to, const std::string &name, const std::string &value) {
     if (name == "--dir") to.options.dir = value;
     else if (name == "--client-port") to.client_port = number(value, name);

@@ -1,5 +1,5 @@
 // The old way. A fill under the replaced ClOrdID goes to the line of that ClOrdID, the status under the new one to the line of
-// the new one: two lines, each short, of one order. Where the venue says that nothing is left of a line that is short, the
+// the new one: two lines, each short, of one order. If the venue says that nothing is left of a line that is short, the
 // missing rest is bought again. Reports that come twice are told apart by ExecID, and the drop copy, which may overtake the
 // order session, is not listened to.
 #include "old_way.hpp"

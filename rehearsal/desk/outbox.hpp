@@ -55,7 +55,7 @@ private:
     std::vector<Row> waiting_;
 };
 
-// The FIX message of a row, with PossResend(97) where it may have gone before. The engine adds number and time.
+// The FIX message of a row, with PossResend(97) if it may have gone before. The engine adds number and time.
 FIX::Message message_of(const Row &row);
 
 } // namespace desk

@@ -18,7 +18,7 @@ class Record {
 public:
     explicit Record(int kind) : kind_(kind) {}
 
-    // The record in these bytes. Throws std::invalid_argument where they are not whole.
+    // The record in these bytes. Throws std::invalid_argument if they are not whole.
     static Record read(const Bytes &bytes);
 
     Record &number(int field, uint64_t value);
@@ -28,10 +28,10 @@ public:
 
     int kind() const { return kind_; }
     bool has(int field) const { return fields_.count(field) != 0; }
-    // The lowest 64 bits of a field, 0 where it does not stand.
+    // The lowest 64 bits of a field, 0 if it is absent.
     uint64_t number(int field) const;
     char code(int field) const { return char(number(field)); }
-    // A text, empty where it does not stand.
+    // A text, empty if it is absent.
     std::string text(int field) const;
 
     Bytes bytes() const;
@@ -44,7 +44,7 @@ private:
 const int QTY_PLACES = 4;
 const int PRICE_PLACES = 8;
 
-// The count of 10^-places in a FIX decimal. False where the text is none, is below 0, needs more places or has over 10^17.
+// The count of 10^-places in a FIX decimal. False if the text is none, is below 0, needs more places or has over 10^17.
 bool read_decimal(const std::string &text, int places, uint64_t &count);
 
 // A count of 10^-places as a decimal with all its places.

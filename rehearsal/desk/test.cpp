@@ -1,4 +1,4 @@
-// The desk's tests, without a network: `desk-test` runs all of them and ends with status 1 where a check fails.
+// The desk's tests, without a network: `desk-test` runs all of them and ends with status 1 if a check fails.
 #include "test.hpp"
 
 #include <cstdio>

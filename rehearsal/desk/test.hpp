@@ -12,7 +12,7 @@
 
 namespace test {
 
-// Fails the run, with the place, where `holds` is false.
+// Fails the run, with the place, if `holds` is false.
 void check(bool holds, const char *what, const char *file, int line);
 // How many checks were made, and how many failed.
 int made();
@@ -34,7 +34,7 @@ FIX::Message report(const std::string &clordid, const std::string &types, int la
 // A message as it was sent: its session and its fields, `|` for byte 1, without length, time and checksum.
 struct Sent {
     std::string session, text;
-    // The value of a tag, empty where it does not stand.
+    // The value of a tag, empty if it is absent.
     std::string at(int tag) const;
 };
 

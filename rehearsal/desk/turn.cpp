@@ -47,7 +47,7 @@ uint64_t count_or_0(const FIX::Message &message, int tag, int places) {
     return value(message, tag).empty() ? 0 : count(message, tag, places);
 }
 
-// A text cleaned: a blank for each byte below 32, at most 64 bytes, left out where it is empty.
+// A text cleaned: a blank for each byte below 32, at most 64 bytes, left out if it is empty.
 void put_text(Record &record, std::string text) {
     text = text.substr(0, 64);
     for (char &c : text)

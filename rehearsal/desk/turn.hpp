@@ -38,7 +38,7 @@ bool redelivered(const FIX::Message &message);
 
 std::string message_type(const FIX::Message &message);
 
-// A field's value, empty where it does not stand.
+// A field's value, empty if it is absent.
 std::string value(const FIX::Message &message, int tag);
 
 } // namespace desk

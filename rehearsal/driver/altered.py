@@ -74,7 +74,7 @@ def is_fill(one):
 
 
 def altered_message(fits, alter):
-    """Alters the first message that fits, wherever it stands in the log, and leaves it out where `alter` gives none."""
+    """Alters the first message that fits, wherever it stands in the log, and leaves it out if `alter` gives none."""
     def altered(lines):
         first = next(one for _, one in lines if fits(one))
         same = [first[tag] for tag in ("49", "56", "34")]

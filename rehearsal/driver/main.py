@@ -77,7 +77,7 @@ def settle(world, tell):
 
 
 def replay(given, directory):
-    """The journal by itself, without sessions: a desk started on a copy must come to the same sheets. The desk holds each answer too."""
+    """The journal by itself, without sessions: a desk started on a copy must come to the same sheets. The desk compares each answer, too."""
     with tempfile.TemporaryDirectory() as copy:
         shutil.copy(os.path.join(directory, "journal.sqlite"), copy)
         world = World(given, copy)
@@ -119,7 +119,7 @@ def rehearse(given, directory, brief):
 
 
 def again(directory):
-    """A kept run: its settings; its journal is held against its sheets first."""
+    """A kept run: its settings; its journal is compared with its sheets first."""
     given = settings.load(directory)
     if not given["old_way"]:
         found = list(replay(given, directory))

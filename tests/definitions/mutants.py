@@ -26,16 +26,17 @@ FIELDS = {
     ".answered": ".superseded", ".superseded": ".answered", ".alarm": ".alarm2", ".alarm2": ".alarm", ".first": ".second",
     ".second": ".first", ".current": ".cancel", ".amendments": ".current", ".client": ".venue", ".venue": ".client",
     ".fixedtext": ".reason", ".reason": ".origin", ".origin": ".reason", ".place": ".requests", ".execseq": ".cumqty",
+    ".outcome": ".answered", ".accepted": ".refused", ".refused": ".failed_to_send", ".failed_to_send": ".accepted",
 }  # fmt: skip
 # The same where what stands before it decides: None where there is no neighbour of its type.
-BEHIND = {("c", ".place"): None, ("q", ".answered"): None, ("r", ".status"): None, ("r", ".venueorderid"): None, ("e", ".reason"): ".verdict"}
+BEHIND = {("c", ".place"): None, ("q", ".answered"): None, ("r", ".status"): None, ("r", ".venueorderid"): None, ("e", ".reason"): ".verdict", ("r", ".outcome"): ".status"}
 # What returns its last argument with something done to it, and how many arguments it takes: the step is left out.
 STEPS = {
-    "alarming": 2, "answering": 2, "superseding": 2, "adding": 2, "telling": 2, "with_order": 2, "stuck": 1, "send_gateway_cancel": 2, "resume_gateway_cancel": 2,
+    "alarming": 2, "answering": 3, "superseding": 2, "adding": 2, "telling": 2, "with_order": 2, "stuck": 1, "send_gateway_cancel": 2, "resume_gateway_cancel": 2,
     "retry_gateway_cancel": 2, "gateway_cancel_refused": 3, "set_status": 2, "next_exec": 1, "record_venue_order_id": 3, "apply_replace": 2, "numbered_order": 3,
     "with_names": 2, "with_state": 2, "with_links": 2, "with_pending": 2, "with_gateway": 2, "not_pending": 1, "refused_order": 3, "send_refused": 1,
     "refused_note": 1, "unless_short": 3, "status_at": 2, "as_asked": 2, "one_more": 2, "next_sequence": 1, "limit_price": 2, "or_own": 2, "verdict_text": 1, "max": 2,
-    "answer_link": 2, "answered": 1,
+    "answer_link": 3, "answered": 2,
 }  # fmt: skip
 # A condition more, of the order or of the venue's event that a definition of these files is given.
 ASKS = {
@@ -139,7 +140,7 @@ def operand(tokens: list[re.Match], k: int) -> tuple[int, int]:
 
 
 def second(tokens: list[re.Match], k: int) -> str:
-    """The second argument of the comparison at k, where it is one token."""
+    """The second argument of the comparison at k, if it is one token."""
     at, depth = k + 1, 0
     while True:
         depth += {"(": 1, ")": -1}.get(tokens[at].group(), 0)
@@ -170,7 +171,7 @@ def branch(tokens: list[re.Match], k: int) -> tuple[int, int, int] | None:
 
 
 def arms(text: str, tokens: list[re.Match], k: int) -> list[tuple[int, int, str, str]]:
-    """The arm of the `if` at k and the one of the `otherwise if` behind it, where there is one: condition and branch of each as start, end and texts."""
+    """The arm of the `if` at k and the one of the `otherwise if` behind it, if there is one: condition and branch of each as start, end and texts."""
     found = []
     while len(found) < 2 and k < len(tokens) and tokens[k].group() == "if":
         first, last = condition(tokens, k)
@@ -208,7 +209,7 @@ def more(text: str, start: int, end: int, given: list[str], definition: str):
 
 
 def last_argument(text: str, tokens: list[re.Match], k: int) -> tuple[int, int] | None:
-    """Where the last argument of the step at k starts and ends; None where it has not all of them."""
+    """Where the last argument of the step at k starts and ends; None if it does not have all of them."""
     at = k
     for _ in range(STEPS[tokens[k].group()]):
         start = at + 1

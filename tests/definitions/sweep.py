@@ -18,7 +18,7 @@ SWEPT = 300  # of all mutants, those that come first by rank
 AT_ONCE = 12  # mutants in one check
 LEAST = 95  # per cent that facts must tell
 
-# The groups of files of facts that a mutant of a module is held against one after the other, where they tell most in the least time; then come all others.
+# For each module the groups of files of facts that are asked about its mutants one after the other, those that tell most in the least time first; then come all others.
 GROUPS = {
     "Rules": [["SweptParts"], ["Broken"], ["Inside"]],
     "Ranges": [["SweptParts"], ["Broken"]],
@@ -29,7 +29,7 @@ COMMON = [["Swept", "SweptSteps", "SweptParts"], ["Days", "Pinned", "Handled", "
 
 
 def stages(module: str, facts: list[Module]) -> list[list[Module]]:
-    """All files of facts, in the groups in which a mutant of the module is held against them."""
+    """All files of facts, in the groups in which they are asked about a mutant of the module."""
     by_name = {f[1]: f for f in facts}
     if unknown := {n for groups in (COMMON, *GROUPS.values()) for g in groups for n in g} - set(by_name):
         raise Failure(f"no such file of facts: {', '.join(sorted(unknown))}")
@@ -38,7 +38,7 @@ def stages(module: str, facts: list[Module]) -> list[list[Module]]:
 
 
 def judge(scratch: Scratch, errors: list[tuple[str, int, str]]) -> str | None:
-    """What a mutant's errors say: 'told by FILE.FACT', 'no definition' where the altered text is none, or nothing where computing a fact took too long."""
+    """What a mutant's errors say: 'told by FILE.FACT', 'no definition' if the altered text is none, or nothing if computing a fact took too long."""
     of_facts = {name: (crate, name) for crate, name in scratch.specs.facts}
     if any(file not in of_facts for file, _, _ in errors):
         return "no definition"

@@ -60,7 +60,7 @@ fn number(Words([low, high]): Words) -> u128 {
     u128::from(low) | u128::from(high) << 64
 }
 
-/// `n / d` to the nearest, a half up; 0 where `d` is 0.
+/// `n / d` to the nearest, a half up; 0 if `d` is 0.
 fn exact(n: u128, d: u64) -> u128 {
     let d = u128::from(d);
     if d == 0 { 0 } else { n / d + u128::from(n % d * 2 >= d) }

@@ -55,6 +55,7 @@ fn first_request(place: u16, e: Record) -> Request
         clordid: e.ids.clordid,
         origclordid: text::no_text(),
         downstream: e.ids.name,
+        outcome: 0,
     }
 }
 

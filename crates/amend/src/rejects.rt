@@ -15,7 +15,7 @@ use machine::{Change, Note, Refused};
 use orders::alarm::Alarm;
 use orders::{Known, change, message, order, reasons};
 use records::Record;
-use store::{Order, Pending, Request, kinds};
+use store::{Order, Pending, Request, kinds, outcomes};
 
 // Without the venue's word, a refused request no longer holds the order pending: it is New, which
 // `set_status` makes PartiallyFilled above a cumulative of 0.
@@ -72,11 +72,12 @@ fn refused_alarm(r: Refused, o: Order) -> Option<Alarm>
 // raised.
 #[tactic(auto, unfolding(machine::specs::Changes::alarming, machine::specs::Changes::answering, machine::specs::Changes::unchanged), using(orders::specs::Laws::Choices::choices))]
 fn refused_change(known: &Known, r: Refused, left: Order) -> Change
-    ensures { result ≡ alarming (refused_alarm r known.now.order) (answering known.now.link (unchanged known.now.findings.place left)) }
+    ensures { result ≡ alarming (refused_alarm r known.now.order) (answering known.now.link r.outcome (unchanged known.now.findings.place left)) }
 {
     let alarm = refused_alarm(r, known.order);
     change::answering(
         known.link,
+        r.outcome,
         change::raising_if(alarm, known.findings.place, left),
     )
 }
@@ -159,6 +160,7 @@ pub fn venue_cancel_reject(known: &Known, e: Record) -> Change
         status: e.exec.status,
         venueorderid: e.ids.venueorderid,
         note: venue_note(e),
+        outcome: outcomes::REFUSED,
     };
     let c = refuse_request(known, e.venue, r);
     gateway_cancel::resume_gateway_cancel(known.findings, c)
@@ -166,8 +168,8 @@ pub fn venue_cancel_reject(known: &Known, e: Record) -> Change
 
 // The first send failed: the order is rejected, for a reason of ours.
 #[tactic(auto, unfolding(machine::specs::Amend::first_failed))]
-fn first_failed(known: &Known, n: Note) -> Change
-    ensures { result ≡ first_failed known.now.findings known.now.link n known.now.order }
+fn first_failed(known: &Known, outcome: u8, n: Note) -> Change
+    ensures { result ≡ first_failed known.now.findings known.now.link outcome n known.now.order }
 {
     let order = order::next_exec(order::set_status(codes::REJECTED, known.order));
     let note = Note {
@@ -184,12 +186,13 @@ fn first_failed(known: &Known, n: Note) -> Change
         message::NO_PRICE,
         note,
     );
-    change::telling(m, change::settled(known.link, known.findings.place, order))
+    let c = change::settled(known.link, outcome, known.findings.place, order);
+    change::telling(m, c)
 }
 
 #[tactic(auto, unfolding(machine::specs::Amend::send_failed, machine::specs::Changes::is_first, machine::specs::Changes::is_gateway), using(orders::specs::Laws::Choices::choices))]
-pub fn send_failed(known: &Known, venue: u16, n: Note) -> Change
-    ensures { result ≡ send_failed known.now.findings known.now.link known.now.request venue n known.now.order }
+pub fn send_failed(known: &Known, venue: u16, outcome: u8, n: Note) -> Change
+    ensures { result ≡ send_failed known.now.findings known.now.link known.now.request venue outcome n known.now.order }
 {
     let o = known.order;
     let place = known.findings.place;
@@ -199,18 +202,19 @@ pub fn send_failed(known: &Known, venue: u16, n: Note) -> Change
     }
     match known.request.kind {
         kinds::GATEWAY if answered => known.leaving(o),
-        kinds::GATEWAY if !order::has_gateway(o) => change::settled(known.link, place, o),
+        kinds::GATEWAY if !order::has_gateway(o) => change::settled(known.link, outcome, place, o),
         kinds::GATEWAY => {
             let gateway = tries::failed(o.gateway);
-            change::settled(known.link, place, Order { gateway, ..o })
+            change::settled(known.link, outcome, place, Order { gateway, ..o })
         }
         kinds::FIRST if answered || o.state.status != codes::PENDING_NEW => known.leaving(o),
-        kinds::FIRST => first_failed(known, n),
+        kinds::FIRST => first_failed(known, outcome, n),
         _ => {
             let r = Refused {
                 status: o.state.status,
                 venueorderid: text::no_text(),
                 note: n,
+                outcome,
             };
             refuse_request(known, venue, r)
         }
@@ -249,5 +253,5 @@ pub fn unsent(known: &Known, venue: u16) -> Change
         fixedtext: texts::NOT_SENT,
         ..message::NO_NOTE
     };
-    send_failed(known, venue, n)
+    send_failed(known, venue, outcomes::REFUSED, n)
 }

@@ -1,5 +1,5 @@
 -- WHICH CLORDID STANDS FOR WHICH ORDER (change request 9): the chain of a client's ClOrdID back to the first, as requests and as the bytes of its entries;
--- and the call that writes them. What stands in quotes is the desk's wording. Rests on counted, store's book and its outcomes, and opens' `keeps_of`.
+-- and the call that writes them. What stands in quotes is the desk's wording. Rests on counted, store's book, and rules' `keeps_of`.
 use Rattle.std.specs.Prelude.{ℕ, zero, suc, ◌*◌, not, ◌&&◌, List, [], ◌∷◌, ◌++◌, map, leb, ltb, length, take, replicate, Option, None, Some}
 use Rattle.std.specs.List.{concat}
 use Rattle.prelude.specs.Cases.{if◌then◌otherwise◌}
@@ -7,9 +7,9 @@ use Rattle.prelude.specs.Span.{splice}
 use Rattle.prelude.specs.Texts.{contents, text_of}
 use Rattle.counted.specs.declared.Counted.{Counted}
 use Rattle.counted.specs.Counted.{refusing, counting}
-use Rattle.store.specs.Book.{Book, request_in, book_of, outcome_at}
+use Rattle.store.specs.Book.{Book, request_in, book_of}
 use Rattle.store.specs.Finds.{find_clordid}
-use Rattle.opens.specs.Keeps.{keeps_of}
+use Rattle.rules.specs.Keeps.{keeps_of}
 
 -- ---- the chain
 
@@ -39,7 +39,7 @@ entry_fields name outcome = (length name ∷ []) ∷ take 32 (name ++ replicate 
 
 -- of a request of the book
 unfoldable pub entry_of : List ℕ → ℕ → List ℕ
-entry_of b k = concat (entry_fields (contents (request_in (book_of b) k).clordid) (outcome_at b k))
+entry_of b k = concat (entry_fields (contents (request_in (book_of b) k).clordid) (request_in (book_of b) k).outcome)
 
 -- one entry behind the other
 unfoldable pub entries_of : List ℕ → List ℕ → List ℕ

@@ -1,5 +1,4 @@
--- Proof text: names found, the walk by links, entries, and the promises.
-pub mod Named
+-- Proof text: the walk by links, entries, and the promises.
 pub mod Walk
 pub mod Entries
 pub mod Sound

@@ -4,10 +4,10 @@ use Rattle.std.specs.Prelude.{ℕ, suc, ◌+◌, ◌-◌, ◌*◌, ◌≤◌, �
 use Rattle.prelude.specs.Span.{span}
 use Rattle.prelude.specs.Texts.{contents}
 use Rattle.counted.specs.Counted.{refusing, counting}
-use Rattle.store.specs.Book.{Book, book_of, order_in, request_in, outcome_at}
+use Rattle.store.specs.Book.{Book, book_of, order_in, request_in}
 use Rattle.machine.specs.Changes.{is_first}
 use Rattle.machine.specs.Rules.{number_in, client_of}
-use Rattle.opens.specs.Keeps.{keeps_of}
+use Rattle.rules.specs.Keeps.{keeps_of}
 use Rattle.chain.specs.Chain.{chain_of, entry_size, Chained, chained, chain_call}
 
 -- ---- the chain
@@ -55,7 +55,7 @@ pub record IsEntry (book : List ℕ) (k : ℕ) (entry : List ℕ) : Type 0 where
   pub size : length entry ≡ 34
   pub long : get_or entry 0 0 ≡ length (contents (request_in (book_of book) k).clordid)
   pub name : (i : ℕ) → i < 32 → get_or entry (suc i) 0 ≡ get_or (contents (request_in (book_of book) k).clordid) i 0
-  pub outcome : get_or entry 33 0 ≡ outcome_at book k
+  pub outcome : get_or entry 33 0 ≡ (request_in (book_of book) k).outcome
 
 -- the chain was written: the count of its entries is returned, entry i is the one of its request, and every byte behind them is as it was
 pub record IsWritten (book : List ℕ) (ks list : List ℕ) (r : Chained) : Type 0 where

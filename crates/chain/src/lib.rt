@@ -1,6 +1,6 @@
 // The chain of a client's ClOrdID back to the first, written into a lent buffer: 34 bytes for each
 // request, from the one of that name on to the one that its OrigClOrdID names. What a chain and an entry
-// are stands in specs/Chain.antt, and what holds of them in specs/Promise.antt. Rests on opens, store and
+// are stands in specs/Chain.antt, and what holds of them in specs/Promise.antt. Rests on rules, store and
 // counted.
 #![tactic(auto)]
 
@@ -13,8 +13,8 @@ ghost use Rattle.chain.specs.Chain.{called_by, entry_size, entries_of, chained, 
 ghost use Rattle.chain.specs.Laws.Entries.{stored_entry};
 ghost use Rattle.chain.specs.Laws.Walk.{earlier, walk};
 
-use opens::Kept;
 use prelude::{Refusal, Text};
+use rules::Kept;
 use store::layout;
 
 // An entry: a length, a name of 32 bytes, an outcome.

@@ -19,7 +19,7 @@ use Rattle.machine.proofs.Said.Reads.{event_kind}
 use Rattle.machine.proofs.Said.Steps.{answer_read}
 use Rattle.machine.proofs.Claim.Calls.{run_of, demand_of, since_return}
 use Rattle.machine.proofs.Claim.OneOrder.{stays_one}
-use Rattle.opens.specs.Keeps.{keeps_of}
+use Rattle.rules.specs.Keeps.{keeps_of}
 use Rattle.claims.specs.Claims.{Call, read_call, heard_of, entries, AnswersOnBytes, Demand3OnBytes, FilledWholeOnBytes, Passes, SinceOnBytes, StaysOneOnBytes}
 use Rattle.claims.proofs.Header.{blank_keeps}
 use Rattle.claims.proofs.Taken.{Asked, broken, short, unreadable, stepped, asked, Taken, call_taken, left, event_refused, returned_is, outcome_taken, either_way, whole, writes, check_kept, kept_check, keeps_after, keeps_sizes}
@@ -28,7 +28,7 @@ use Rattle.format.specs.Refusal.{event_refusal}
 use Rattle.records.specs.Laws.Accepted.{event_right}
 use Rattle.store.specs.Laws.Adds.{blank_book}
 use Rattle.store.specs.Laws.Kept.{bytes_blank}
-use Rattle.opens.specs.Laws.Keeps.{keeps_held}
+use Rattle.rules.specs.Laws.Keeps.{keeps_held}
 
 -- ---- a call comes to what the machine's comes to
 

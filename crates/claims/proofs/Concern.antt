@@ -21,7 +21,7 @@ use Rattle.machine.proofs.Numbered.{numbered_laws}
 use Rattle.machine.proofs.Kept.Lift.{BookKept, book_kept}
 use Rattle.machine.proofs.Kept.Consequences.{names_apart_lem, downstreams_apart}
 use Rattle.machine.proofs.Said.Reads.{event_ranged, event_kind}
-use Rattle.opens.specs.Laws.Keeps.{keeps_held}
+use Rattle.rules.specs.Laws.Keeps.{keeps_held}
 use Rattle.step.specs.Entries.{check_of}
 use Rattle.format.specs.Refusal.{event_refusal}
 use Rattle.claims.specs.Concern.{Concerns, by_clordid, by_request, by_name, OneConcern}

@@ -10,15 +10,15 @@ use Rattle.machine.specs.declared.Change.{Change}
 use Rattle.machine.specs.Changes.{Event, refusing}
 use Rattle.machine.proofs.Claim.Ruled.{ruled}
 use Rattle.machine.proofs.Kept.Lift.{BookKept, book_kept}
-use Rattle.opens.specs.Keeps.{keeps_of}
+use Rattle.rules.specs.Keeps.{keeps_of}
 use Rattle.claims.specs.Questions.{is_booking, used, mispriced, adds, full, first_no}
-use Rattle.claims.specs.Claims.{Reads, Numbers, Grown, Demand1}
+use Rattle.claims.specs.Claims.{Reads, Numbers, Grown, Counted, Demand1}
 use Rattle.claims.proofs.Header.{blank_keeps}
 use Rattle.claims.proofs.Refusals.{step_number, step_grown}
 use Rattle.claims.proofs.Taken.{Asked, broken, short, unreadable, stepped, asked, returned_is, writes, keeps_after, check_kept, check_broken, kept_check, either_way}
 use Rattle.step.specs.Entries.{Outcome, call_of, event_of, start_refusal, start_of, check_of}
 use Rattle.format.specs.Refusal.{event_refusal}
-use Rattle.opens.specs.Laws.Keeps.{keeps_held}
+use Rattle.rules.specs.Laws.Keeps.{keeps_held}
 
 -- ---- the number
 
@@ -142,8 +142,12 @@ refused : (b r a : List ℕ) → ((event_of b r a).returned ≡ 0 → ⊥) → (
 refused b r a =
     either_way (λ (o : Outcome). (o.returned ≡ 0 → ⊥) → (o.book ≡ b) × (o.answer ≡ a)) b r a (λ t n. absurd (n refl)) (λ e n. (refl, refl))
 
+counted : (b : List ℕ) → check_of b ≡ 0 → Counted b
+counted b z = let h = keeps_held b (kept_check b z) in record { long = h.long; orders = omega (arith, h.orders, h.few_orders); requests = omega (arith, h.requests, h.few_requests) }
+
 pub demand1 : Demand1
 demand1 = record {
+  counted = counted;
   started = started;
   kept = λ b r a bytes bytes'.
       either_way (λ (o : Outcome). o.returned ≡ 0 → check_of o.book ≡ 0) b r a

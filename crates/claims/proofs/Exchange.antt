@@ -18,13 +18,14 @@ use Rattle.machine.specs.History.{messages_of}
 use Rattle.machine.specs.Exchange.{SameOrder, open_of, Turned, OfTwoClients, Exchanged, concerns, client_at, turned_order}
 use Rattle.machine.proofs.Exchange.Whole.{two_clients}
 use Rattle.machine.proofs.Exchange.Places.{turned_book}
-use Rattle.opens.specs.Keeps.{keeps_of, opened}
+use Rattle.rules.specs.Keeps.{keeps_of}
+use Rattle.opens.specs.Opens.{opened}
 use Rattle.claims.specs.Claims.{Call}
 use Rattle.claims.specs.Exchange.{called, CallsOfTwoClients, CallsExchanged, TwoClientsOnBytes, after_two, lent, SameBooks, turned_bytes}
-use Rattle.claims.proofs.Taken.{Taken, call_taken, left, returned_is, outcome_taken, writes, keeps_after, keeps_sizes, step_room, whole_after, settled, check_kept}
+use Rattle.claims.proofs.Taken.{Taken, call_taken, left, returned_is, outcome_taken, writes, keeps_after, keeps_sizes, step_room, whole_after, small, check_kept}
 use Rattle.step.specs.Entries.{Outcome, call_of, book_with}
 use Rattle.format.specs.Refusal.{event_refusal}
-use Rattle.opens.specs.Laws.Keeps.{keeps_held}
+use Rattle.rules.specs.Laws.Keeps.{keeps_held}
 use Rattle.records.specs.Record.{event_in}
 use Rattle.records.specs.Laws.Writing.{answer_most}
 use Rattle.store.specs.Layout.{most_requests, book_size, most_orders, request_size, request_base}
@@ -88,14 +89,14 @@ module _ (b : List ℕ) (i : Call) (bytes : Bytes b) (t : Taken b i.event i.answ
   returned_none = ap (λ (o : Outcome). o.returned) outcome_is
 
   -- the change of an order, as its writes want it
-  fit : ((step_of (book_of b) (call_event i)).place ≡ 0 → ⊥) → Fit b (call_event i) (step_of (book_of b) (call_event i))
+  fit : ((step_of (book_of b) (call_event i)).place ≡ 0 → ⊥) → Fit b (step_of (book_of b) (call_event i))
   fit n =
       let c : Change = step_of (book_of b) (call_event i) in
       let whole = whole_after b i.event bytes i.bytes t.keeps t.reads t.taken in
       record {
         room = room_of (step_room (book_of b) (call_event i) t.taken);
         writes = writes b i.event bytes i.bytes t.keeps t.reads t.taken;
-        settled = settled b i.event bytes i.bytes t.keeps t.reads t.taken;
+        small = small b i.event bytes i.bytes t.keeps t.reads t.taken;
         order = order_written (book_of b) c whole (ne_eqb c.place 0 n);
         request = λ m. request_written (book_of b) c whole (ne_eqb c.requests.added 0 m);
       }
@@ -257,11 +258,11 @@ module _ (b : List ℕ) (d e : Call) (i j : ℕ) (h : CallsOfTwoClients b d e i 
       subst (λ (m : ℕ). Crossed x m j first_change last_change second_change next_change) one-i
       (subst (λ (m : ℕ). Crossed x ways.i m first_change last_change second_change next_change) one-j ways.crossed)
 
-  left_first : (called b d).book ≡ book_with b (call_event d) first_change
-  left_first = ap (λ (o : Outcome). o.book) (outcome_is b d h.bytes first) ∙ ap (book_with b (call_event d)) ways.first.step
+  left_first : (called b d).book ≡ book_with b first_change
+  left_first = ap (λ (o : Outcome). o.book) (outcome_is b d h.bytes first) ∙ ap (book_with b) ways.first.step
 
-  left_second : (called b e').book ≡ book_with b (call_event e) second_change
-  left_second = ap (λ (o : Outcome). o.book) (outcome_is b e' h.bytes earlier) ∙ ap (book_with b (call_event e)) ways.earlier.step
+  left_second : (called b e').book ≡ book_with b second_change
+  left_second = ap (λ (o : Outcome). o.book) (outcome_is b e' h.bytes earlier) ∙ ap (book_with b) ways.earlier.step
 
   step_next : step_of (book_of (called b d).book) (call_event e) ≡ next_change
   step_next = ap (λ (y : Book). step_of y (call_event e)) (left_is b d h.bytes first ∙ ways.first.left) ∙ ways.second.step
@@ -269,17 +270,17 @@ module _ (b : List ℕ) (d e : Call) (i j : ℕ) (h : CallsOfTwoClients b d e i 
   step_last : step_of (book_of (called b e').book) (call_event d) ≡ last_change
   step_last = ap (λ (y : Book). step_of y (call_event d)) (left_is b e' h.bytes earlier ∙ ways.earlier.left) ∙ ways.later.step
 
-  one_writes : one ≡ book_with (book_with b (call_event d) first_change) (call_event e) next_change
-  one_writes = ap (λ (o : Outcome). o.book) (outcome_is (called b d).book e (left_bytes b d h.bytes first) second) ∙ ap₂ (λ (y : List ℕ) (c : Change). book_with y (call_event e) c) left_first step_next
+  one_writes : one ≡ book_with (book_with b first_change) next_change
+  one_writes = ap (λ (o : Outcome). o.book) (outcome_is (called b d).book e (left_bytes b d h.bytes first) second) ∙ ap₂ book_with left_first step_next
 
-  two_writes : two ≡ book_with (book_with b (call_event e) second_change) (call_event d) last_change
-  two_writes = ap (λ (o : Outcome). o.book) (outcome_is (called b e').book d' (left_bytes b e' h.bytes earlier) later) ∙ ap₂ (λ (y : List ℕ) (c : Change). book_with y (call_event d) c) left_second step_last
+  two_writes : two ≡ book_with (book_with b second_change) last_change
+  two_writes = ap (λ (o : Outcome). o.book) (outcome_is (called b e').book d' (left_bytes b e' h.bytes earlier) later) ∙ ap₂ book_with left_second step_last
 
   -- a place is the order's
   placed : (c f : Change) (k : ℕ) → c.place ≡ f.place → f.place ≡ k + 1 → c.place ≡ 0 → ⊥
   placed c f k y z w = omega arith
 
-  pair : Pair b i j (call_event d) (call_event e) first_change last_change second_change next_change
+  pair : Pair b i j first_change last_change second_change next_change
   pair = record {
     long = (keeps_held b first.keeps).long;
     kept = good;
@@ -287,16 +288,16 @@ module _ (b : List ℕ) (d e : Call) (i j : ℕ) (h : CallsOfTwoClients b d e i 
     first_word = first_of x i owned_first.inside;
     second_word = first_of x j owned_second.inside;
     crossed = crossed;
-    first = subst (Fit b (call_event d)) ways.first.step (fit b d h.bytes first (placed by_first first_change i (ap (λ (c : Change). c.place) ways.first.step) owned_first.there));
-    second = subst (Fit b (call_event e)) ways.earlier.step (fit b e' h.bytes earlier (placed by_second second_change j (ap (λ (c : Change). c.place) ways.earlier.step) owned_second.there));
+    first = subst (Fit b) ways.first.step (fit b d h.bytes first (placed by_first first_change i (ap (λ (c : Change). c.place) ways.first.step) owned_first.there));
+    second = subst (Fit b) ways.earlier.step (fit b e' h.bytes earlier (placed by_second second_change j (ap (λ (c : Change). c.place) ways.earlier.step) owned_second.there));
     later =
-        subst (λ (y : List ℕ). Fit y (call_event d) last_change) left_second
-        (subst (Fit (called b e').book (call_event d)) step_last
+        subst (λ (y : List ℕ). Fit y last_change) left_second
+        (subst (Fit (called b e').book) step_last
         (fit (called b e').book d' (left_bytes b e' h.bytes earlier) later
         (placed (step_of (book_of (called b e').book) (call_event d)) first_change i (ap (λ (c : Change). c.place) step_last ∙ same_place crossed.first_linked) owned_first.there)));
     behind =
-        subst (λ (y : List ℕ). Fit y (call_event e) next_change) left_first
-        (subst (Fit (called b d).book (call_event e)) step_next
+        subst (λ (y : List ℕ). Fit y next_change) left_first
+        (subst (Fit (called b d).book) step_next
         (fit (called b d).book e (left_bytes b d h.bytes first) second
         (placed (step_of (book_of (called b d).book) (call_event e)) second_change j (ap (λ (c : Change). c.place) step_next ∙ same_place crossed.second_linked) owned_second.there)));
   }
@@ -357,12 +358,12 @@ module _ (b : List ℕ) (d e : Call) (i j : ℕ) (h : CallsOfTwoClients b d e i 
     record_first : span one (request_base n) request_size ≡ encode_request from_c qc
     record_first =
         ap (λ (y : List ℕ). span y (request_base n) request_size) one_writes
-        ∙ (records b i j (call_event d) (call_event e) first_change last_change second_change next_change pair nc nd).0
+        ∙ (records b i j first_change last_change second_change next_change pair nc nd).0
 
     record_second : span one (request_base (n + 1)) request_size ≡ encode_request from_d qd
     record_second =
         ap (λ (y : List ℕ). span y (request_base (n + 1)) request_size) one_writes
-        ∙ (records b i j (call_event d) (call_event e) first_change last_change second_change next_change pair nc nd).1
+        ∙ (records b i j first_change last_change second_change next_change pair nc nd).1
 
     order_first : turned_order n (order_in (book_of one) i) ≡ last_change.order
     order_first =
@@ -386,7 +387,7 @@ module _ (b : List ℕ) (d e : Call) (i j : ℕ) (h : CallsOfTwoClients b d e i 
     two_bytes =
         let w₁ : Write = request_write (n + 1) from_c qc in
         let w₂ : Write = request_write n from_d qd in
-        let room : n + 1 < most_requests = room_two b i j (call_event d) (call_event e) first_change last_change second_change next_change pair nc nd in
+        let room : n + 1 < most_requests = room_two b i j first_change last_change second_change next_change pair nc nd in
         let whole_c : WholeRequest qc = pair.first.request nc in
         let whole_d : WholeRequest qd = pair.second.request nd in
         let s₂ : List ℕ = put (put one w₁) w₂ in
@@ -400,7 +401,7 @@ module _ (b : List ℕ) (d e : Call) (i j : ℕ) (h : CallsOfTwoClients b d e i 
         ∙ order_put s₃ i last_change.order l₃ (omega (arith, owned_first.inside, good.orders))
         ∙ ap (λ (y : List ℕ). put y (order_write i last_change.order)) (order_put s₂ j second_change.order l₂ (omega (arith, owned_second.inside, good.orders)))
         ∙ ap (λ (y : List ℕ). put (put (put (put y w₁) w₂) (order_write j second_change.order)) (order_write i last_change.order)) one_writes
-        ∙ bytes_turned b i j (call_event d) (call_event e) first_change last_change second_change next_change pair nc nd
+        ∙ bytes_turned b i j first_change last_change second_change next_change pair nc nd
         ∙ sym two_writes
 
   -- ---- all of it
@@ -432,7 +433,7 @@ module _ (b : List ℕ) (d e : Call) (i j : ℕ) (h : CallsOfTwoClients b d e i 
   }
     where
       same_of : request_count one < request_count b + 2 → Added → one ≡ two
-      same_of l (fewer z k) = one_writes ∙ bytes_same b i j (call_event d) (call_event e) first_change last_change second_change next_change pair z ∙ sym two_writes
+      same_of l (fewer z k) = one_writes ∙ bytes_same b i j first_change last_change second_change next_change pair z ∙ sym two_writes
       same_of l (both y z k) = absurd (omega arith)
 
       bytes_of_lem : request_count b + 2 ≤ request_count one → Added → turned_bytes (request_count b) i j one ≡ two

@@ -16,13 +16,11 @@ use Rattle.store.specs.Book.{Book, book_of, count_at, order_count, request_count
 use Rattle.store.specs.Finds.{find_client}
 use Rattle.machine.specs.declared.Requests.{Requests}
 use Rattle.machine.specs.declared.Change.{Change}
-use Rattle.machine.specs.Changes.{Event}
 use Rattle.machine.specs.Machine.{after}
 use Rattle.machine.specs.Rules.{rules}
 use Rattle.machine.proofs.Kept.Steps.{start_keeps}
-use Rattle.outcomes.specs.Outcomes.{outcome_by, beside_right, outcomes_right}
-use Rattle.opens.specs.Keeps.{keeps_of}
-use Rattle.opens.specs.Opens.{open_right, opens_right}
+use Rattle.rules.specs.Keeps.{keeps_of}
+use Rattle.index.specs.Index.{link_right, links_right, open_right, opens_right}
 use Rattle.step.specs.Entries.{place_order, mark_link, place_requests, place_open, tables_with, book_with}
 use Rattle.store.specs.Laws.Cells.{same_16}
 use Rattle.store.specs.Laws.Tables.{length_put_order, span_put_order, length_put_request, span_put_request, length_set_count, span_set_count, count_set_count}
@@ -30,7 +28,7 @@ use Rattle.store.specs.Laws.Stored.{in_table}
 use Rattle.store.specs.Laws.Adds.{blank_length}
 use Rattle.store.specs.Laws.Kept.{store_open_keeps}
 use Rattle.store.specs.Laws.Opens.{span_store_open}
-use Rattle.opens.specs.Laws.Keeps.{held_keeps}
+use Rattle.rules.specs.Laws.Keeps.{held_keeps}
 
 pub record Headed (b : List ℕ) : Type 0 where
   pub long : length b ≡ book_size
@@ -107,7 +105,7 @@ module _ (b : List ℕ) (h : Headed b) where
   unfolding mark_answered if◌then◌otherwise◌
   mark_head i v =
       let x : List ℕ = splice b (request_base i + request·answered) (1 ∷ []) in
-      let w : List ℕ = settled_as b i v ∷ [] in
+      let w : List ℕ = settled_as v (request_at b i) ∷ [] in
       in_table (λ t. Headed (if t then splice x (request_base i + request·outcome) w otherwise b)) b 256 i
       (λ l k.
       let m : length x ≡ book_size = length_splice b (request_base i + request·answered) (1 ∷ []) (omega arith) ∙ l in
@@ -125,9 +123,10 @@ module _ (b : List ℕ) (h : Headed b) where
   unfolding mark_link
   link_head k v = split_if Headed (eqb k 0) (λ e. h) (λ e. mark_head (k - 1) v)
 
-requests_head : (b : List ℕ) → Headed b → (v origin : ℕ) (r : Requests) → (eqb r.added 0 ≡ false → WholeRequest r.request) → Headed (place_requests b v origin r)
+requests_head : (b : List ℕ) → Headed b → (origin : ℕ) (r : Requests) → (eqb r.added 0 ≡ false → WholeRequest r.request) → Headed (place_requests b origin r)
 unfolding place_requests
-requests_head b h v origin r w =
+requests_head b h origin r w =
+    let v : ℕ = r.outcome in
     let d : List ℕ = mark_link (mark_link b r.answered v) r.superseded v in
     let k : Headed d = link_head (mark_link b r.answered v) (link_head b h r.answered v) r.superseded v in
     split_if Headed (eqb r.added 0) (λ e. k) (λ e. add_request_head d k origin r.request (w e))
@@ -141,11 +140,11 @@ open_head b h left place client =
     (λ i z. same_head b (store_open b i _) h ((store_open_keeps b i _).same ∙ h.long) (span_store_open b i _ 0 2 (omega arith)) (span_store_open b i _ 2 2 (omega arith))))
 
 -- a change keeps the counts within their tables
-pub change_head : (b : List ℕ) (e : Event) (c : Change) → Headed b → (eqb c.place 0 ≡ false → WholeOrder c.order)
-    → (eqb c.requests.added 0 ≡ false → WholeRequest c.requests.request) → Headed (book_with b e c)
+pub change_head : (b : List ℕ) (c : Change) → Headed b → (eqb c.place 0 ≡ false → WholeOrder c.order)
+    → (eqb c.requests.added 0 ≡ false → WholeRequest c.requests.request) → Headed (book_with b c)
 unfolding book_with tables_with
-change_head b e c h o q =
-    open_head _ (requests_head (place_order b c.place c.order) (place_head b h c.place c.order o) (outcome_by e) _ c.requests q)
+change_head b c h o q =
+    open_head _ (requests_head (place_order b c.place c.order) (place_head b h c.place c.order o) _ c.requests q)
     (after (book_of b) c) c.place c.order.client
 
 -- ---- start
@@ -180,12 +179,12 @@ module _ (setting : ℕ) where
   unfolding opens_right
   blank_opens = ap (all_below (open_right (blank setting))) (blank_count 0 64 (omega arith)) ∙ all_none (open_right (blank setting))
 
-  -- no request, nothing beside it
-  blank_outcomes : outcomes_right (blank setting) ≡ true
-  unfolding outcomes_right
-  blank_outcomes = ap (all_below (beside_right (blank setting))) (blank_count 2 256 (omega arith)) ∙ all_none (beside_right (blank setting))
+  -- no request, no link
+  blank_links : links_right (blank setting) ≡ true
+  unfolding links_right
+  blank_links = ap (all_below (link_right (blank setting))) (blank_count 2 256 (omega arith)) ∙ all_none (link_right (blank setting))
 
   pub blank_keeps : keeps_of (blank setting) ≡ true
   blank_keeps =
       held_keeps (blank setting) (blank_length setting) (omega (arith, blank_head 0 (omega arith))) (omega (arith, blank_head 2 (omega arith)))
-      (ap rules blank_empty ∙ start_keeps (setting_of (blank setting))) blank_opens blank_outcomes
+      (ap rules blank_empty ∙ start_keeps (setting_of (blank setting))) blank_links blank_opens

@@ -2,7 +2,7 @@ pub mod Origin
 pub mod Written
 pub mod Header
 pub mod Words
-pub mod Settled
+pub mod Links
 pub mod Refusals
 pub mod Taken
 pub mod Demands

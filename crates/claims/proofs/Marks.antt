@@ -9,8 +9,8 @@ use Rattle.store.specs.Laws.Adds.{blank_book}
 use Rattle.machine.specs.Calls.{Step, call, back, SinceReturn, state_of, follow, just_returned}
 use Rattle.machine.specs.Since.{Demand3From}
 use Rattle.machine.proofs.Claim.Start.{from_start}
-use Rattle.opens.specs.Keeps.{keeps_of}
-use Rattle.opens.specs.Laws.Keeps.{keeps_held}
+use Rattle.rules.specs.Keeps.{keeps_of}
+use Rattle.rules.specs.Laws.Keeps.{keeps_held}
 use Rattle.store.specs.Layout.{book_size}
 use Rattle.step.specs.Entries.{start_of, start_refusal}
 use Rattle.marks.specs.Marks.{is_mark_name, Marked, marked, set_mark_of, return_of}

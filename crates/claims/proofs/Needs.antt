@@ -15,7 +15,7 @@ use Rattle.machine.specs.Machine.{step_of, after}
 use Rattle.machine.specs.History.{messages_of}
 use Rattle.machine.specs.Said.{Answers}
 use Rattle.machine.proofs.Said.Steps.{messages_few, messages_right}
-use Rattle.opens.specs.Laws.Keeps.{keeps_held}
+use Rattle.rules.specs.Laws.Keeps.{keeps_held}
 use Rattle.page.specs.Laws.Sound.{behind_front}
 use Rattle.step.specs.Entries.{Outcome, call_of, event_of}
 use Rattle.needs.specs.declared.Needs.{Needs}

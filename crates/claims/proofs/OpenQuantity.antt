@@ -12,11 +12,10 @@ use Rattle.store.specs.Laws.Stored.{count_book, count_most}
 use Rattle.store.specs.Laws.Opens.{store_open_book, open_here}
 use Rattle.machine.specs.Exchange.{open_of}
 use Rattle.opens.specs.declared.Opened.{Opened}
-use Rattle.rules.specs.Ruled.{ruled_of}
-use Rattle.outcomes.specs.Outcomes.{outcomes_right}
-use Rattle.opens.specs.Opens.{stored_open, open_right, opens_right}
-use Rattle.opens.specs.Keeps.{keeps_of, opened, open_call}
-use Rattle.opens.specs.Laws.Keeps.{keeps_stored, keeps_then}
+use Rattle.index.specs.Index.{links_right, stored_open, open_right, opens_right}
+use Rattle.rules.specs.Keeps.{ruled_of, keeps_of}
+use Rattle.opens.specs.Opens.{opened, open_call}
+use Rattle.rules.specs.Laws.Keeps.{keeps_stored, keeps_then}
 use Rattle.step.specs.Entries.{Outcome, event_of, check_of}
 use Rattle.claims.specs.Claims.{Call, Exactly}
 use Rattle.claims.specs.Opens.{bytes_after, OpenRight, OpenOnBytes}
@@ -75,8 +74,8 @@ stored_all : (b : List ℕ) → ((client : ℕ) → stored_open b client ≡ ope
 unfolding opens_right open_right
 stored_all b s = all_intro (open_right b) (order_count b) (λ i h. eq-eqb _ _ (s (order_in (book_of b) i).client))
 
-exact : (b : List ℕ) → ruled_of b ≡ true → ((client : ℕ) → stored_open b client ≡ open_of (book_of b) client) → outcomes_right b ≡ true → check_of b ≡ 0
-exact b r s o = check_kept b (keeps_then b (and_from (ruled_of b) (outcomes_right b) r o) ∙ stored_all b s)
+exact : (b : List ℕ) → ruled_of b ≡ true → ((client : ℕ) → stored_open b client ≡ open_of (book_of b) client) → links_right b ≡ true → check_of b ≡ 0
+exact b r s o = check_kept b (keeps_then b (and_from (ruled_of b) (links_right b) r o) ∙ stored_all b s)
 
 -- what is stored once the word of a client's first order is written
 stored_here : (b : List ℕ) (i q client : ℕ) → i < order_count b → find_client (book_of b) client ≡ Some i → q < 2 ^ 64 → stored_open (store_open b i q) client ≡ q

@@ -11,22 +11,21 @@ use Rattle.store.specs.declared.Request.{Request}
 use Rattle.store.specs.Layout.{book_size, header·orders, header·requests, order_size, most_orders, request_size, most_requests, order_base, request_base, request·answered, request·outcome, open_size, open_base}
 use Rattle.store.specs.Orders.{WholeOrder, encode_order}
 use Rattle.store.specs.Requests.{WholeRequest, encode_request}
-use Rattle.store.specs.Book.{Book, book_of, is_book, request_in, order_count, request_count, outcome_at, settled_as, put_order, store_order, put_request, set_count, add_request, mark_answered, store_open}
+use Rattle.store.specs.Book.{Book, book_of, is_book, request_in, order_count, request_count, settled_as, put_order, store_order, put_request, set_count, add_request, mark_answered, store_open}
 use Rattle.store.specs.Finds.{find_client}
 use Rattle.store.specs.Laws.Orders.{length_order}
 use Rattle.store.specs.Laws.Requests.{length_request}
 use Rattle.store.specs.Laws.Tables.{length_put_order}
-use Rattle.store.specs.Laws.Stored.{count_most, length_orders, length_requests, put_order_count}
+use Rattle.store.specs.Laws.Stored.{count_most, length_orders, length_requests, request_in_lem, put_order_count}
 use Rattle.machine.specs.declared.Requests.{Requests}
 use Rattle.machine.specs.declared.Change.{Change}
-use Rattle.machine.specs.Changes.{Event}
-use Rattle.machine.specs.Machine.{after}
+use Rattle.machine.specs.Machine.{answer_link, after}
 use Rattle.machine.specs.Exchange.{open_of}
-use Rattle.outcomes.specs.Outcomes.{outcome_by, origin_of}
+use Rattle.machine.proofs.Kept.Tables.{at, length_answer, answer_case}
+use Rattle.index.specs.Index.{origin_of}
 use Rattle.step.specs.Entries.{place_order, mark_link, place_requests, place_open, tables_with, book_with}
 use Rattle.claims.proofs.Splices.{Write, write, ends, put, put_all, Inside, Beside, apart, put_append, all_comm}
-use Rattle.claims.proofs.Written.{few_outcomes, place_book, mark_link_keeps, marked, marked_keeps, marked_count, tables_keeps}
-use Rattle.claims.proofs.Settled.{place_beside, settled_again, settled_same}
+use Rattle.claims.proofs.Written.{place_book, mark_link_keeps, mark_link_book, marked, marked_keeps, marked_count, tables_keeps}
 
 -- ---- the writes
 
@@ -176,13 +175,18 @@ module _ (b : List ℕ) (long : length b ≡ book_size) where
   in_table : (i most : ℕ) → i < most → (x : List ℕ) → (if is_book b && ltb i most then x otherwise b) ≡ x
   in_table i most h x = if_true _ _ _ (and_from _ _ (eq-eqb (length b) book_size long) (lt-ltb i most h))
 
-  mark_is : (k v : ℕ) → k ≤ most_requests → mark_link b k v ≡ put_all b (mark_writes k (settled_as b (k - 1) v))
+  mark_is : (k v : ℕ) → k ≤ request_count b → mark_link b k v ≡ put_all b (mark_writes k (settled_as v (request_in (book_of b) (k - 1))))
   unfolding mark_link mark_writes mark_answered
   mark_is k v h = go (ℕ_discrete k 0)
     where
-      go : Dec (k ≡ 0) → mark_link b k v ≡ put_all b (mark_writes k (settled_as b (k - 1) v))
+      go : Dec (k ≡ 0) → mark_link b k v ≡ put_all b (mark_writes k (settled_as v (request_in (book_of b) (k - 1))))
       go (yes z) = if_true _ _ _ (eq-eqb k 0 z) ∙ ap (put_all b) (sym (if_true (eqb k 0) [] _ (eq-eqb k 0 z)))
-      go (no z) = if_false _ _ _ (ne_eqb k 0 z) ∙ in_table (k - 1) most_requests (omega arith) _ ∙ ap (put_all b) (sym (if_false (eqb k 0) [] _ (ne_eqb k 0 z)))
+      go (no z) =
+          if_false _ _ _ (ne_eqb k 0 z)
+          ∙ in_table (k - 1) most_requests (omega (arith, h, count_most header·requests most_requests b)) _
+          ∙ ap (λ (q : Request). put_all b (write (request_base (k - 1) + request·answered) (1 ∷ []) ∷ write (request_base (k - 1) + request·outcome) (settled_as v q ∷ []) ∷ []))
+          (sym (request_in_lem b (k - 1) (omega arith)))
+          ∙ ap (put_all b) (sym (if_false (eqb k 0) [] _ (ne_eqb k 0 z)))
 
   order_is : (i place : ℕ) (o : Order) → place ≡ i + 1 → i < order_count b → i < most_orders → place_order b place o ≡ put_order b i o
   unfolding place_order store_order
@@ -209,34 +213,50 @@ module _ (b : List ℕ) (long : length b ≡ book_size) where
 abbrev settled : List ℕ → (f s : ℕ) → Requests → List ℕ
 settled b f s r = put_all (put_all b (mark_writes r.answered f)) (mark_writes r.superseded s)
 
--- the requests settled with the outcome v, and one added behind t of them
-module _ (v : ℕ) (small : v ≤ 3) (b : List ℕ) (long : length b ≡ book_size) (r : Requests) (t : ℕ) (count : request_count b ≡ t) (ha : r.answered ≤ t) (hs : r.superseded ≤ t) where
-  few_links : t ≤ most_requests
-  few_links = omega (arith, count, count_most header·requests most_requests b)
+-- what the request of a link comes to where it is settled
+abbrev pub value_of : List ℕ → Requests → (link : ℕ) → ℕ
+value_of b r link = settled_as r.outcome (request_in (book_of b) (link - 1))
 
-  -- what each of them comes to, as it is before both
-  abbrev value : ℕ → ℕ
-  value link = settled_as b (link - 1) v
+-- what is set is set: the same once another is settled
+settled_again : (link v : ℕ) (qs : List Request) (k : ℕ) → k < length qs → settled_as v (at (answer_link link v qs) k) ≡ settled_as v (at qs k)
+unfolding if◌then◌otherwise◌
+settled_again link v qs k l = answer_case (λ (q : Request). settled_as v q ≡ settled_as v (at qs k)) link v qs k l (λ n. refl) (λ e. refl)
 
-  settled_is : marked v b r ≡ settled b (value r.answered) (value r.superseded) r
+-- the requests settled, and one added behind t of them
+module _ (b : List ℕ) (long : length b ≡ book_size) (r : Requests) (small : r.outcome ≤ 3) (t : ℕ) (count : request_count b ≡ t) (ha : r.answered ≤ t) (hs : r.superseded ≤ t) where
+  abbrev once : List ℕ
+  once = mark_link b r.answered r.outcome
+
+  once_count : request_count once ≡ t
+  once_count =
+      sym (length_requests once)
+      ∙ ap (λ (x : Book). length x.requests) (mark_link_book r.outcome b r.answered)
+      ∙ length_answer r.answered r.outcome (book_of b).requests
+      ∙ length_requests b
+      ∙ count
+
+  settled_is : marked b r ≡ settled b (value_of b r r.answered) (value_of b r r.superseded) r
   settled_is =
-      mark_is (mark_link b r.answered v) ((mark_link_keeps v small b r.answered).same ∙ long) r.superseded v (omega (arith, hs, few_links))
-      ∙ ap₂ put_all (mark_is b long r.answered v (omega (arith, ha, few_links)))
-      (mark_values r.superseded _ _ (λ z. settled_again v small b long (r.superseded - 1) (omega (arith, hs, count)) r.answered))
+      mark_is once ((mark_link_keeps r.outcome small b r.answered).same ∙ long) r.superseded r.outcome (omega (arith, hs, once_count))
+      ∙ ap₂ put_all (mark_is b long r.answered r.outcome (omega (arith, ha, count)))
+      (mark_values r.superseded _ _ (λ z.
+      let k : ℕ = r.superseded - 1 in
+      ap (λ (x : Book). settled_as r.outcome (request_in x k)) (mark_link_book r.outcome b r.answered)
+      ∙ settled_again r.answered r.outcome (book_of b).requests k (omega (arith, hs, count, length_requests b))))
 
   abbrev after_both : List ℕ
-  after_both = settled b (value r.answered) (value r.superseded) r
+  after_both = settled b (value_of b r r.answered) (value_of b r r.superseded) r
 
-  requests_is : (origin : ℕ) → (r.added ≡ 0) ⊎ (t < most_requests) → place_requests b v origin r ≡ put_all after_both (add_writes t origin r)
+  requests_is : (origin : ℕ) → (r.added ≡ 0) ⊎ (t < most_requests) → place_requests b origin r ≡ put_all after_both (add_writes t origin r)
   unfolding place_requests add_writes
   requests_is origin room = go (ℕ_discrete r.added 0) room
     where
-      go : Dec (r.added ≡ 0) → (r.added ≡ 0) ⊎ (t < most_requests) → place_requests b v origin r ≡ put_all after_both (add_writes t origin r)
+      go : Dec (r.added ≡ 0) → (r.added ≡ 0) ⊎ (t < most_requests) → place_requests b origin r ≡ put_all after_both (add_writes t origin r)
       go (yes z) d = if_true _ _ _ (eq-eqb r.added 0 z) ∙ settled_is ∙ ap (put_all after_both) (sym (if_true (eqb r.added 0) [] _ (eq-eqb r.added 0 z)))
       go (no z) (inl d) = absurd (z d)
       go (no z) (inr d) =
           if_false _ _ _ (ne_eqb r.added 0 z)
-          ∙ added_is (marked v b r) ((marked_keeps v small b r).same ∙ long) origin r.request t (marked_count v b r ∙ length_requests b ∙ count) d
+          ∙ added_is (marked b r) ((marked_keeps b r small).same ∙ long) origin r.request t (marked_count b r ∙ length_requests b ∙ count) d
           ∙ ap (λ (x : List ℕ). put_all x (write (request_base t) (encode_request origin r.request) ∷ write header·requests (bytes_of 2 (t + 1)) ∷ [])) settled_is
           ∙ ap (put_all after_both) (sym (if_false (eqb r.added 0) [] _ (ne_eqb r.added 0 z)))
 
@@ -249,18 +269,16 @@ pub record Placing (b : List ℕ) (i p : ℕ) (c : Change) : Type 0 where
   pub supersedes : c.requests.superseded ≤ length (book_of b).requests
   pub room : (c.requests.added ≡ 0) ⊎ (length (book_of b).requests < most_requests)
   pub order : WholeOrder c.order
+  pub small : c.requests.outcome ≤ 3
   pub request : (c.requests.added ≡ 0 → ⊥) → WholeRequest c.requests.request
   pub found : find_client (after (book_of b) c) c.order.client ≡ Some p
   pub first : p < most_orders
 
--- what the request of a link comes to where it is settled by the event, and the origin of a request that the change adds
-abbrev pub value_of : List ℕ → Event → (link : ℕ) → ℕ
-value_of b e link = settled_as b (link - 1) (outcome_by e)
-
+-- the origin of a request that the change adds
 abbrev pub origin_by : List ℕ → Change → ℕ
-origin_by b c = origin_of b c.order.client c.requests.request.origclordid
+origin_by b c = origin_of (book_of b) c.order.client c.requests.request.origclordid
 
-module _ (b : List ℕ) (e : Event) (i p : ℕ) (c : Change) (h : Placing b i p c) where
+module _ (b : List ℕ) (i p : ℕ) (c : Change) (h : Placing b i p c) where
   abbrev t : ℕ
   t = length (book_of b).requests
 
@@ -286,38 +304,33 @@ module _ (b : List ℕ) (e : Event) (i p : ℕ) (c : Change) (h : Placing b i p 
   placed_count = put_order_count b h.long i few c.order h.order header·requests most_requests (omega arith) ∙ sym (length_requests b)
 
   -- the order's record is no request's
-  placed_value : (link : ℕ) → link ≤ t → (link ≡ 0 → ⊥) → settled_as placed (link - 1) (outcome_by e) ≡ value_of b e link
-  placed_value link l z =
-      let k : ℕ = link - 1 in
-      let m : k < request_count b = omega (arith, length_requests b) in
-      settled_same (outcome_by e) b placed h.long placed_long k m (omega (arith, placed_count))
-      (ap (λ (x : List ℕ). request_in (book_of x) k) (sym placed_is)
-      ∙ ap (λ (x : Book). request_in x k) (place_book b c h.long (or_left _ _ (le-leb c.place (length (book_of b).orders) (omega (arith, h.there, h.inside)))) (λ y. h.order)))
-      (ap (λ (x : List ℕ). outcome_at x k) (sym placed_is) ∙ (place_beside b k (omega (arith, m, count_most header·requests most_requests b)) c.place c.order (λ y. h.order)).outcome)
+  placed_value : (link : ℕ) → value_of placed c.requests link ≡ value_of b c.requests link
+  placed_value link =
+      ap (λ (x : List ℕ). value_of x c.requests link) (sym placed_is)
+      ∙ ap (λ (x : Book). settled_as c.requests.outcome (request_in x (link - 1)))
+      (place_book b c h.long (or_left _ _ (le-leb c.place (length (book_of b).orders) (omega (arith, h.there, h.inside)))) (λ y. h.order))
 
   abbrev before : List ℕ
-  before = settled placed (value_of b e c.requests.answered) (value_of b e c.requests.superseded) c.requests
+  before = settled placed (value_of b c.requests c.requests.answered) (value_of b c.requests c.requests.superseded) c.requests
 
   -- with the values as they are before the order is placed
-  before_is : settled placed (settled_as placed (c.requests.answered - 1) (outcome_by e)) (settled_as placed (c.requests.superseded - 1) (outcome_by e)) c.requests ≡ before
-  before_is =
-      ap₂ (λ (u w : List Write). put_all (put_all placed u) w) (mark_values c.requests.answered _ _ (placed_value c.requests.answered h.answers))
-      (mark_values c.requests.superseded _ _ (placed_value c.requests.superseded h.supersedes))
+  before_is : settled placed (value_of placed c.requests c.requests.answered) (value_of placed c.requests c.requests.superseded) c.requests ≡ before
+  before_is = ap₂ (λ (u w : ℕ). settled placed u w c.requests) (placed_value c.requests.answered) (placed_value c.requests.superseded)
 
   before_long : length before ≡ book_size
   before_long =
-      ap length (sym (settled_is (outcome_by e) (few_outcomes e) placed placed_long c.requests t placed_count h.answers h.supersedes ∙ before_is))
-      ∙ (marked_keeps (outcome_by e) (few_outcomes e) placed c.requests).same ∙ placed_long
+      ap length (sym (settled_is placed placed_long c.requests h.small t placed_count h.answers h.supersedes ∙ before_is))
+      ∙ (marked_keeps placed c.requests h.small).same ∙ placed_long
 
-  tables_is : tables_with b e c ≡ put_all before (add_writes t (origin_by b c) c.requests)
+  tables_is : tables_with b c ≡ put_all before (add_writes t (origin_by b c) c.requests)
   unfolding tables_with
   tables_is =
-      ap (λ (x : List ℕ). place_requests x (outcome_by e) (origin_by b c) c.requests) placed_is
-      ∙ requests_is (outcome_by e) (few_outcomes e) placed placed_long c.requests t placed_count h.answers h.supersedes (origin_by b c) h.room
+      ap (λ (x : List ℕ). place_requests x (origin_by b c) c.requests) placed_is
+      ∙ requests_is placed placed_long c.requests h.small t placed_count h.answers h.supersedes (origin_by b c) h.room
       ∙ ap (λ (x : List ℕ). put_all x (add_writes t (origin_by b c) c.requests)) before_is
 
-  tables_long : length (tables_with b e c) ≡ book_size
-  tables_long = (tables_keeps b e c (λ y. h.order) (λ y. h.request (eqb-false c.requests.added 0 y))).same ∙ h.long
+  tables_long : length (tables_with b c) ≡ book_size
+  tables_long = (tables_keeps b c h.small (λ y. h.order) (λ y. h.request (eqb-false c.requests.added 0 y))).same ∙ h.long
 
   -- the word goes before what is added
   word_first : put (put_all before (add_writes t (origin_by b c) c.requests)) (open_write p n) ≡ put_all (put before (open_write p n)) (add_writes t (origin_by b c) c.requests)
@@ -327,15 +340,15 @@ module _ (b : List ℕ) (e : Event) (i p : ℕ) (c : Change) (h : Placing b i p 
       all_comm book_size before (add_writes t (origin_by b c) c.requests) (open_write p n ∷ []) before_long (every_map (λ w z. zone_inside w z) added) (every∷ (zone_inside (open_write p n) word) every[])
       (every_map (λ w z. every∷ (zones_beside w (λ k y a. y) (λ k y a. a) (λ y a. a) (λ k y a. y) (open_write p n) z word) every[]) added)
 
-  pub change_is : book_with b e c
-      ≡ put_all (put_all b (order_write i c.order ∷ rest_writes p n (value_of b e c.requests.answered) (value_of b e c.requests.superseded) c.requests))
+  pub change_is : book_with b c
+      ≡ put_all (put_all b (order_write i c.order ∷ rest_writes p n (value_of b c.requests c.requests.answered) (value_of b c.requests c.requests.superseded) c.requests))
       (add_writes t (origin_by b c) c.requests)
   unfolding book_with rest_writes put_order
   change_is =
       let r : Requests = c.requests in
-      let f : ℕ = value_of b e r.answered in
-      let s : ℕ = value_of b e r.superseded in
-      open_is (tables_with b e c) tables_long (after (book_of b) c) c.place c.order.client p (λ z. let y : c.place ≡ i + 1 = h.there in omega arith) h.found h.first
+      let f : ℕ = value_of b r r.answered in
+      let s : ℕ = value_of b r r.superseded in
+      open_is (tables_with b c) tables_long (after (book_of b) c) c.place c.order.client p (λ z. let y : c.place ≡ i + 1 = h.there in omega arith) h.found h.first
       ∙ ap (λ (x : List ℕ). put x (open_write p n)) tables_is
       ∙ word_first
       ∙ ap (λ (x : List ℕ). put_all x (add_writes t (origin_by b c) r))

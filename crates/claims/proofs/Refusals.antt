@@ -132,9 +132,9 @@ module _ (b : Book) (r : Ruled b) (e : Event) (other : is_booking e ≡ false) w
       (λ n. split_if T (eqb e.kind 4)
       (λ t. plain _ n (request_unbooked b r e _ _ (unknown_unbooked b) (λ f k q o. made_moves (on_report_made k q o e _ _ _ _ t))))
       (λ t. split_if T (eqb e.kind 5) (λ t. plain _ n (request_unbooked b r e _ _ (unknown_unbooked b) (λ f k q o. made_moves (unknown_made k q o e _ _ _ _))))
-      (λ t. split_if T (eqb e.kind 6) (λ t. plain _ n (request_unbooked b r e _ _ (unknown_unbooked b) (λ f k q o. made_moves (reject_made k q o e _ _ _ _ (not_kind e 6 7 t refl)))))
+      (λ t. split_if T (eqb e.kind 6) (λ t. plain _ n (request_unbooked b r e _ _ (unknown_unbooked b) (λ f k q o. made_moves (reject_made k q o e _ _ _ _ t))))
       (λ t. split_if T (eqb e.kind 7) (λ t. plain _ n (request_unbooked b r e _ _ (nothing_unbooked b) (λ f k q o. made_moves (failed_made k q o e _ _ _ _ t))))
-      (λ t. split_if T (eqb e.kind 8) (λ t. plain _ n (request_unbooked b r e _ _ (nothing_unbooked b) (λ f k q o. made_moves (unsent_made k q o e _ _ _ _ (not_kind e 8 7 t refl)))))
+      (λ t. split_if T (eqb e.kind 8) (λ t. plain _ n (request_unbooked b r e _ _ (nothing_unbooked b) (λ f k q o. made_moves (unsent_made k q o e _ _ _ _ t))))
       (λ t. plain _ n (split_maybe (Unbooked b 0) _ (λ z. nothing_unbooked b)
       (λ i z. findings_unbooked b 2 (i + 1) _ _ (let l : i < length b.orders = found_order b e.ids.name i z in omega arith) (asked_moves (asked_made (order_in b i) _ _ _ _))))))))))))
 
@@ -235,10 +235,10 @@ unfolding requests_after if◌then◌otherwise◌
 requests_grow qs c = go (eqb c.requests.added 0) refl
   where
     settled : List Request
-    settled = answer_link c.requests.superseded (answer_link c.requests.answered qs)
+    settled = answer_link c.requests.superseded c.requests.outcome (answer_link c.requests.answered c.requests.outcome qs)
 
     same : length settled ≡ length qs
-    same = length_answer c.requests.superseded _ ∙ length_answer c.requests.answered qs
+    same = length_answer c.requests.superseded _ _ ∙ length_answer c.requests.answered _ qs
 
     go : (z : Bool) → eqb c.requests.added 0 ≡ z → length (requests_after qs c) ≡ length qs + (if not z then 1 otherwise 0)
     go true e = rw e (omega (arith, same))

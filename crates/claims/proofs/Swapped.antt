@@ -13,13 +13,11 @@ use Rattle.store.specs.Orders.{WholeOrder, no_order}
 use Rattle.store.specs.Requests.{WholeRequest, encode_request}
 use Rattle.store.specs.Laws.Orders.{length_order}
 use Rattle.store.specs.Laws.Requests.{length_request}
-use Rattle.store.specs.Book.{Book, book_of, order_in, request_in}
+use Rattle.store.specs.Book.{Book, book_of, order_in, request_in, settled_as}
 use Rattle.store.specs.Finds.{is_clients, find_client, find_clordid}
-use Rattle.store.specs.Laws.Stored.{length_requests}
 use Rattle.machine.specs.declared.Requests.{Requests}
 use Rattle.machine.specs.declared.Change.{Change}
 use Rattle.machine.specs.Orders.{one_more, leaves_qty}
-use Rattle.machine.specs.Changes.{Event}
 use Rattle.machine.specs.Machine.{after}
 use Rattle.machine.specs.Exchange.{open_of}
 use Rattle.machine.proofs.Kept.Lift.{BookKept}
@@ -28,10 +26,9 @@ use Rattle.machine.proofs.Exchange.Links.{Linked, same, cancels, replaces, same_
 use Rattle.machine.proofs.Exchange.Frame.{Owned, apart, owned_at, owned_beside, clordid_same}
 use Rattle.machine.proofs.Exchange.Commute.{count_two, first_at, second_at, others_at}
 use Rattle.machine.proofs.Exchange.Both.{next, Crossed, crossed_back}
-use Rattle.outcomes.specs.Outcomes.{outcome_by, origin_of}
+use Rattle.index.specs.Index.{origin_of}
 use Rattle.step.specs.Entries.{book_with}
 use Rattle.claims.proofs.Written.{Writes}
-use Rattle.claims.proofs.Settled.{Settled, settled_same}
 use Rattle.claims.proofs.Splices.{Write, put, put_all, Inside, Beside, put_append, length_all, all_comm, put_over, span_put}
 use Rattle.claims.proofs.Placed.{order_write, rest_writes, rest_values, value_of, origin_by, request_write, count_write, add_writes, none_added, one_added, Zone, No, InOrder, InRest, InRequest, InAdded, in_count, zone_inside, zones_beside, order_zone, rest_zones, request_zone, behind_zone, count_zone, add_zones, change_is}
 
@@ -81,16 +78,15 @@ linked_part client t m n c c' (replaces a z w e) = ap (λ (y : Change). part cli
 
 -- ---- changes of the orders at indices i and j: c' is c as it is seen after d, and d' is d as it is seen after c
 
--- what the change of an event needs, so that it can be written into these bytes
-pub record Fit (b : List ℕ) (e : Event) (c : Change) : Type 0 where
+-- what a change needs, so that it can be written into these bytes
+pub record Fit (b : List ℕ) (c : Change) : Type 0 where
   pub room : (c.requests.added ≡ 0) ⊎ (length (book_of b).requests < most_requests)
-  pub writes : Writes b e c
-  pub settled : Settled b e c
+  pub writes : Writes b c
+  pub small : c.requests.outcome ≤ 3
   pub order : WholeOrder c.order
   pub request : (c.requests.added ≡ 0 → ⊥) → WholeRequest c.requests.request
 
--- the changes c and c' are of the event v, d and d' of w
-pub record Pair (b : List ℕ) (i j : ℕ) (v w : Event) (c c' d d' : Change) : Type 0 where
+pub record Pair (b : List ℕ) (i j : ℕ) (c c' d d' : Change) : Type 0 where
   pub long : length b ≡ book_size
   pub kept : BookKept (book_of b)
   pub clients : (order_in (book_of b) i).client ≡ (order_in (book_of b) j).client → ⊥
@@ -98,13 +94,13 @@ pub record Pair (b : List ℕ) (i j : ℕ) (v w : Event) (c c' d d' : Change) : 
   pub first_word : FirstOf (book_of b) (order_in (book_of b) i).client
   pub second_word : FirstOf (book_of b) (order_in (book_of b) j).client
   pub crossed : Crossed (book_of b) i j c c' d d'
-  pub first : Fit b v c
-  pub second : Fit b w d
-  pub later : Fit (book_with b w d) v c'
-  pub behind : Fit (book_with b v c) w d'
+  pub first : Fit b c
+  pub second : Fit b d
+  pub later : Fit (book_with b d) c'
+  pub behind : Fit (book_with b c) d'
 
-abbrev turn : (b : List ℕ) (i j : ℕ) (v w : Event) (c c' d d' : Change) → Pair b i j v w c c' d d' → Pair b j i w v d d' c c'
-turn b i j v w c c' d d' h = record {
+abbrev turn : (b : List ℕ) (i j : ℕ) (c c' d d' : Change) → Pair b i j c c' d d' → Pair b j i d d' c c'
+turn b i j c c' d d' h = record {
   long = h.long;
   kept = h.kept;
   clients = λ z. h.clients (sym z);
@@ -118,7 +114,7 @@ turn b i j v w c c' d d' h = record {
 }
 
 -- c on the bytes as they are, and c' on those that d leaves
-module _ (b : List ℕ) (i j : ℕ) (v w : Event) (c c' d d' : Change) (h : Pair b i j v w c c' d d') where
+module _ (b : List ℕ) (i j : ℕ) (c c' d d' : Change) (h : Pair b i j c c' d d') where
   abbrev x : Book
   x = book_of b
 
@@ -201,13 +197,13 @@ module _ (b : List ℕ) (i j : ℕ) (v w : Event) (c c' d d' : Change) (h : Pair
 
   -- its own writes, but for the order, and the origin of what it adds
   abbrev rest : List Write
-  rest = rest_writes p (open_of (after x c) client) (value_of b v c.requests.answered) (value_of b v c.requests.superseded) c.requests
+  rest = rest_writes p (open_of (after x c) client) (value_of b c.requests c.requests.answered) (value_of b c.requests c.requests.superseded) c.requests
 
   abbrev origin : ℕ
   origin = origin_by b c
 
-  here : book_with b v c ≡ put_all (put_all b (order_write i c.order ∷ rest)) (add_writes (length x.requests) origin c.requests)
-  here = change_is b v i p c (record {
+  here : book_with b c ≡ put_all (put_all b (order_write i c.order ∷ rest)) (add_writes (length x.requests) origin c.requests)
+  here = change_is b i p c (record {
     long = h.long;
     there = own.there;
     inside = own.inside;
@@ -215,13 +211,14 @@ module _ (b : List ℕ) (i j : ℕ) (v w : Event) (c c' d d' : Change) (h : Pair
     supersedes = own.supersedes_in;
     room = h.first.room;
     order = h.first.order;
+    small = h.first.small;
     request = h.first.request;
     found = found_here;
     first = first_few;
   })
 
   abbrev left : List ℕ
-  left = book_with b w d
+  left = book_with b d
 
   left_is : book_of left ≡ after x d
   left_is = h.second.writes.is
@@ -230,25 +227,23 @@ module _ (b : List ℕ) (i j : ℕ) (v w : Event) (c c' d d' : Change) (h : Pair
   left_long = h.second.writes.keeps.same ∙ h.long
 
   -- what its requests come to is no matter of d, nor is the request that an OrigClOrdID of its client names
-  value_same : (link : ℕ) → link ≤ length x.requests → ((k : ℕ) → link ≡ k + 1 → (request_in x k).order ≡ i) → (link ≡ 0 → ⊥) → value_of left v link ≡ value_of b v link
+  value_same : (link : ℕ) → link ≤ length x.requests → ((k : ℕ) → link ≡ k + 1 → (request_in x k).order ≡ i) → (link ≡ 0 → ⊥)
+      → value_of left c.requests link ≡ value_of b c.requests link
   value_same link l mine z =
       let k : ℕ = link - 1 in
-      let u : k < length x.requests = omega arith in
-      let still : request_in (after x d) k ≡ request_in x k = (apart x j d other).requests k u (λ y. away (sym y ∙ mine k (omega arith))) in
-      settled_same (outcome_by v) b left h.long left_long k (omega (arith, length_requests b))
-      (omega (arith, length_requests left, ap (λ (y : Book). length y.requests) left_is, (apart x j d other).longer))
-      (ap (λ (y : Book). request_in y k) left_is ∙ still) (h.second.settled.same k (omega (arith, length_requests b)) still)
+      ap (λ (y : Book). settled_as c.requests.outcome (request_in y k)) left_is
+      ∙ ap (settled_as c.requests.outcome) ((apart x j d other).requests k (omega arith) (λ y. away (sym y ∙ mine k (omega arith))))
 
   origin_same : origin_by left c' ≡ origin
   unfolding origin_of
   origin_same =
-      ap₂ (λ (m : ℕ) (r : Requests). origin_of left m r.request.origclordid) client_same requests_same
+      ap₂ (λ (m : ℕ) (r : Requests). origin_of (book_of left) m r.request.origclordid) client_same requests_same
       ∙ ap (λ (y : Book). maybe 0 (λ k. k + 1) (find_clordid y client c.requests.request.origclordid)) left_is
       ∙ ap (maybe 0 (λ k. k + 1)) (clordid_same x (after x d) j (apart x j d other) client (λ z. h.clients (sym own.client ∙ sym z)) c.requests.request.origclordid)
 
-  there : book_with left v c' ≡ put_all (put_all left (order_write i c'.order ∷ rest)) (add_writes (length (after x d).requests) origin c.requests)
+  there : book_with left c' ≡ put_all (put_all left (order_write i c'.order ∷ rest)) (add_writes (length (after x d).requests) origin c.requests)
   there =
-      change_is left v i p c' (record {
+      change_is left i p c' (record {
         long = left_long;
         there = place_same ∙ own.there;
         inside = omega (arith, own.inside, ap (λ (y : Book). length y.orders) left_is, (apart x j d other).count);
@@ -256,11 +251,12 @@ module _ (b : List ℕ) (i j : ℕ) (v w : Event) (c c' d d' : Change) (h : Pair
         supersedes = omega (arith, ap (λ (r : Requests). r.superseded) requests_same, own.supersedes_in, longer);
         room = h.later.room;
         order = h.later.order;
+        small = h.later.small;
         request = h.later.request;
         found = ap (λ (y : Book). find_client (after y c') c'.order.client) left_is ∙ found_there;
         first = first_few;
       })
-      ∙ ap₂ (λ (n : ℕ) (r : Requests). put_all (put_all left (order_write i c'.order ∷ rest_writes p n (value_of left v r.answered) (value_of left v r.superseded) r))
+      ∙ ap₂ (λ (n : ℕ) (r : Requests). put_all (put_all left (order_write i c'.order ∷ rest_writes p n (value_of left r r.answered) (value_of left r r.superseded) r))
       (add_writes (length (book_of left).requests) (origin_by left c') r))
       (ap (λ (y : Book). open_of (after y c') c'.order.client) left_is ∙ open_same) requests_same
       ∙ ap₂ (λ (ws : List Write) (n : ℕ). put_all (put_all left (order_write i c'.order ∷ ws)) (add_writes (length (book_of left).requests) n c.requests))
@@ -287,15 +283,15 @@ module _ (b : List ℕ) (i j : ℕ) (v w : Event) (c c' d d' : Change) (h : Pair
 inside_all : {O R : ℕ → Type 0} {C : Type 0} {P : ℕ → Type 0} {ws : List Write} → Every (Zone O R C P) ws → Every (Inside book_size) ws
 inside_all z = every_map (λ w y. zone_inside w y) z
 
-module _ (b : List ℕ) (i j : ℕ) (v w : Event) (c c' d d' : Change) (h : Pair b i j v w c c' d d') where
-  abbrev k : Pair b j i w v d d' c c'
-  k = turn b i j v w c c' d d' h
+module _ (b : List ℕ) (i j : ℕ) (c c' d d' : Change) (h : Pair b i j c c' d d') where
+  abbrev k : Pair b j i d d' c c'
+  k = turn b i j c c' d d' h
 
   abbrev rest_c : List Write
-  rest_c = rest b i j v w c c' d d' h
+  rest_c = rest b i j c c' d d' h
 
   abbrev rest_d : List Write
-  rest_d = rest b j i w v d d' c c' k
+  rest_d = rest b j i d d' c c' k
 
   abbrev t : ℕ
   t = length (book_of b).requests
@@ -306,17 +302,17 @@ module _ (b : List ℕ) (i j : ℕ) (v w : Event) (c c' d d' : Change) (h : Pair
   abbrev origin_d : ℕ
   origin_d = origin_by b d
 
-  pos : p b i j v w c c' d d' h ≡ p b j i w v d d' c c' k → ⊥
+  pos : p b i j c c' d d' h ≡ p b j i d d' c c' k → ⊥
   pos z =
-      h.clients (sym (its b i j v w c c' d d' h).its ∙ ap (λ (m : ℕ). (order_in (book_of b) m).client) z ∙ (its b j i w v d d' c c' k).its)
+      h.clients (sym (its b i j c c' d d' h).its ∙ ap (λ (m : ℕ). (order_in (book_of b) m).client) z ∙ (its b j i d d' c c' k).its)
 
   -- what is added stands beside d's own writes
   added_own : (s : List ℕ) (o : Order) → WholeOrder o → length s ≡ book_size
       → put_all (put_all s (add_writes t origin_c c.requests)) (order_write j o ∷ rest_d) ≡ put_all (put_all s (order_write j o ∷ rest_d)) (add_writes t origin_c c.requests)
   added_own s o f l =
-      let order : InOrder j (order_write j o) = order_in_lem b j i w v d d' c c' k o f in
-      let rests : Every (InRest (book_of b) j (p b j i w v d d' c c' k)) rest_d = rest_in b j i w v d d' c c' k in
-      let adds : Every (InAdded t) (add_writes t origin_c c.requests) = now_in b i j v w c c' d d' h in
+      let order : InOrder j (order_write j o) = order_in_lem b j i d d' c c' k o f in
+      let rests : Every (InRest (book_of b) j (p b j i d d' c c' k)) rest_d = rest_in b j i d d' c c' k in
+      let adds : Every (InAdded t) (add_writes t origin_c c.requests) = now_in b i j c c' d d' h in
       all_comm book_size s (add_writes t origin_c c.requests) (order_write j o ∷ rest_d) l (inside_all adds) (every∷ (zone_inside _ order) (inside_all rests))
       (every_map (λ q y. every∷ (zones_beside q (λ m a e. a) (λ m a e. e) (λ a e. e) (λ m a e. a) _ y order)
       (every_map (λ u z. zones_beside q (λ m a e. a) (λ m a e. omega (arith, a, e.1)) (λ a e. e) (λ m a e. a) u y z) rests)) adds)
@@ -325,10 +321,10 @@ module _ (b : List ℕ) (i j : ℕ) (v w : Event) (c c' d d' : Change) (h : Pair
   own_own : (s : List ℕ) (o u : Order) → WholeOrder o → WholeOrder u → length s ≡ book_size
       → put_all (put_all s (order_write j u ∷ rest_d)) (order_write i o ∷ rest_c) ≡ put_all (put_all s (order_write i o ∷ rest_c)) (order_write j u ∷ rest_d)
   own_own s o u f g l =
-      let one : InOrder i (order_write i o) = order_in_lem b i j v w c c' d d' h o f in
-      let two : InOrder j (order_write j u) = order_in_lem b j i w v d d' c c' k u g in
-      let ones : Every (InRest (book_of b) i (p b i j v w c c' d d' h)) rest_c = rest_in b i j v w c c' d d' h in
-      let twos : Every (InRest (book_of b) j (p b j i w v d d' c c' k)) rest_d = rest_in b j i w v d d' c c' k in
+      let one : InOrder i (order_write i o) = order_in_lem b i j c c' d d' h o f in
+      let two : InOrder j (order_write j u) = order_in_lem b j i d d' c c' k u g in
+      let ones : Every (InRest (book_of b) i (p b i j c c' d d' h)) rest_c = rest_in b i j c c' d d' h in
+      let twos : Every (InRest (book_of b) j (p b j i d d' c c' k)) rest_d = rest_in b j i d d' c c' k in
       all_comm book_size s (order_write j u ∷ rest_d) (order_write i o ∷ rest_c) l (every∷ (zone_inside _ two) (inside_all twos)) (every∷ (zone_inside _ one) (inside_all ones))
       (every∷
       (every∷ (zones_beside _ (λ m a e. h.crossed.apart (sym e ∙ a)) (λ m a e. a) (λ a e. a) (λ m a e. a) _ two one)
@@ -338,39 +334,39 @@ module _ (b : List ℕ) (i j : ℕ) (v w : Event) (c c' d d' : Change) (h : Pair
 
   -- one after the other: both orders' own writes, and then what they add, each in its turn
   own_long : (o : Order) → WholeOrder o → length (put_all b (order_write i o ∷ rest_c)) ≡ book_size
-  own_long o f = length_all b _ book_size h.long (every∷ (zone_inside _ (order_in_lem b i j v w c c' d d' h o f)) (inside_all (rest_in b i j v w c c' d d' h)))
+  own_long o f = length_all b _ book_size h.long (every∷ (zone_inside _ (order_in_lem b i j c c' d d' h o f)) (inside_all (rest_in b i j c c' d d' h)))
 
-  one_form : book_with (book_with b v c) w d'
+  one_form : book_with (book_with b c) d'
       ≡ put_all (put_all (put_all (put_all b (order_write i c.order ∷ rest_c)) (order_write j d'.order ∷ rest_d)) (add_writes t origin_c c.requests))
       (add_writes (length (after (book_of b) c).requests) origin_d d.requests)
   one_form =
-      there b j i w v d d' c c' k
-      ∙ ap (λ (s : List ℕ). put_all (put_all s (order_write j d'.order ∷ rest_d)) (add_writes (length (after (book_of b) c).requests) origin_d d.requests)) (here b i j v w c c' d d' h)
+      there b j i d d' c c' k
+      ∙ ap (λ (s : List ℕ). put_all (put_all s (order_write j d'.order ∷ rest_d)) (add_writes (length (after (book_of b) c).requests) origin_d d.requests)) (here b i j c c' d d' h)
       ∙ ap (λ (s : List ℕ). put_all s (add_writes (length (after (book_of b) c).requests) origin_d d.requests))
       (added_own (put_all b (order_write i c.order ∷ rest_c)) d'.order h.behind.order (own_long c.order h.first.order))
 
 -- ---- the two ways round
 
-module _ (b : List ℕ) (i j : ℕ) (v w : Event) (c c' d d' : Change) (h : Pair b i j v w c c' d d') where
+module _ (b : List ℕ) (i j : ℕ) (c c' d d' : Change) (h : Pair b i j c c' d d') where
   abbrev from_c : ℕ
   from_c = origin_by b c
 
   abbrev from_d : ℕ
   from_d = origin_by b d
 
-  abbrev k' : Pair b j i w v d d' c c'
-  k' = turn b i j v w c c' d d' h
+  abbrev k' : Pair b j i d d' c c'
+  k' = turn b i j c c' d d' h
 
   -- both orders' own writes, c's with this order and d's with that
   abbrev owns : Order → Order → List ℕ
-  owns o u = put_all (put_all b (order_write i o ∷ rest_c b i j v w c c' d d' h)) (order_write j u ∷ rest_d b i j v w c c' d d' h)
+  owns o u = put_all (put_all b (order_write i o ∷ rest_c b i j c c' d d' h)) (order_write j u ∷ rest_d b i j c c' d d' h)
 
-  two_form : book_with (book_with b w d) v c'
+  two_form : book_with (book_with b d) c'
       ≡ put_all (put_all (owns c'.order d.order) (add_writes (length (book_of b).requests) from_d d.requests)) (add_writes (length (after (book_of b) d).requests) from_c c.requests)
   two_form =
-      one_form b j i w v d d' c c' k'
+      one_form b j i d d' c c' k'
       ∙ ap (λ (s : List ℕ). put_all (put_all s (add_writes (length (book_of b).requests) from_d d.requests)) (add_writes (length (after (book_of b) d).requests) from_c c.requests))
-      (own_own b i j v w c c' d d' h b c'.order d.order h.later.order h.second.order h.long)
+      (own_own b i j c c' d d' h b c'.order d.order h.later.order h.second.order h.long)
 
   -- THE BYTES are the same where one of them adds nothing
   module _ (z : (c.requests.added ≡ 0) ⊎ (d.requests.added ≡ 0)) where
@@ -396,9 +392,9 @@ module _ (b : List ℕ) (i j : ℕ) (v w : Event) (c c' d d' : Change) (h : Pair
         ∙ sym (ap (λ (u : List Write). put_all (put_all s u) (add_writes (length (after (book_of b) d).requests) from_c c.requests)) (none_added _ _ d.requests y)
         ∙ ap (λ (n : ℕ). put_all s (add_writes n from_c c.requests)) (none_kept (book_of b) d y))
 
-    pub bytes_same : book_with (book_with b v c) w d' ≡ book_with (book_with b w d) v c'
+    pub bytes_same : book_with (book_with b c) d' ≡ book_with (book_with b d) c'
     bytes_same =
-        one_form b i j v w c c' d d' h
+        one_form b i j c c' d d' h
         ∙ adds_same (owns c.order d'.order) z
         ∙ ap (λ (s : List ℕ). put_all (put_all s (add_writes (length (book_of b).requests) from_d d.requests)) (add_writes (length (after (book_of b) d).requests) from_c c.requests))
         (ap₂ (λ (e f : Change). owns e.order f.order) (sym first_same) second_same)
@@ -419,13 +415,13 @@ module _ (b : List ℕ) (i j : ℕ) (v w : Event) (c c' d d' : Change) (h : Pair
     abbrev tail : ℕ → Request → ℕ → Request → List Write
     tail y q z u = request_write n y q ∷ count_write (n + 1) ∷ request_write (n + 1) z u ∷ count_write (n + 1 + 1) ∷ []
 
-    one_tail : book_with (book_with b v c) w d' ≡ put_all (owns c.order d'.order) (tail from_c qc from_d qd)
+    one_tail : book_with (book_with b c) d' ≡ put_all (owns c.order d'.order) (tail from_c qc from_d qd)
     one_tail =
-        one_form b i j v w c c' d d' h
+        one_form b i j c c' d d' h
         ∙ ap₂ (λ (y z : List Write). put_all (put_all (owns c.order d'.order) y) z) (one_added n from_c c.requests nc)
         (ap (λ (m : ℕ). add_writes m from_d d.requests) (added_long (book_of b) c nc) ∙ one_added (n + 1) from_d d.requests nd)
 
-    two_tail : book_with (book_with b w d) v c' ≡ put_all (owns c'.order d.order) (tail from_d qd from_c qc)
+    two_tail : book_with (book_with b d) c' ≡ put_all (owns c'.order d.order) (tail from_d qd from_c qc)
     two_tail =
         two_form
         ∙ ap₂ (λ (y z : List Write). put_all (put_all (owns c'.order d.order) y) z) (one_added n from_d d.requests nd)
@@ -434,7 +430,7 @@ module _ (b : List ℕ) (i j : ℕ) (v w : Event) (c c' d d' : Change) (h : Pair
     pub room_two : n + 1 < most_requests
     room_two = go h.behind.room
       where
-        go : (d'.requests.added ≡ 0) ⊎ (length (book_of (book_with b v c)).requests < most_requests) → n + 1 < most_requests
+        go : (d'.requests.added ≡ 0) ⊎ (length (book_of (book_with b c)).requests < most_requests) → n + 1 < most_requests
         go (inl y) = absurd (nd (sym (ap (λ (r : Requests). r.added) (same_requests h.crossed.second_linked)) ∙ y))
         go (inr y) = omega (arith, ap (λ (x : Book). length x.requests) h.first.writes.is, added_long (book_of b) c nc)
 
@@ -453,14 +449,14 @@ module _ (b : List ℕ) (i j : ℕ) (v w : Event) (c c' d d' : Change) (h : Pair
         (every∷ (behind_zone n (n + 1) _ (omega arith) (request_in_lem (n + 1) z u (omega arith) g)) (every∷ (count_zone n (n + 1 + 1)) every[])))
 
     order_i : (o : Order) → WholeOrder o → InOrder i (order_write i o)
-    order_i o f = order_in_lem b i j v w c c' d d' h o f
+    order_i o f = order_in_lem b i j c c' d d' h o f
 
     order_j : (o : Order) → WholeOrder o → InOrder j (order_write j o)
-    order_j o f = order_in_lem b j i w v d d' c c' k' o f
+    order_j o f = order_in_lem b j i d d' c c' k' o f
 
     owns_long : (o u : Order) → WholeOrder o → WholeOrder u → length (owns o u) ≡ book_size
     owns_long o u f g =
-        length_all _ _ book_size (own_long b i j v w c c' d d' h o f) (every∷ (zone_inside _ (order_j u g)) (inside_all (rest_in b j i w v d d' c c' k')))
+        length_all _ _ book_size (own_long b i j c c' d d' h o f) (every∷ (zone_inside _ (order_j u g)) (inside_all (rest_in b j i d d' c c' k')))
 
     same_size : (y : ℕ) (q : Request) (z : ℕ) (u : Request) → WholeRequest q → WholeRequest u → length (encode_request y q) ≡ length (encode_request z u)
     same_size y q z u f g = length_request y q f ∙ sym (length_request z u g)
@@ -514,31 +510,31 @@ module _ (b : List ℕ) (i j : ℕ) (v w : Event) (c c' d d' : Change) (h : Pair
     over_j : (o u y : Order) (ws : List Write) → WholeOrder o → WholeOrder u → WholeOrder y → Every (InAdded n) ws
         → put (put_all (owns o u) ws) (order_write j y) ≡ put_all (owns o y) ws
     over_j o u y ws a e f zs =
-        let s : List ℕ = put_all b (order_write i o ∷ rest_c b i j v w c c' d d' h) in
-        let more : List Write = rest_d b i j v w c c' d d' h in
+        let s : List ℕ = put_all b (order_write i o ∷ rest_c b i j c c' d d' h) in
+        let more : List Write = rest_d b i j c c' d d' h in
         ap (λ (z : List ℕ). put z (order_write j y)) (sym (put_append s (order_write j u ∷ more) ws))
-        ∙ put_over book_size s (order_write j u) (order_write j y) (more ++ ws) (own_long b i j v w c c' d d' h o a) (zone_inside _ (order_j u e)) refl
+        ∙ put_over book_size s (order_write j u) (order_write j y) (more ++ ws) (own_long b i j c c' d d' h o a) (zone_inside _ (order_j u e)) refl
         (length_order y f.fits ∙ sym (length_order u e.fits))
-        (every_append (inside_all (rest_in b j i w v d d' c c' k')) (inside_all zs))
-        (every_append (beside_order j _ (order_j y f) (rest_in b j i w v d d' c c' k')) (beside_order j _ (order_j y f) zs))
+        (every_append (inside_all (rest_in b j i d d' c c' k')) (inside_all zs))
+        (every_append (beside_order j _ (order_j y f) (rest_in b j i d d' c c' k')) (beside_order j _ (order_j y f) zs))
         ∙ put_append s (order_write j y ∷ more) ws
 
     over_i : (o u y : Order) (ws : List Write) → WholeOrder o → WholeOrder u → WholeOrder y → Every (InAdded n) ws
         → put (put_all (owns o u) ws) (order_write i y) ≡ put_all (owns y u) ws
     over_i o u y ws a e f zs =
-        let more : List Write = rest_c b i j v w c c' d d' h in
-        let next : List Write = order_write j u ∷ rest_d b i j v w c c' d d' h in
+        let more : List Write = rest_c b i j c c' d d' h in
+        let next : List Write = order_write j u ∷ rest_d b i j c c' d d' h in
         let nexts : Every (Beside (order_write i y)) next =
-        every∷ (zones_beside _ (λ m k z. h.crossed.apart (sym k ∙ z)) (λ m k z. k) (λ k z. k) (λ m k z. k) _ (order_i y f) (order_j u e)) (beside_order i _ (order_i y f) (rest_in b j i w v d d' c c' k')) in
+        every∷ (zones_beside _ (λ m k z. h.crossed.apart (sym k ∙ z)) (λ m k z. k) (λ k z. k) (λ m k z. k) _ (order_i y f) (order_j u e)) (beside_order i _ (order_i y f) (rest_in b j i d d' c c' k')) in
         let flat : (z : Write) → put_all (put_all (put_all b (z ∷ more)) next) ws ≡ put_all b (z ∷ (more ++ (next ++ ws))) = λ z. sym (put_append b (z ∷ more) (next ++ ws) ∙ put_append (put_all b (z ∷ more)) next ws) in
         ap (λ (z : List ℕ). put z (order_write i y)) (flat (order_write i o))
         ∙ put_over book_size b (order_write i o) (order_write i y) (more ++ (next ++ ws)) h.long (zone_inside _ (order_i o a)) refl (length_order y f.fits ∙ sym (length_order o a.fits))
-        (every_append (inside_all (rest_in b i j v w c c' d d' h)) (every_append (every∷ (zone_inside _ (order_j u e)) (inside_all (rest_in b j i w v d d' c c' k'))) (inside_all zs)))
-        (every_append (beside_order i _ (order_i y f) (rest_in b i j v w c c' d d' h)) (every_append nexts (beside_order i _ (order_i y f) zs)))
+        (every_append (inside_all (rest_in b i j c c' d d' h)) (every_append (every∷ (zone_inside _ (order_j u e)) (inside_all (rest_in b j i d d' c c' k'))) (inside_all zs)))
+        (every_append (beside_order i _ (order_i y f) (rest_in b i j c c' d d' h)) (every_append nexts (beside_order i _ (order_i y f) zs)))
         ∙ sym (flat (order_write i y))
 
     -- THE BYTES the other way round are these with four records written again
-    pub bytes_turned : put (put (put (put (book_with (book_with b v c) w d') (request_write (n + 1) from_c qc)) (request_write n from_d qd)) (order_write j d.order)) (order_write i c'.order) ≡ book_with (book_with b w d) v c'
+    pub bytes_turned : put (put (put (put (book_with (book_with b c) d') (request_write (n + 1) from_c qc)) (request_write n from_d qd)) (order_write j d.order)) (order_write i c'.order) ≡ book_with (book_with b d) c'
     bytes_turned =
         let o : WholeOrder c.order = h.first.order in
         let u : WholeOrder d'.order = h.behind.order in
@@ -551,8 +547,8 @@ module _ (b : List ℕ) (i j : ℕ) (v w : Event) (c c' d d' : Change) (h : Pair
         ∙ sym two_tail
 
     -- and the two records are, as bytes, what each event wrote
-    pub records : (span (book_with (book_with b v c) w d') (request_base n) request_size ≡ encode_request from_c qc)
-        × (span (book_with (book_with b v c) w d') (request_base (n + 1)) request_size ≡ encode_request from_d qd)
+    pub records : (span (book_with (book_with b c) d') (request_base n) request_size ≡ encode_request from_c qc)
+        × (span (book_with (book_with b c) d') (request_base (n + 1)) request_size ≡ encode_request from_d qd)
     records =
         let l : length (owns c.order d'.order) ≡ book_size = owns_long c.order d'.order h.first.order h.behind.order in (
           ap (λ (y : List ℕ). span y (request_base n) request_size) one_tail ∙ first_record (owns c.order d'.order) l,

@@ -1,6 +1,6 @@
 -- A call by the questions that it is asked, and what an event that is taken leaves: a book that keeps its rules, the machine's, of the same length.
 -- Rests on Written and Header, and on machine's step_keeps and whole_kept.
-use Rattle.std.proofs.Common.{ℕ, ◌≤◌, ◌<◌, arith, ◌≡◌, refl, sym, ap, ◌∙◌, subst, Bool, true, false, not, List, eqb, ltb, length, eqb-true, eq-eqb, ltb-true, ltb-false}
+use Rattle.std.proofs.Common.{ℕ, ◌≤◌, ◌<◌, arith, ◌≡◌, refl, sym, ap, ◌∙◌, subst, ⊎_elim, Bool, true, false, not, List, eqb, ltb, length, eqb-true, eq-eqb, ltb-true, ltb-false}
 use Rattle.std.proofs.lemmas.Bool.{eqb-false, not-true, not-false}
 use Rattle.prelude.specs.Cases.{split_if, if_true, if_false, clash}
 use Rattle.prelude.specs.Number.{Bytes}
@@ -14,25 +14,29 @@ use Rattle.machine.specs.Machine.{has_room, change_of, step_of, after, book_afte
 use Rattle.machine.specs.Rules.{rules}
 use Rattle.machine.specs.History.{messages_of}
 use Rattle.machine.specs.Events.{Ranged}
+use Rattle.machine.specs.Outcomes.{outcome_by}
 use Rattle.machine.specs.Whole.{WholeBook}
+use Rattle.machine.proofs.Claim.Ruled.{ruled}
+use Rattle.machine.proofs.Kept.Lift.{book_kept}
 use Rattle.machine.proofs.Kept.Steps.{step_keeps}
 use Rattle.machine.proofs.Kept.Whole.{whole_kept}
+use Rattle.machine.proofs.Outcomes.Set.{outcome_set}
 use Rattle.machine.proofs.Said.Reads.{event_ranged, event_whole}
 use Rattle.machine.proofs.Said.Steps.{messages_few}
-use Rattle.opens.specs.Keeps.{keeps_of}
+use Rattle.rules.specs.Keeps.{keeps_of}
 use Rattle.step.specs.Entries.{book_with, Outcome, outcome, call_of, event_of, check_of}
 use Rattle.claims.specs.Claims.{WritesChange, Sizes, KeepsSizes}
 use Rattle.claims.proofs.Written.{whole_held, order_written, request_written, Writes, change_writes}
 use Rattle.claims.proofs.Header.{Headed, change_head}
 use Rattle.claims.proofs.Words.{opens_after}
 use Rattle.claims.proofs.Origin.{step_added}
-use Rattle.claims.proofs.Settled.{Settled, change_settles}
+use Rattle.claims.proofs.Links.{links_after}
 use Rattle.format.specs.Refusal.{event_refusal}
 use Rattle.records.specs.Laws.Writing.{answer_most}
 use Rattle.store.specs.Laws.Kept.{Keeps}
 use Rattle.rules.specs.Laws.Ruled.{Held}
-use Rattle.opens.specs.Laws.Keeps.{keeps_held, keeps_outcomes, held_keeps}
-use Rattle.opens.specs.Laws.Moved.{step_clients}
+use Rattle.rules.specs.Laws.Keeps.{keeps_held, keeps_links, held_keeps}
+use Rattle.index.specs.Laws.Moved.{step_clients}
 
 -- ---- the questions
 
@@ -72,7 +76,7 @@ call_taken b r a z = taken_by b r a (call_of b r (length a)) refl (asked b r a) 
 -- ---- the outcome
 
 abbrev pub left : (b r a : List ℕ) → Change → Outcome
-left b r a c = outcome 0 (book_with b (event_in r) c) (splice a 0 (answer_bytes c.output.alarm c.output.alarm2 (messages_of c)))
+left b r a c = outcome 0 (book_with b c) (splice a 0 (answer_bytes c.output.alarm c.output.alarm2 (messages_of c)))
 
 pub event_taken : (b r a : List ℕ) → eqb (call_of b r (length a)).refusal 0 ≡ true → event_of b r a ≡ left b r a (call_of b r (length a))
 unfolding event_of
@@ -88,6 +92,13 @@ returned_is b r a = split_if (λ (o : Outcome). o.returned ≡ (call_of b r (len
 
 -- ---- the book that is left
 
+few_outcomes : (b : Book) (e : Event) → (step_of b e).requests.outcome ≤ 3
+unfolding outcome_by
+few_outcomes b e = ⊎_elim (λ z. omega (arith, z.2)) (λ z. subst (λ (n : ℕ). n ≤ 3) (sym z) few) (outcome_set b e)
+  where
+    few : outcome_by e ≤ 3
+    few = let P : ℕ → Type 0 = λ n. n ≤ 3 in split_if P _ (λ h. omega arith) (λ h. split_if P _ (λ g. omega arith) (λ g. omega arith))
+
 pub step_room : (b : Book) (e : Event) → (step_of b e).refusal ≡ 0 → has_room b (step_of b e) ≡ true
 unfolding step_of refusing
 step_room b e =
@@ -95,7 +106,7 @@ step_room b e =
     split_if P (not (eqb (change_of b e).refusal 0)) (λ t z. clash _ (eq-eqb _ 0 z) (not-true _ t))
     (λ t. split_if P (has_room b (change_of b e)) (λ h z. h) (λ h z. absurd (omega arith)))
 
-after_is : (b : Book) (e : Event) → (step_of b e).refusal ≡ 0 → book_after b e ≡ after b (step_of b e)
+pub after_is : (b : Book) (e : Event) → (step_of b e).refusal ≡ 0 → book_after b e ≡ after b (step_of b e)
 unfolding book_after
 after_is b e z = if_true _ _ _ (eq-eqb _ 0 z)
 
@@ -121,21 +132,24 @@ module _ (b r : List ℕ) (bytes : Bytes b) (bytes' : Bytes r) (keeps : keeps_of
   rules_after : rules (after (book_of b) c) ≡ true
   rules_after = ap rules (sym (after_is (book_of b) e taken)) ∙ step_keeps (book_of b) e ranged held.rules
 
-  pub writes : Writes b e c
-  writes = change_writes b e c held.long (step_room (book_of b) e taken) whole_after
+  -- an outcome is a byte
+  pub small : c.requests.outcome ≤ 3
+  small = few_outcomes (book_of b) e
 
-  head : Headed (book_with b e c)
+  pub writes : Writes b c
+  writes = change_writes b c small held.long (step_room (book_of b) e taken) whole_after
+
+  head : Headed (book_with b c)
   head =
-      change_head b e c (record { long = held.long; orders = omega (arith, held.orders, held.few_orders); requests = omega (arith, held.requests, held.few_requests) })
+      change_head b c (record { long = held.long; orders = omega (arith, held.orders, held.few_orders); requests = omega (arith, held.requests, held.few_requests) })
       (order_written (book_of b) c whole_after) (request_written (book_of b) c whole_after)
 
-  pub settled : Settled b e c
-  settled = change_settles b e c held.long (keeps_outcomes b keeps) (step_room (book_of b) e taken) whole_after (step_added (book_of b) e) writes
-
-  pub keeps_after : keeps_of (book_with b e c) ≡ true
+  pub keeps_after : keeps_of (book_with b c) ≡ true
   keeps_after =
-      held_keeps (book_with b e c) head.long head.orders head.requests (ap rules writes.is ∙ rules_after)
-      (opens_after b e c keeps writes rules_after whole_after (step_clients (book_of b) e held.rules taken)) settled.right
+      held_keeps (book_with b c) head.long head.orders head.requests (ap rules writes.is ∙ rules_after)
+      (links_after b c held.long (keeps_links b keeps) (book_kept (book_of b) held.rules) (book_kept (after (book_of b) c) rules_after) (step_room (book_of b) e taken) whole_after
+      (step_added (book_of b) e (ruled (book_of b) held.rules) taken) small writes)
+      (opens_after b c keeps writes rules_after whole_after (step_clients (book_of b) e held.rules taken))
 
 -- ---- check and its number
 
@@ -178,7 +192,7 @@ keeps_sizes b r a =
     (λ t.
     let c : Change = step_of (book_of b) (event_in r) in
     let w : List ℕ = answer_bytes c.output.alarm c.output.alarm2 (messages_of c) in
-    let k : (Bytes b → Bytes r → Keeps b (book_with b (event_in r) c)) = λ x y. (writes b r x y t.keeps t.reads t.taken).keeps in
+    let k : (Bytes b → Bytes r → Keeps b (book_with b c)) = λ x y. (writes b r x y t.keeps t.reads t.taken).keeps in
     record {
       answer = length_splice a 0 w (omega (arith, t.room, answer_most c.output.alarm c.output.alarm2 (messages_of c) (messages_few c)));
       book = λ x y. (k x y).same;

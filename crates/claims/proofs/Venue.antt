@@ -13,7 +13,7 @@ use Rattle.machine.specs.Status.{Left, taken_short}
 use Rattle.machine.specs.Sources.{Sourced}
 use Rattle.machine.specs.declared.Change.{Change}
 use Rattle.machine.proofs.Venue.Books.{status_set, six_right, sources_right}
-use Rattle.opens.specs.Laws.Keeps.{keeps_held}
+use Rattle.rules.specs.Laws.Keeps.{keeps_held}
 use Rattle.step.specs.Entries.{Outcome, event_of}
 use Rattle.claims.specs.Venue.{StatusOnBytes, SixOnBytes, SourcesOnBytes}
 use Rattle.claims.proofs.Taken.{Taken, call_taken, returned_is, outcome_taken, writes}

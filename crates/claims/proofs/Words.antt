@@ -1,5 +1,5 @@
 -- What is stored behind the tables after a change: the word of the order's client is its open quantity in the book as it is left, and every other client's word
--- and sum are as they were. Rests on Written, and on opens' laws of what a change moves.
+-- and sum are as they were. Rests on Written, and on index's laws of what a change moves.
 use Rattle.std.proofs.Common.{ℕ, ◌-◌, ◌<◌, arith, ◌≡◌, refl, sym, ap, ◌∙◌, Bool, true, false, Option, None, Some, List, eqb, length, eqb-true, eq-eqb}
 use Rattle.std.proofs.Math.Decide.{ℕ_discrete}
 use Rattle.std.proofs.lemmas.Bool.{eqb-false}
@@ -17,19 +17,17 @@ use Rattle.store.specs.Laws.Opens.{open_here, open_other, store_order_open, add_
 use Rattle.machine.specs.declared.Requests.{Requests}
 use Rattle.machine.specs.declared.Change.{Change}
 use Rattle.machine.specs.Orders.{leaves_qty}
-use Rattle.machine.specs.Changes.{Event}
 use Rattle.machine.specs.Machine.{after}
 use Rattle.machine.specs.Rules.{rules}
 use Rattle.machine.specs.Whole.{WholeBook}
 use Rattle.machine.specs.Exchange.{open_of}
 use Rattle.machine.proofs.Kept.Lift.{book_kept}
 use Rattle.machine.proofs.Claim.Filled.{after_orders, orders_same}
-use Rattle.outcomes.specs.Outcomes.{outcome_by}
-use Rattle.opens.specs.Opens.{stored_open, open_right, opens_right}
-use Rattle.opens.specs.Keeps.{keeps_of}
-use Rattle.opens.specs.Laws.Sums.{open_fits}
-use Rattle.opens.specs.Laws.Keeps.{keeps_held, keeps_stored}
-use Rattle.opens.specs.Laws.Moved.{SameClients, sum_others, first_stays, first_new, first_others}
+use Rattle.index.specs.Index.{stored_open, open_right, opens_right}
+use Rattle.rules.specs.Keeps.{keeps_of}
+use Rattle.index.specs.Laws.Sums.{open_fits}
+use Rattle.rules.specs.Laws.Keeps.{keeps_held, keeps_stored}
+use Rattle.index.specs.Laws.Moved.{SameClients, sum_others, first_stays, first_new, first_others}
 use Rattle.step.specs.Entries.{place_order, mark_link, place_requests, place_open, tables_with, book_with}
 use Rattle.claims.proofs.Written.{order_written, request_written, Writes}
 
@@ -49,9 +47,10 @@ module _ (j : ℕ) (k : j < most_orders) where
   unfolding mark_link
   link_word b link v = split_if (SameWord b j) (eqb link 0) (λ e. refl) (λ e. mark_open b j k (link - 1) v)
 
-  requests_word : (b : List ℕ) (v origin : ℕ) (r : Requests) → (eqb r.added 0 ≡ false → WholeRequest r.request) → SameWord b j (place_requests b v origin r)
+  requests_word : (b : List ℕ) (origin : ℕ) (r : Requests) → (eqb r.added 0 ≡ false → WholeRequest r.request) → SameWord b j (place_requests b origin r)
   unfolding place_requests
-  requests_word b v origin r w =
+  requests_word b origin r w =
+      let v : ℕ = r.outcome in
       let once : List ℕ = mark_link b r.answered v in
       let marked : SameWord b j (mark_link once r.superseded v) = link_word once r.superseded v ∙ link_word b r.answered v in
       split_if (SameWord b j) (eqb r.added 0) (λ e. marked) (λ e. add_request_open (mark_link once r.superseded v) j k origin r.request (w e) ∙ marked)
@@ -62,16 +61,16 @@ unfolding maybe
 stored_same b f None h = refl
 stored_same b f (Some j) h = h j refl
 
-module _ (b : List ℕ) (ev : Event) (c : Change) (keeps : keeps_of b ≡ true) (w : Writes b ev c) (kept : rules (after (book_of b) c) ≡ true) (whole : WholeBook (after (book_of b) c))
+module _ (b : List ℕ) (c : Change) (keeps : keeps_of b ≡ true) (w : Writes b c) (kept : rules (after (book_of b) c) ≡ true) (whole : WholeBook (after (book_of b) c))
     (clients : SameClients (book_of b) (after (book_of b) c)) where
   abbrev left : Book
   left = after (book_of b) c
 
   abbrev d : List ℕ
-  d = tables_with b ev c
+  d = tables_with b c
 
   abbrev f : List ℕ
-  f = book_with b ev c
+  f = book_with b c
 
   abbrev client : ℕ
   client = c.order.client
@@ -92,7 +91,7 @@ module _ (b : List ℕ) (ev : Event) (c : Change) (keeps : keeps_of b ≡ true) 
   table_word : (j : ℕ) → j < most_orders → open_at d j ≡ open_at b j
   unfolding tables_with
   table_word j k =
-      requests_word j k (place_order b c.place c.order) (outcome_by ev) _ c.requests (request_written (book_of b) c whole)
+      requests_word j k (place_order b c.place c.order) _ c.requests (request_written (book_of b) c whole)
       ∙ place_word j k b c.place c.order (order_written (book_of b) c whole)
 
   -- a client whose first order, sum and word are as they were

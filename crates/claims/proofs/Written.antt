@@ -14,13 +14,11 @@ use Rattle.store.specs.Book.{Book, order_in, order_at, is_book, setting_of, book
 use Rattle.store.specs.Finds.{find_client}
 use Rattle.machine.specs.declared.Requests.{Requests}
 use Rattle.machine.specs.declared.Change.{Change}
-use Rattle.machine.specs.Changes.{Event}
 use Rattle.machine.specs.Machine.{has_room, answer_link, orders_after, requests_after, after}
 use Rattle.machine.specs.Rules.{gateway_range}
 use Rattle.machine.specs.Whole.{WholeBook}
 use Rattle.machine.proofs.Kept.Lift.{BookKept, book_kept}
 use Rattle.machine.proofs.Kept.Tables.{length_answer}
-use Rattle.outcomes.specs.Outcomes.{outcome_by}
 use Rattle.step.specs.Entries.{place_order, mark_link, place_requests, place_open, tables_with, book_with}
 use Rattle.store.specs.Laws.Cells.{fits_32}
 use Rattle.store.specs.Laws.Stored.{length_orders, length_requests, order_in_lem, request_in_lem, order_whole, request_whole, store_order_book}
@@ -81,7 +79,8 @@ module _ (b : Book) (c : Change) (w : WholeBook (after b c)) where
   pub request_written : eqb c.requests.added 0 ≡ false → WholeRequest c.requests.request
   unfolding after requests_after
   request_written e =
-      let qs : List Request = answer_link c.requests.superseded (answer_link c.requests.answered b.requests) in
+      let v : ℕ = c.requests.outcome in
+      let qs : List Request = answer_link c.requests.superseded v (answer_link c.requests.answered v b.requests) in
       let is : (after b c).requests ≡ qs ++ (c.requests.request ∷ []) = if_false _ _ _ e in
       let h : length qs < length (after b c).requests = omega (arith, ap length is, length-append qs (c.requests.request ∷ [])) in
       subst WholeRequest (ap (λ (l : List Request). get_or l (length qs) no_request) is ∙ get_or_at qs c.requests.request [] no_request (length qs) refl) (w.request (length qs) h)
@@ -100,36 +99,32 @@ place_keeps b place o w =
     split_if (Keeps b) (eqb place 0) (λ e. keeps_self b)
     (λ e. split_if (Keeps b) _ (λ f. store_order_keeps b (place - 1) o (w e).fits) (λ f. add_order_keeps b o (w e).fits))
 
--- an outcome is a byte
-pub few_outcomes : (e : Event) → outcome_by e ≤ 3
-unfolding outcome_by
-few_outcomes e = let P : ℕ → Type 0 = λ n. n ≤ 3 in split_if P _ (λ h. omega arith) (λ h. split_if P _ (λ g. omega arith) (λ g. omega arith))
+module _ (v : ℕ) (small : v ≤ 3) where
+  pub mark_link_keeps : (b : List ℕ) (k : ℕ) → Keeps b (mark_link b k v)
+  unfolding mark_link
+  mark_link_keeps b k = split_if (Keeps b) (eqb k 0) (λ e. keeps_self b) (λ e. mark_keeps b (k - 1) v (omega arith))
 
--- v is the outcome of what is settled
-module _ (v : ℕ) where
-  abbrev pub marked : List ℕ → Requests → List ℕ
-  marked b r = mark_link (mark_link b r.answered v) r.superseded v
+-- the requests settled
+abbrev pub marked : List ℕ → Requests → List ℕ
+marked b r = mark_link (mark_link b r.answered r.outcome) r.superseded r.outcome
 
-  module _ (small : v ≤ 3) where
-    pub mark_link_keeps : (b : List ℕ) (k : ℕ) → Keeps b (mark_link b k v)
-    unfolding mark_link
-    mark_link_keeps b k = split_if (Keeps b) (eqb k 0) (λ e. keeps_self b) (λ e. mark_keeps b (k - 1) v (omega arith))
+pub marked_keeps : (b : List ℕ) (r : Requests) → r.outcome ≤ 3 → Keeps b (marked b r)
+marked_keeps b r small =
+    let once : List ℕ = mark_link b r.answered r.outcome in
+    keeps_more b once (marked b r) (mark_link_keeps r.outcome small b r.answered) (mark_link_keeps r.outcome small once r.superseded)
 
-    pub marked_keeps : (b : List ℕ) (r : Requests) → Keeps b (marked b r)
-    marked_keeps b r = keeps_more b (mark_link b r.answered v) (marked b r) (mark_link_keeps b r.answered) (mark_link_keeps (mark_link b r.answered v) r.superseded)
+requests_keeps : (b : List ℕ) (origin : ℕ) (r : Requests) → r.outcome ≤ 3 → (eqb r.added 0 ≡ false → WholeRequest r.request) → Keeps b (place_requests b origin r)
+unfolding place_requests
+requests_keeps b origin r small w =
+    split_if (Keeps b) (eqb r.added 0) (λ e. marked_keeps b r small)
+    (λ e. keeps_more b (marked b r) (add_request (marked b r) origin r.request) (marked_keeps b r small) (add_request_keeps (marked b r) origin r.request (w e)))
 
-    requests_keeps : (b : List ℕ) (origin : ℕ) (r : Requests) → (eqb r.added 0 ≡ false → WholeRequest r.request) → Keeps b (place_requests b v origin r)
-    unfolding place_requests
-    requests_keeps b origin r w =
-        split_if (Keeps b) (eqb r.added 0) (λ e. marked_keeps b r)
-        (λ e. keeps_more b (marked b r) (add_request (marked b r) origin r.request) (marked_keeps b r) (add_request_keeps (marked b r) origin r.request (w e)))
-
-pub tables_keeps : (b : List ℕ) (e : Event) (c : Change) → (eqb c.place 0 ≡ false → WholeOrder c.order)
-    → (eqb c.requests.added 0 ≡ false → WholeRequest c.requests.request) → Keeps b (tables_with b e c)
+pub tables_keeps : (b : List ℕ) (c : Change) → c.requests.outcome ≤ 3 → (eqb c.place 0 ≡ false → WholeOrder c.order)
+    → (eqb c.requests.added 0 ≡ false → WholeRequest c.requests.request) → Keeps b (tables_with b c)
 unfolding tables_with
-tables_keeps b e c o q =
+tables_keeps b c small o q =
     let d : List ℕ = place_order b c.place c.order in
-    keeps_more b d _ (place_keeps b c.place c.order o) (requests_keeps (outcome_by e) (few_outcomes e) d _ c.requests q)
+    keeps_more b d _ (place_keeps b c.place c.order o) (requests_keeps d _ c.requests small q)
 
 -- ---- each write is the book's
 
@@ -153,42 +148,41 @@ place_book b c l room w = go (eqb c.place 0) (leb c.place (order_count b)) refl 
         let h : order_count b < 64 = ⊎_elim (λ z. clash (leb c.place (order_count b)) z f) (λ z. ltb-true (order_count b) 64 z) (or_cases (leb c.place (order_count b)) _ either) in
         rw (e, length_orders b, f) (add_order_book b c.order l h (w e))
 
-module _ (v : ℕ) where
-  pub mark_link_book : (b : List ℕ) (k : ℕ) → book_of (mark_link b k v) ≡ with_requests (answer_link k (book_of b).requests) (book_of b)
-  unfolding mark_link answer_link if◌then◌otherwise◌
-  mark_link_book b k = go (eqb k 0) refl
-    where
-      go : (t : Bool) → eqb k 0 ≡ t → book_of (mark_link b k v) ≡ with_requests (answer_link k (book_of b).requests) (book_of b)
-      go true e = rw e refl
-      go false e = rw e (mark_book b (k - 1) v)
+pub mark_link_book : (v : ℕ) (b : List ℕ) (k : ℕ) → book_of (mark_link b k v) ≡ with_requests (answer_link k v (book_of b).requests) (book_of b)
+unfolding mark_link answer_link if◌then◌otherwise◌
+mark_link_book v b k = go (eqb k 0) refl
+  where
+    go : (t : Bool) → eqb k 0 ≡ t → book_of (mark_link b k v) ≡ with_requests (answer_link k v (book_of b).requests) (book_of b)
+    go true e = rw e refl
+    go false e = rw e (mark_book b (k - 1) v)
 
-  marked_book : (b : List ℕ) (r : Requests) → book_of (marked v b r) ≡ with_requests (answer_link r.superseded (answer_link r.answered (book_of b).requests)) (book_of b)
-  marked_book b r =
-      mark_link_book (mark_link b r.answered v) r.superseded
-      ∙ ap (λ (x : Book). with_requests (answer_link r.superseded x.requests) x) (mark_link_book b r.answered)
+marked_book : (b : List ℕ) (r : Requests) → book_of (marked b r) ≡ with_requests (answer_link r.superseded r.outcome (answer_link r.answered r.outcome (book_of b).requests)) (book_of b)
+marked_book b r =
+    mark_link_book r.outcome (mark_link b r.answered r.outcome) r.superseded
+    ∙ ap (λ (x : Book). with_requests (answer_link r.superseded r.outcome x.requests) x) (mark_link_book r.outcome b r.answered)
 
-  pub marked_count : (b : List ℕ) (r : Requests) → request_count (marked v b r) ≡ length (book_of b).requests
-  marked_count b r =
-      sym (length_requests (marked v b r))
-      ∙ ap (λ (x : Book). length x.requests) (marked_book b r)
-      ∙ length_answer r.superseded (answer_link r.answered (book_of b).requests)
-      ∙ length_answer r.answered (book_of b).requests
+pub marked_count : (b : List ℕ) (r : Requests) → request_count (marked b r) ≡ length (book_of b).requests
+marked_count b r =
+    sym (length_requests (marked b r))
+    ∙ ap (λ (x : Book). length x.requests) (marked_book b r)
+    ∙ length_answer r.superseded r.outcome (answer_link r.answered r.outcome (book_of b).requests)
+    ∙ length_answer r.answered r.outcome (book_of b).requests
 
-  requests_book : v ≤ 3 → (b : List ℕ) (origin : ℕ) (c : Change) → length b ≡ book_size → eqb c.requests.added 0 || ltb (length (book_of b).requests) 256 ≡ true
-      → (eqb c.requests.added 0 ≡ false → WholeRequest c.requests.request) → book_of (place_requests b v origin c.requests) ≡ with_requests (requests_after (book_of b).requests c) (book_of b)
-  unfolding place_requests requests_after if◌then◌otherwise◌
-  requests_book small b origin c l room w = go (eqb c.requests.added 0) refl
-    where
-      go : (t : Bool) → eqb c.requests.added 0 ≡ t → book_of (place_requests b v origin c.requests) ≡ with_requests (requests_after (book_of b).requests c) (book_of b)
-      go true e = rw e (marked_book b c.requests)
-      go false e =
-          let d : List ℕ = marked v b c.requests in
-          let q : Request = c.requests.request in
-          let h : request_count d < 256 =
-          ⊎_elim (λ z. clash (eqb c.requests.added 0) z e) (λ z. omega (arith, ltb-true (length (book_of b).requests) 256 z, marked_count b c.requests)) (or_cases _ _ room) in
-          rw e
-          (add_request_book d origin q ((marked_keeps v small b c.requests).same ∙ l) h (w e)
-          ∙ ap (λ (x : Book). with_requests (x.requests ++ (q ∷ [])) x) (marked_book b c.requests))
+requests_book : (b : List ℕ) (origin : ℕ) (c : Change) → c.requests.outcome ≤ 3 → length b ≡ book_size → eqb c.requests.added 0 || ltb (length (book_of b).requests) 256 ≡ true
+    → (eqb c.requests.added 0 ≡ false → WholeRequest c.requests.request) → book_of (place_requests b origin c.requests) ≡ with_requests (requests_after (book_of b).requests c) (book_of b)
+unfolding place_requests requests_after if◌then◌otherwise◌
+requests_book b origin c small l room w = go (eqb c.requests.added 0) refl
+  where
+    go : (t : Bool) → eqb c.requests.added 0 ≡ t → book_of (place_requests b origin c.requests) ≡ with_requests (requests_after (book_of b).requests c) (book_of b)
+    go true e = rw e (marked_book b c.requests)
+    go false e =
+        let d : List ℕ = marked b c.requests in
+        let q : Request = c.requests.request in
+        let h : request_count d < 256 =
+        ⊎_elim (λ z. clash (eqb c.requests.added 0) z e) (λ z. omega (arith, ltb-true (length (book_of b).requests) 256 z, marked_count b c.requests)) (or_cases _ _ room) in
+        rw e
+        (add_request_book d origin q ((marked_keeps b c.requests small).same ∙ l) h (w e)
+        ∙ ap (λ (x : Book). with_requests (x.requests ++ (q ∷ [])) x) (marked_book b c.requests))
 
 -- ---- the word of an open quantity
 
@@ -207,13 +201,13 @@ open_keeps b left place client =
 -- ---- the whole change
 
 -- a change in the tables is the change on the book, and keeps length and bytes
-pub record Tables (b : List ℕ) (e : Event) (c : Change) : Type 0 where
-  pub is : book_of (tables_with b e c) ≡ after (book_of b) c
-  pub keeps : Keeps b (tables_with b e c)
+pub record Tables (b : List ℕ) (c : Change) : Type 0 where
+  pub is : book_of (tables_with b c) ≡ after (book_of b) c
+  pub keeps : Keeps b (tables_with b c)
 
-tables_writes : (b : List ℕ) (e : Event) (c : Change) → length b ≡ book_size → has_room (book_of b) c ≡ true → WholeBook (after (book_of b) c) → Tables b e c
+tables_writes : (b : List ℕ) (c : Change) → c.requests.outcome ≤ 3 → length b ≡ book_size → has_room (book_of b) c ≡ true → WholeBook (after (book_of b) c) → Tables b c
 unfolding tables_with after has_room
-tables_writes b e c l room w =
+tables_writes b c small l room w =
     let d : List ℕ = place_order b c.place c.order in
     let (orders, requests) = and_parts _ _ room in
     let o : (eqb c.place 0 ≡ false → WholeOrder c.order) = order_written (book_of b) c w in
@@ -223,22 +217,22 @@ tables_writes b e c l room w =
     let n : length (book_of d).requests ≡ length (book_of b).requests = ap (λ (x : Book). length x.requests) put in
     record {
       is =
-          requests_book (outcome_by e) (few_outcomes e) d _ c (k.same ∙ l) (ap (λ (m : ℕ). eqb c.requests.added 0 || ltb m 256) n ∙ requests) q
+          requests_book d _ c small (k.same ∙ l) (ap (λ (m : ℕ). eqb c.requests.added 0 || ltb m 256) n ∙ requests) q
           ∙ ap (λ (x : Book). with_requests (requests_after x.requests c) x) put;
-      keeps = tables_keeps b e c o q;
+      keeps = tables_keeps b c small o q;
     }
 
 -- A CHANGE ON BYTES is the change on the book, and keeps length and bytes
-pub record Writes (b : List ℕ) (e : Event) (c : Change) : Type 0 where
-  pub is : book_of (book_with b e c) ≡ after (book_of b) c
-  pub keeps : Keeps b (book_with b e c)
-  pub tables : Keeps b (tables_with b e c)
+pub record Writes (b : List ℕ) (c : Change) : Type 0 where
+  pub is : book_of (book_with b c) ≡ after (book_of b) c
+  pub keeps : Keeps b (book_with b c)
+  pub tables : Keeps b (tables_with b c)
 
-pub change_writes : (b : List ℕ) (e : Event) (c : Change) → length b ≡ book_size → has_room (book_of b) c ≡ true → WholeBook (after (book_of b) c) → Writes b e c
+pub change_writes : (b : List ℕ) (c : Change) → c.requests.outcome ≤ 3 → length b ≡ book_size → has_room (book_of b) c ≡ true → WholeBook (after (book_of b) c) → Writes b c
 unfolding book_with
-change_writes b e c l room w =
-    let t : Tables b e c = tables_writes b e c l room w in
-    let d : List ℕ = tables_with b e c in
+change_writes b c small l room w =
+    let t : Tables b c = tables_writes b c small l room w in
+    let d : List ℕ = tables_with b c in
     let f : List ℕ = place_open d (after (book_of b) c) c.place c.order.client in
     record {
       is = open_book d (after (book_of b) c) c.place c.order.client ∙ t.is;

@@ -2,11 +2,11 @@
 -- Claim. The proofs are in proofs/.
 use Rattle.std.specs.Prelude.{ℕ, ◌+◌, ◌^◌, ◌≤◌, ◌<◌, ◌≡◌, ◌⊎◌, true, false, not, List, [], eqb, ltb, length}
 use Rattle.prelude.specs.Cases.{if◌then◌otherwise◌}
-use Rattle.prelude.specs.Number.{Bytes}
+use Rattle.prelude.specs.Number.{Bytes, word16}
 use Rattle.prelude.specs.Texts.{same_text}
 use Rattle.records.specs.Record.{event_in}
 use Rattle.records.specs.Answer.{answer_messages}
-use Rattle.store.specs.Layout.{most_orders, most_requests}
+use Rattle.store.specs.Layout.{book_size, header·orders, header·requests, most_orders, most_requests}
 use Rattle.store.specs.Book.{Book, request_in, book_of}
 use Rattle.machine.specs.Changes.{Event, Message}
 use Rattle.machine.specs.Machine.{step_of, after}
@@ -50,7 +50,14 @@ pub record Grown (b : Book) (e : Event) (left : Book) : Type 0 where
   pub orders : length left.orders ≡ length b.orders + (if is_booking e then 1 otherwise 0)
   pub requests : length left.requests ≡ length b.requests + (if adds b e then 1 otherwise 0)
 
+-- a book that check passes has its length, and the header's counts are within their tables
+pub record Counted (b : List ℕ) : Type 0 where
+  pub long : length b ≡ book_size
+  pub orders : word16 b header·orders ≤ most_orders
+  pub requests : word16 b header·requests ≤ most_requests
+
 pub record Demand1 : Type 0 where
+  pub counted : (b : List ℕ) → check_of b ≡ 0 → Counted b
   -- start leaves a book that keeps its rules
   pub started : (b : List ℕ) (setting : ℕ) → start_refusal b ≡ 0 → check_of (start_of b setting) ≡ 0
   -- and so does each event taken, on any book
@@ -72,7 +79,7 @@ AnswersOnBytes = (b r a : List ℕ) → Bytes b → Bytes r → (event_of b r a)
 -- the bytes that an event taken leaves are the book that the machine's change leaves
 abbrev pub WritesChange : Type 0
 WritesChange = (b r : List ℕ) → Bytes b → Bytes r → check_of b ≡ 0 → event_refusal r ≡ 0 → (step_of (book_of b) (event_in r)).refusal ≡ 0
-    → book_of (book_with b (event_in r) (step_of (book_of b) (event_in r))) ≡ after (book_of b) (step_of (book_of b) (event_in r))
+    → book_of (book_with b (step_of (book_of b) (event_in r))) ≡ after (book_of b) (step_of (book_of b) (event_in r))
 
 -- no call changes a length, and the book's bytes stay bytes
 pub record Sizes (b r a : List ℕ) (o : Outcome) : Type 0 where

@@ -6,8 +6,8 @@ use Rattle.prelude.specs.Span.{span, splice}
 use Rattle.store.specs.Layout.{request_size, request_base}
 use Rattle.store.specs.Book.{book_of, order_in, request_count, store_order}
 use Rattle.machine.specs.Exchange.{open_of, SameOrder, turned_order, Turned}
-use Rattle.opens.specs.Opens.{stored_open}
-use Rattle.opens.specs.Keeps.{opened, open_call}
+use Rattle.index.specs.Index.{stored_open}
+use Rattle.opens.specs.Opens.{opened, open_call}
 use Rattle.step.specs.Entries.{Outcome, event_of}
 use Rattle.claims.specs.Claims.{Call}
 use Rattle.claims.specs.Concern.{Concerns}

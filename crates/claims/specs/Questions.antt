@@ -10,7 +10,7 @@ use Rattle.store.specs.Finds.{count_clordids}
 use Rattle.machine.specs.Changes.{Event}
 use Rattle.machine.specs.Amend.{amend_refusal, already_taken, or_own, replace_refusal, priced_right}
 use Rattle.machine.specs.Machine.{order_of, order_at_link, unused, change_of, findings_of}
-use Rattle.opens.specs.Keeps.{keeps_of}
+use Rattle.rules.specs.Keeps.{keeps_of}
 use Rattle.format.specs.Refusal.{event_refusal}
 
 abbrev pub is_booking : Event → Bool

@@ -1,5 +1,5 @@
-// Reads items from standard input and holds the codec to their stored answers. An item is a tag, 1
-// event or 2 answer, a length of two bytes, that many bytes, and the refusal that they get. An
+// Reads items from standard input and compares what the codec makes of them with their stored answers. An item
+// is a tag, 1 event or 2 answer, a length of two bytes, that many bytes, and the refusal that they get. An
 // answer that is accepted is written again and compared. A refusal is the number that is stored, 0 for none.
 // Rests on records and input.
 #![tactic(auto)]
@@ -41,7 +41,7 @@ impl Kind {
     }
 }
 
-// What was counted; a count stays at the most that it can be.
+// What was counted; a count that has reached the most it can be stays there.
 #[derive(Clone, Copy, Default)]
 struct Tally {
     events: u32,
@@ -98,7 +98,7 @@ fn right_answer(s: &[u8], expected: u32) -> bool {
     }
 }
 
-// Counts the next item; false where the input ends.
+// Counts the next item; false if the input ends.
 fn item<R: Read>(input: &mut R, tally: &mut Tally) -> io::Result<bool> {
     let Some(head) = input::read_array::<_, 3>(input)? else {
         return Ok(false);

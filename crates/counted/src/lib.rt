@@ -30,8 +30,8 @@ impl From<Result<u32, Refusal>> for Counted {
     }
 }
 
-// The number of the refusal, or 0. By way of `Counted::from`, which needs an answer with a number, it would
-// be no plainer.
+// The number of the refusal, or 0. Written by way of `Counted::from`, which needs an answer with a number, it
+// would be no plainer.
 pub fn refusal_of(answer: Result<(), Refusal>) -> u32
     ensures { result ≡ refusal_of answer }
 {

@@ -10,7 +10,7 @@ ghost use Rattle.records.specs.Answer.{count_in, answer_refusal};
 use records::HEAD;
 
 // The refusal, or 0 and where the message starts in the answer, with its length. Zeros with a
-// refusal; length 0 where the answer has no such message. The C structure has all three fields.
+// refusal; length 0 if the answer has no such message. The C structure has all three fields.
 #[repr(C)]
 #[derive(Clone, Copy)]
 pub struct Place {

@@ -59,6 +59,6 @@ number_in s = read_from 0 s
 
 -- ---- into a buffer
 
--- the bytes at an index, where they have room; else nothing changes
+-- the bytes at an index, if they have room; else nothing changes
 unfoldable pub written : List ℕ → ℕ → List ℕ → List ℕ
 written s at w = if leb (at + length w) (length s) then splice s at w otherwise s

@@ -50,7 +50,7 @@ impl Digits for [u64; 2] {
 
     fn split_lowest(self) -> ([u64; 2], u8) {
         let tenth = wide::by_ten(self);
-        // A variable: the borrow checker covers no array field that is put into a tuple straight.
+        // A variable: the borrow checker covers no array field that is put straight into a tuple.
         let quotient = tenth.quotient;
         (quotient, tenth.digit as u8)
     }

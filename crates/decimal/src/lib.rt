@@ -1,6 +1,6 @@
 // Numbers in decimal, written into a slice: a count of 10^-places at an index, or right-aligned in
 // columns. What is written, and that it is read back as the count, stands in specs/. The public
-// functions are total: where the text has no room, nothing is written. Each takes a number of one word
+// functions are total: if the text has no room, nothing is written. Each takes a number of one word
 // or of two. Place and number come one by one, as callers have them: a struct would be made for each call
 // and taken apart in it. Rests on prelude's words and on wide.
 #![tactic(auto)]
@@ -20,7 +20,7 @@ fn put_low<N: Digits>(out: &mut [u8], at: usize, count: usize, n: N)
 {
     let mut rest = n;
     // By index: the digits of `rest` stand below it, which is what the loop keeps, and `iter_mut().rev()`
-    // has none to say it by.
+    // has no index to say it by.
     for i in (0..count).rev() {
         let (higher, lowest) = rest.split_lowest();
         out[at + i] = b'0' + lowest;
@@ -39,7 +39,7 @@ fn down<N: Digits>(n: N, places: u8) -> N
     rest
 }
 
-// `n` counts of 10^-places, written at `at`, where they have room.
+// `n` counts of 10^-places, written at `at`, if they have room.
 fn put_here<N: Digits>(out: &mut [u8], at: usize, n: N, places: u8)
     requires { at + length (decimal places (N.number n)) ≤ length out.old }
     ensures { out.new ≡ splice out.old at (decimal places (N.number n)) }

@@ -4,7 +4,7 @@ use std::io;
 use std::io::Write;
 
 // What the call is lent: the one number of its scratch, and 64 lines of 27 bytes. net's own constants are private:
-// a host has these numbers from the C header, and this program as a host.
+// a host has these numbers from the C header, and this program does as a host does.
 const SCRATCH: usize = 1;
 
 const LINES: usize = 1728;

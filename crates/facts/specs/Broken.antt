@@ -1,4 +1,4 @@
--- One small book for each rule, which breaks that rule and no other: `breaks` lists the rules that do not hold of a book, each by the test that `rules` is put
+-- One small book for each rule, which breaks that rule and no other (an order without a first request breaks two): `breaks` lists the rules that do not hold of a book, each by the test that `rules` is put
 -- together from, so that a rule that is left out, or a part of it, is missed here. Rests on Rules and Play.
 -- The bounds of 64 orders and 256 requests are the last two; `ruled_of` (rules) asks them of the header's counts too.
 use Rattle.std.specs.Prelude.{ℕ, ◌+◌, ◌^◌, ◌≡◌, refl, Bool, true, false, List, [], ◌∷◌, ◌++◌, leb, ltb, length}
@@ -20,8 +20,8 @@ use Rattle.store.specs.Book.{Book, order_in, request_in}
 use Rattle.format.specs.Codes.{is_status, new, partially_filled, canceled, market, limit, is_price}
 use Rattle.machine.specs.Constants.{first_kind, replace_kind, gateway_kind}
 use Rattle.store.specs.Orders.{no_pending, no_gateway}
-use Rattle.machine.specs.Rules.{names_range, terms_range, pending_range, gateway_range, request_range, current_rule, cancel_rule, pending_rule, filled_rule, status_rule, done_rule, tries_rule, amendments_rule, number_in, number_rule, in_flight_rule, name_rule, key_rule, rules}
-use Rattle.facts.specs.Play.{called, many_orders, many_requests}
+use Rattle.machine.specs.Rules.{names_range, terms_range, pending_range, gateway_range, request_range, current_rule, cancel_rule, pending_rule, filled_rule, status_rule, done_rule, tries_rule, amendments_rule, number_in, number_rule, outcome_rule, in_flight_rule, origin_rule, name_rule, key_rule, rules}
+use Rattle.facts.specs.Play.{called, answered_for, marked, many_orders, many_requests}
 
 -- ---- the rules that do not hold of a book
 
@@ -32,7 +32,7 @@ data Rule : Type 0 where
   currentIs cancelIs pendingIs amendmentsAre : Rule
   filledAtMost aboveZero doneClears triesAtMost : Rule
   -- of a request
-  requestRanged isBooked isNumbered inFlightIs : Rule
+  requestRanged outcomeIs isBooked isNumbered inFlightIs originIs : Rule
   -- of two
   namesDiffer clordidsDiffer : Rule
 
@@ -63,11 +63,13 @@ breaks b =
     ++ (each (λ i o. done_rule o) doneClears
     ++ (each (λ i o. tries_rule o.gateway) triesAtMost
     ++ (every (λ j q o. request_range q) requestRanged
+    ++ (every (λ j q o. outcome_rule q) outcomeIs
     ++ (every (λ j q o. ltb q.order n) isBooked
     ++ (every (λ j q o. number_rule o.names.name (number_in qs j) q) isNumbered
     ++ (every (λ j q o. in_flight_rule (j + 1) q o) inFlightIs
+    ++ (every (λ j q o. origin_rule qs j) originIs
     ++ (unless (all_below (name_rule b) n) namesDiffer
-    ++ unless (all_below (key_rule b) m) clordidsDiffer))))))))))))))))))))
+    ++ unless (all_below (key_rule b) m) clordidsDiffer))))))))))))))))))))))
 
 record Verdict : Type 0 where
   keeps : Bool
@@ -113,14 +115,15 @@ gateway tries unsent stuck = record { tries = tries; unsent = unsent; stuck = st
 abbrev order : Names → Terms → State → Links → Pending → GatewayCancel → Order
 order n t s l p g = record { client = 7; venue = 3; names = n; terms = t; state = s; links = l; pending = p; gateway = g }
 
-abbrev request : (order kind answered : ℕ) → (clordid origclordid downstream : Text) → Request
-request order kind answered clordid origclordid downstream = record {
+abbrev request : (order kind outcome : ℕ) → (clordid origclordid downstream : Text) → Request
+request order kind outcome clordid origclordid downstream = record {
   order = order;
   kind = kind;
-  answered = answered;
+  answered = answered_for outcome;
   clordid = clordid;
   origclordid = origclordid;
   downstream = downstream;
+  outcome = outcome;
 }
 
 abbrev first : Request
@@ -129,8 +132,8 @@ first = request 0 first_kind 0 (text 67) no_text (text 88)
 abbrev replacing : (clordid origclordid : Text) → Request
 replacing clordid origclordid = request 0 replace_kind 0 clordid origclordid (numbered_text (text 88) 1)
 
-abbrev cancelling : (answered number : ℕ) → Request
-cancelling answered number = request 0 gateway_kind answered no_text no_text (numbered_text (text 88) number)
+abbrev cancelling : (outcome number : ℕ) → Request
+cancelling outcome number = request 0 gateway_kind outcome no_text no_text (numbered_text (text 88) number)
 
 abbrev book : List Order → List Request → Book
 book os qs = record { setting = 10; orders = os; requests = qs }
@@ -150,15 +153,23 @@ answered l g = book (order (names (text 87)) (terms 49) (state new 0 0) l (pendi
 abbrev plain : (amendments : ℕ) → List Request → Book
 plain amendments qs = book (order (names (text 87)) (terms 49) (state new 0 0) (links amendments 1 0) no_pending no_gateway ∷ []) qs
 
--- two orders: X, of which names, links and pending terms are given, and Y with its first request, a replace and an answered cancel of the gateway
-abbrev beside : Names → Links → Pending → Book
-beside n l p =
+-- two orders: X, of which names, links and pending terms are given, and Y with its first request, a replace of that OrigClOrdID and an answered cancel of the gateway
+abbrev crossing : (origclordid : Text) → Names → Links → Pending → Book
+crossing origclordid n l p =
     book
     (order n (terms 49) (state new 0 0) l p no_gateway
     ∷ (order (names_of (text 89) (text 89) (text 87)) (terms 49) (state new 0 0) (links 2 2 4) no_pending no_gateway ∷ []))
     (first
     ∷ (request 1 first_kind 0 (text 68) no_text (text 89)
-    ∷ (request 1 replace_kind 0 (text 69) (text 68) (numbered_text (text 89) 1) ∷ (request 1 gateway_kind 1 no_text no_text (numbered_text (text 89) 2) ∷ []))))
+    ∷ (request 1 replace_kind 0 (text 69) origclordid (numbered_text (text 89) 1) ∷ (request 1 gateway_kind 1 no_text no_text (numbered_text (text 89) 2) ∷ []))))
+
+abbrev beside : Names → Links → Pending → Book
+beside = crossing (text 68)
+
+-- order X with two replaces, of these OrigClOrdIDs
+abbrev replacing_twice : (one two : Text) → Book
+replacing_twice one two =
+    plain 2 (first ∷ (request 0 replace_kind 2 (text 68) one (numbered_text (text 88) 1) ∷ (request 0 replace_kind 0 (text 69) two (numbered_text (text 88) 2) ∷ [])))
 
 -- ---- the rules
 
@@ -182,7 +193,13 @@ record Table : Type 0 where
   pending_price : judged (with_order (order (names (text 87)) (terms 49) (state new 0 0) (links 2 1 3) (pending 2 market) (gateway 1 false false))) ≡ breaking pendingRanged
   -- a request has one of four kinds, and its mark is 0 or 1
   kind : judged (plain 1 (first ∷ (request 0 4 0 (text 68) (text 67) (numbered_text (text 88) 1) ∷ []))) ≡ breaking requestRanged
-  mark : judged (plain 0 (request 0 first_kind 2 (text 67) no_text (text 88) ∷ [])) ≡ breaking requestRanged
+  mark : judged (plain 0 (marked 2 2 first ∷ [])) ≡ breaking requestRanged
+  -- what came of a request is 0 exactly where it is unanswered, and 3 at most
+  outcome_open : judged (plain 0 (marked 0 1 first ∷ [])) ≡ breaking outcomeIs
+  outcome_none : judged (plain 0 (marked 1 0 first ∷ [])) ≡ breaking outcomeIs
+  outcome_most : judged (plain 0 (marked 1 4 first ∷ [])) ≡ breaking outcomeIs
+  -- of any request, not of the first alone: here of a replace
+  outcome_later : judged (plain 1 (first ∷ (marked 1 0 (replacing (text 68) (text 67)) ∷ []))) ≡ breaking outcomeIs
   -- each request names a booked order: one of order 5, by its empty name
   booked : judged (with_requests (first ∷ (replacing (text 68) (text 67) ∷ (cancelling 0 2 ∷ (request 5 first_kind 0 (text 90) no_text no_text ∷ []))))) ≡ breaking isBooked
   -- the current downstream is the first request or a replace: here the gateway cancel
@@ -224,7 +241,8 @@ record Table : Type 0 where
   numbered : judged (with_requests (first ∷ (replacing (text 68) (text 67) ∷ (cancelling 0 3 ∷ [])))) ≡ breaking isNumbered
   -- just number 0 is a first request: a second one; and none
   first_again : judged (plain 1 (first ∷ (request 0 first_kind 0 (text 68) no_text (numbered_text (text 88) 1) ∷ []))) ≡ breaking isNumbered
-  first_missing : judged (plain 0 (request 0 replace_kind 0 (text 67) (text 68) (text 88) ∷ [])) ≡ breaking isNumbered
+  -- (then a replace names nothing before it)
+  first_missing : judged (plain 0 (request 0 replace_kind 0 (text 67) (text 68) (text 88) ∷ [])) ≡ record { keeps = false; broken = isNumbered ∷ originIs ∷ [] }
   -- tries are at most 3, and at most 2 where unsent
   tries : judged (with_order (order (names (text 87)) (terms 49) (state new 0 0) (links 2 1 3) (pending 2 limit) (gateway 4 false false))) ≡ breaking triesAtMost
   tries_unsent : judged (answered (links 2 1 3) (gateway 3 true false)) ≡ breaking triesAtMost
@@ -233,6 +251,13 @@ record Table : Type 0 where
   tried : judged (with_order (order (names (text 87)) (terms 49) (state new 0 0) (links 2 1 3) (pending 2 limit) (gateway 0 false false))) ≡ breaking inFlightIs
   sent : judged (with_order (order (names (text 87)) (terms 49) (state new 0 0) (links 2 1 3) (pending 2 limit) (gateway 1 true false))) ≡ breaking inFlightIs
   free : judged (with_order (order (names (text 87)) (terms 49) (state new 0 0) (links 2 1 3) (pending 2 limit) (gateway 1 false true))) ≡ breaking inFlightIs
+  -- an OrigClOrdID names a request of the same order that is numbered lower: the first, or one that is refused
+  origin : (judged (replacing_twice (text 67) (text 67)) ≡ keeping) × (judged (replacing_twice (text 67) (text 68)) ≡ keeping)
+  -- not one that no request bears, nor a later one, itself, or one of another order
+  origin_unknown : judged (replacing_twice (text 67) (text 70)) ≡ breaking originIs
+  origin_later : judged (replacing_twice (text 69) (text 67)) ≡ breaking originIs
+  origin_itself : judged (replacing_twice (text 67) (text 69)) ≡ breaking originIs
+  origin_own : judged (crossing (text 67) (names (text 87)) (links 0 1 0) no_pending) ≡ breaking originIs
 
 broken : Table
 unfolding called
@@ -250,6 +275,10 @@ broken = record {
   pending_price = refl;
   kind = refl;
   mark = refl;
+  outcome_open = refl;
+  outcome_none = refl;
+  outcome_most = refl;
+  outcome_later = refl;
   booked = refl;
   current = refl;
   current_text = refl;
@@ -276,6 +305,11 @@ broken = record {
   tried = refl;
   sent = refl;
   free = refl;
+  origin = (refl, refl);
+  origin_unknown = refl;
+  origin_later = refl;
+  origin_itself = refl;
+  origin_own = refl;
 }
 
 -- ---- at most 64 orders and 256 requests

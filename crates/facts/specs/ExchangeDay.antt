@@ -19,7 +19,7 @@ use Rattle.store.specs.Finds.{find_name, find_downstream, find_clordid, count_cl
 use Rattle.machine.specs.Machine.{order_of, latest_cancel, order_at_link, findings_of, booked_order, first_request, unused, book_order, amending, on_request, on_report, on_name, change_of, has_room, step_of, answer_link, orders_after, requests_after, after, book_after}
 use Rattle.format.specs.Codes.{sides, ordtypes, timesinforce, statuses, is_side, is_ordtype, is_timeinforce, is_status, is_alnum, is_none, is_name, buy, limit, new, rejected, exec_replaced}
 use Rattle.machine.specs.Ranges.{text_within, name_range}
-use Rattle.machine.specs.Rules.{names_range, force_range, priced_range, terms_range, pending_range, gateway_range, order_range, request_range, linked, current_rule, cancel_rule, pending_rule, filled_rule, status_rule, done_rule, tries_rule, amendments_rule, order_rule, number_in, name_number, number_rule, in_flight_rule, request_rule, same_key, rules}
+use Rattle.machine.specs.Rules.{names_range, force_range, priced_range, terms_range, pending_range, gateway_range, order_range, request_range, linked, current_rule, cancel_rule, pending_rule, filled_rule, status_rule, done_rule, tries_rule, amendments_rule, order_rule, number_in, name_number, number_rule, outcome_rule, in_flight_rule, origin_rule, request_rule, same_key, rules}
 use Rattle.machine.specs.Exchange.{concerns, client_at, link_text}
 
 -- an event of that client; its order is bought at 10
@@ -124,7 +124,7 @@ record Facts : Type 0 where
   side : (order_in (book_after (book_after (booked 7 8) replace_x) accepts_replace) 0).terms.side ≡ buy
 
 facts : Facts
-unfolding event books booked cancel_x cancel_y ask_x ask_y replace_x fails_x fails_y fails_replace accepts_replace concerns all_below first_below count_below if◌then◌otherwise◌ maybe text_of contents same_text numbered_text decimal digits_of one_more has_pending has_gateway limit_price is_done leaves_of leaves_qty as_asked status_at is_short unless_short short_alarm set_status kept_order_id record_venue_order_id pending_terms apply_replace next_sequence next_exec bit_if terms_bits note_bits report cancel_reject to_venue new_order cancel_request replace_request is_first is_replace is_gateway is_cancel is_answered unchanged refusing answering superseding adding telling alarming next_link next_number next_downstream next_request numbered_order outstanding_cancel gateway_cancel_in_flight begun try_sent given_up send_gateway_cancel cancel_order gateway_cancel_waiting resume_gateway_cancel stuck retry_gateway_cancel says_gone gateway_cancel_refused matches amend_refusal refuse redelivered_report already_taken cancel_refusal cancel_goes cancel or_own price_of check_replace replace_refusal new_terms priced_right new_pending replace_goes replace not_pending refused_order refused_alarm refused_note refuse_request venue_note venue_cancel_reject send_refused first_failed send_failed resendable unsent says_unknown_at_venue unknown_at_venue is_rejection pending_here behind stale repeats dropped_stale dropped_repeat status_taken accepts answers_request ordered_qty reported_order fill_price_of report_note client_report settles apply_report venue_report find_name find_downstream find_clordid of_client count_clordids order_of latest_cancel order_at_link findings_of booked_order first_request unused book_order amending on_request on_report on_name change_of has_room step_of answer_link orders_after requests_after after book_after is_text is_side is_ordtype is_timeinforce is_status text_within sides ordtypes timesinforce statuses is_alnum is_none is_name name_range names_range force_range priced_range terms_range pending_range gateway_range order_range request_range linked current_rule cancel_rule pending_rule filled_rule status_rule done_rule tries_rule amendments_rule order_rule number_in name_number number_rule in_flight_rule request_rule same_key rules
+unfolding event books booked cancel_x cancel_y ask_x ask_y replace_x fails_x fails_y fails_replace accepts_replace concerns all_below first_below count_below if◌then◌otherwise◌ maybe text_of contents same_text numbered_text decimal digits_of one_more has_pending has_gateway limit_price is_done leaves_of leaves_qty as_asked status_at is_short unless_short short_alarm set_status kept_order_id record_venue_order_id pending_terms apply_replace next_sequence next_exec bit_if terms_bits note_bits report cancel_reject to_venue new_order cancel_request replace_request is_first is_replace is_gateway is_cancel is_answered unchanged refusing answering superseding adding telling alarming next_link next_number next_downstream next_request numbered_order outstanding_cancel gateway_cancel_in_flight begun try_sent given_up send_gateway_cancel cancel_order gateway_cancel_waiting resume_gateway_cancel stuck retry_gateway_cancel says_gone gateway_cancel_refused matches amend_refusal refuse redelivered_report already_taken cancel_refusal cancel_goes cancel or_own price_of check_replace replace_refusal new_terms priced_right new_pending replace_goes replace not_pending refused_order refused_alarm refused_note refuse_request venue_note venue_cancel_reject send_refused first_failed send_failed resendable unsent says_unknown_at_venue unknown_at_venue is_rejection pending_here behind stale repeats dropped_stale dropped_repeat status_taken accepts answers_request ordered_qty reported_order fill_price_of report_note client_report settles apply_report venue_report find_name find_downstream find_clordid of_client count_clordids order_of latest_cancel order_at_link findings_of booked_order first_request unused book_order amending on_request on_report on_name change_of has_room step_of answer_link orders_after requests_after after book_after is_text is_side is_ordtype is_timeinforce is_status text_within sides ordtypes timesinforce statuses is_alnum is_none is_name name_range names_range force_range priced_range terms_range pending_range gateway_range order_range request_range linked current_rule cancel_rule pending_rule filled_rule status_rule done_rule tries_rule amendments_rule order_rule number_in name_number number_rule outcome_rule in_flight_rule origin_rule request_rule same_key rules
 facts = record {
   kept = refl;
   concern = (refl, refl);

@@ -1,19 +1,18 @@
 -- Where two events may not be exchanged: for each word of wish 12's statement a smallest list on which its conclusion fails without that word; and which order a
 -- record concerns. From bytes, through the reader, the rules and the machine. Rests on Play and machine's `concerns`.
-use Rattle.std.specs.Prelude.{ℕ, ◌+◌, ◌≡◌, refl, true, List, [], ◌∷◌, ◌++◌}
+use Rattle.std.specs.Prelude.{ℕ, ◌≡◌, refl, true, List, [], ◌∷◌, ◌++◌}
 use Rattle.prelude.specs.Lists.{list_below}
 use Rattle.prelude.specs.Texts.{text_of}
 use Rattle.records.specs.Record.{event_in}
 use Rattle.store.specs.Book.{Book, order_in}
 use Rattle.store.specs.Orders.{no_pending, no_gateway}
-use Rattle.text.specs.Numbered.{numbered_text}
 use Rattle.text.specs.Words.{no_text}
 use Rattle.machine.specs.Changes.{Message}
 use Rattle.machine.specs.Machine.{step_of, after}
 use Rattle.machine.specs.Rules.{rules}
 use Rattle.machine.specs.History.{messages_of}
 use Rattle.machine.specs.Exchange.{concerns}
-use Rattle.facts.specs.Play.{number, spelled, bytes, shares, money, X, X_, C, D, E, W, books_as, books, cancels, replaces, rejects, send_fails, fills, sends_again, gateway_cancels, called, empty, playing, terms, state, links, order_x, first}
+use Rattle.facts.specs.Play.{number, spelled, bytes, shares, money, X, X_, C, D, E, W, books_as, books, cancels, replaces, rejects, send_fails, fills, sends_again, gateway_cancels, called, empty, playing, terms, state, links, order_x, first, refused_cancel}
 
 abbrev Y : List ℕ
 Y = 89 ∷ []
@@ -59,7 +58,7 @@ tells_after calls s = tells (playing (empty 10000) calls) s
 abbrev concerns_after : List (List ℕ) → List ℕ → ℕ
 concerns_after calls s = concerns (playing (empty 10000) calls) (event_in s)
 
--- X of client 7 with 254 requests, all but the first answered cancels of the gateway, and Y of client 8 with one: 255
+-- X of client 7 with 254 requests, all but the first refused cancels of the gateway, and Y of client 8 with one: 255
 abbrev almost_full : Book
 almost_full = record {
   setting = 10000;
@@ -77,8 +76,8 @@ almost_full = record {
       }
       ∷ [];
   requests =
-      (first ∷ list_below (λ k. record { order = 0; kind = 3; answered = 1; clordid = no_text; origclordid = no_text; downstream = numbered_text (text_of X) (k + 1) }) 253)
-      ++ (record { order = 1; kind = 0; answered = 0; clordid = text_of C; origclordid = no_text; downstream = text_of Y } ∷ []);
+      (first ∷ list_below refused_cancel 253)
+      ++ (record { order = 1; kind = 0; answered = 0; clordid = text_of C; origclordid = no_text; downstream = text_of Y; outcome = 0 } ∷ []);
 }
 
 -- what question 5, 6 or 7 says, and the book that is left

@@ -13,7 +13,7 @@ use Rattle.store.specs.declared.Request.{Request}
 use Rattle.store.specs.Book.{Book}
 use Rattle.store.specs.Orders.{no_pending, no_gateway}
 use Rattle.machine.specs.Rules.{rules}
-use Rattle.facts.specs.Play.{shares, money, X, X_, C, D, E, W, called, terms, state, links, order_x, standing, request, first}
+use Rattle.facts.specs.Play.{shares, money, X, X_, C, D, E, W, called, terms, state, links, order_x, standing, answered_for, request, first}
 
 -- ---- the words of the tables
 
@@ -24,14 +24,15 @@ abbrev book : List Order → List Request → Book
 book os qs = record { setting = 10000; orders = os; requests = qs }
 
 -- a request of the order at that index
-abbrev of_order : (order kind answered : ℕ) (clordid origclordid downstream : List ℕ) → Request
-of_order order kind answered clordid origclordid downstream = record {
+abbrev of_order : (order kind outcome : ℕ) (clordid origclordid downstream : List ℕ) → Request
+of_order order kind outcome clordid origclordid downstream = record {
   order = order;
   kind = kind;
-  answered = answered;
+  answered = answered_for outcome;
   clordid = text_of clordid;
   origclordid = text_of origclordid;
   downstream = text_of downstream;
+  outcome = outcome;
 }
 
 -- one order
@@ -228,8 +229,8 @@ gateways = record {
 abbrev cancels_2 : List Request
 cancels_2 = first ∷ request 1 0 D C (X_ 1) ∷ request 1 0 E C (X_ 2) ∷ []
 
-abbrev replaces_2 : (answered : ℕ) → List Request
-replaces_2 answered = first ∷ request 2 answered D C (X_ 1) ∷ request 2 answered E C (X_ 2) ∷ []
+abbrev replaces_2 : (outcome : ℕ) → List Request
+replaces_2 outcome = first ∷ request 2 outcome D C (X_ 1) ∷ request 2 outcome E C (X_ 2) ∷ []
 
 -- order X that the venue knows as X-1
 abbrev current_1 : Pending → Order
@@ -257,11 +258,15 @@ record Linked : Type 0 where
   -- the pending replace: the earlier of two that are unanswered; none of them
   pending_earlier : rules (one (order_x (state 48 0 0 1) (links 2 1 0) (pending 2) no_gateway) (replaces_2 0)) ≡ true
   pending_none : rules (one (plain (links 2 1 0)) (replaces_2 0)) ≡ true
+  -- each request with whatever came of it: a replace of a live order, the gateway's cancel of one that is done
+  came_of_replace : map (λ v. rules (one (plain (links 1 1 0)) (first ∷ request 2 v D C (X_ 1) ∷ []))) (0 ∷ 1 ∷ 2 ∷ 3 ∷ []) ≡ true ∷ true ∷ true ∷ true ∷ []
+  came_of_cancel : map (λ v. rules (one (order_x (state 52 0 0 1) (links 1 1 2) no_pending no_gateway) (first ∷ request 3 v [] [] (X_ 1) ∷ []))) (0 ∷ 1 ∷ 2 ∷ 3 ∷ [])
+      ≡ true ∷ true ∷ true ∷ true ∷ []
   -- the first request answered, though the order is PendingNew; a done order's requests all open
   first_answered : rules (one (standing 65 0 0 0) (request 0 1 C [] X ∷ [])) ≡ true
   done_open : rules (one (order_x (state 52 0 0 1) (links 2 1 3) no_pending no_gateway) cancels_2) ≡ true
-  -- a cancel for an OrigClOrdID that no request bears, which `rules` leaves to what stands beside the requests
-  orig_unborne : rules (one (plain (links 1 1 2)) (first ∷ request 1 0 D E (X_ 1) ∷ [])) ≡ true
+  -- a cancel whose OrigClOrdID names a replace, whatever came of that
+  orig_settled : map (λ v. rules (one (plain (links 2 1 3)) (first ∷ (request 2 v D C (X_ 1) ∷ (request 1 0 E D (X_ 2) ∷ []))))) (0 ∷ 1 ∷ 2 ∷ 3 ∷ []) ≡ true ∷ true ∷ true ∷ true ∷ []
 
 linked : Linked
 unfolding called
@@ -272,9 +277,11 @@ linked = record {
   current_open = refl;
   pending_earlier = refl;
   pending_none = refl;
+  came_of_replace = refl;
+  came_of_cancel = refl;
   first_answered = refl;
   done_open = refl;
-  orig_unborne = refl;
+  orig_settled = refl;
 }
 
 -- ---- two orders: what must be distinct, and what need not be

@@ -13,6 +13,7 @@ pub mod Inside
 pub mod ExchangeDay
 pub mod ExchangeLimits
 pub mod Outcomes
+pub mod Index
 pub mod Chains
 pub mod Swept
 pub mod SweptSteps

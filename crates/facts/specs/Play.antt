@@ -37,7 +37,7 @@ use Rattle.machine.specs.Amend.{matches, amend_refusal, refuse, redelivered_repo
 use Rattle.machine.specs.Report.{says_unknown_at_venue, unknown_at_venue, is_rejection, pending_here, behind, stale, repeats, dropped_stale, dropped_repeat, status_taken, accepts, answers_request, ordered_qty, reported_order, fill_price_of, report_note, client_report, settles, apply_report, venue_report}
 use Rattle.machine.specs.Machine.{order_of, latest_cancel, order_at_link, findings_of, booked_order, first_request, unused, book_order, amending, on_request, on_report, on_name, change_of, has_room, step_of, answer_link, orders_after, requests_after, after}
 use Rattle.machine.specs.Ranges.{text_within, name_range}
-use Rattle.machine.specs.Rules.{rules, names_range, force_range, priced_range, terms_range, pending_range, gateway_range, order_range, request_range, linked, current_rule, cancel_rule, pending_rule, filled_rule, status_rule, done_rule, tries_rule, amendments_rule, order_rule, number_in, name_number, number_rule, in_flight_rule, request_rule, same_key}
+use Rattle.machine.specs.Rules.{rules, names_range, force_range, priced_range, terms_range, pending_range, gateway_range, order_range, request_range, linked, current_rule, cancel_rule, pending_rule, filled_rule, status_rule, done_rule, tries_rule, amendments_rule, order_rule, number_in, name_number, number_rule, outcome_rule, in_flight_rule, origin_rule, request_rule, same_key}
 use Rattle.machine.specs.History.{Decoded, unread, read_as, comes_to, messages_of, left_by}
 use Rattle.machine.specs.declared.Change.{Change}
 
@@ -172,7 +172,7 @@ abbrev pub decoded : List ℕ → Decoded
 decoded s = if eqb (event_refusal s) 0 then read_as (event_in s) otherwise unread (event_refusal s)
 
 unfoldable pub called : Book → List ℕ → Change
-unfolding event_in event_refusal record_at name_in ranged long_of blank extent next start strip part content value end_of shaped right_at in_range fields size range is_kind required_bits allowed_bits required allowed joined bits_right sides ordtypes timesinforce statuses exectypes is_side is_ordtype is_timeinforce is_status is_exectype is_alnum is_none is_name all_below first_below count_below if◌then◌otherwise◌ maybe span list_below text_of contents same_text is_text numbered_text decimal digits_of fill_price implied by_last_px nearest up at_half one_more has_pending has_gateway limit_price is_done leaves_of leaves_qty as_asked status_at is_short unless_short short_alarm set_status kept_order_id record_venue_order_id pending_terms apply_replace next_sequence next_exec bit_if terms_bits note_bits report cancel_reject to_venue new_order cancel_request replace_request is_first is_replace is_gateway is_cancel is_answered unchanged refusing answering superseding adding telling alarming next_link next_number next_downstream next_request numbered_order outstanding_cancel gateway_cancel_in_flight begun try_sent given_up send_gateway_cancel cancel_order gateway_cancel_waiting resume_gateway_cancel stuck retry_gateway_cancel says_gone gateway_cancel_refused matches amend_refusal refuse redelivered_report already_taken cancel_refusal cancel_goes cancel or_own price_of verdict_text check_replace replace_refusal new_terms priced_right new_pending replace_goes replace not_pending refused_order refused_alarm refused_note refuse_request venue_note venue_cancel_reject send_refused first_failed send_failed resendable unsent says_unknown_at_venue unknown_at_venue is_rejection pending_here behind stale repeats dropped_stale dropped_repeat status_taken accepts answers_request ordered_qty reported_order fill_price_of report_note client_report settles apply_report venue_report find_name find_downstream find_clordid of_client count_clordids order_of latest_cancel order_at_link findings_of booked_order first_request unused book_order amending on_request on_report on_name change_of has_room step_of answer_link orders_after requests_after after text_within name_range rules names_range force_range priced_range terms_range pending_range gateway_range order_range request_range linked current_rule cancel_rule pending_rule filled_rule status_rule done_rule tries_rule amendments_rule order_rule number_in name_number number_rule in_flight_rule request_rule same_key comes_to messages_of left_by
+unfolding event_in event_refusal record_at name_in ranged long_of blank extent next start strip part content value end_of shaped right_at in_range fields size range is_kind required_bits allowed_bits required allowed joined bits_right sides ordtypes timesinforce statuses exectypes is_side is_ordtype is_timeinforce is_status is_exectype is_alnum is_none is_name all_below first_below count_below if◌then◌otherwise◌ maybe span list_below text_of contents same_text is_text numbered_text decimal digits_of fill_price implied by_last_px nearest up at_half one_more has_pending has_gateway limit_price is_done leaves_of leaves_qty as_asked status_at is_short unless_short short_alarm set_status kept_order_id record_venue_order_id pending_terms apply_replace next_sequence next_exec bit_if terms_bits note_bits report cancel_reject to_venue new_order cancel_request replace_request is_first is_replace is_gateway is_cancel is_answered unchanged refusing answering superseding adding telling alarming next_link next_number next_downstream next_request numbered_order outstanding_cancel gateway_cancel_in_flight begun try_sent given_up send_gateway_cancel cancel_order gateway_cancel_waiting resume_gateway_cancel stuck retry_gateway_cancel says_gone gateway_cancel_refused matches amend_refusal refuse redelivered_report already_taken cancel_refusal cancel_goes cancel or_own price_of verdict_text check_replace replace_refusal new_terms priced_right new_pending replace_goes replace not_pending refused_order refused_alarm refused_note refuse_request venue_note venue_cancel_reject send_refused first_failed send_failed resendable unsent says_unknown_at_venue unknown_at_venue is_rejection pending_here behind stale repeats dropped_stale dropped_repeat status_taken accepts answers_request ordered_qty reported_order fill_price_of report_note client_report settles apply_report venue_report find_name find_downstream find_clordid of_client count_clordids order_of latest_cancel order_at_link findings_of booked_order first_request unused book_order amending on_request on_report on_name change_of has_room step_of answer_link orders_after requests_after after text_within name_range rules names_range force_range priced_range terms_range pending_range gateway_range order_range request_range linked current_rule cancel_rule pending_rule filled_rule status_rule done_rule tries_rule amendments_rule order_rule number_in name_number number_rule outcome_rule in_flight_rule origin_rule request_rule same_key comes_to messages_of left_by
 called b s = comes_to b (decoded s)
 
 abbrev pub empty : (setting : ℕ) → Book
@@ -231,24 +231,42 @@ standing status cum avg sequence = order_x (state status cum avg sequence) (link
 abbrev pub cancelling : (tries : ℕ) (stuck : Bool) → GatewayCancel
 cancelling tries stuck = record { tries = tries; unsent = false; stuck = stuck; origdownstream = 1; refusedsends = 0 }
 
--- a request of order X: kind 0 first, 1 the client's cancel, 2 its replace, 3 the gateway's cancel; answered is 1
-abbrev pub request : (kind answered : ℕ) (clordid origclordid downstream : List ℕ) → Request
-request kind answered clordid origclordid downstream = record {
+-- answered is 1 where something came of the request: 0 open, 1 accepted, 2 refused, 3 failed to send
+abbrev pub answered_for : (outcome : ℕ) → ℕ
+answered_for zero = 0
+answered_for (suc n) = 1
+
+-- a request of order X: kind 0 first, 1 the client's cancel, 2 its replace, 3 the gateway's cancel; and what came of it
+abbrev pub request : (kind outcome : ℕ) (clordid origclordid downstream : List ℕ) → Request
+request kind outcome clordid origclordid downstream = record {
   order = 0;
   kind = kind;
-  answered = answered;
+  answered = answered_for outcome;
   clordid = text_of clordid;
   origclordid = text_of origclordid;
   downstream = text_of downstream;
+  outcome = outcome;
+}
+
+-- the same with any two bytes for that
+abbrev pub marked : (answered outcome : ℕ) → Request → Request
+marked answered outcome q = record {
+  order = q.order;
+  kind = q.kind;
+  answered = answered;
+  clordid = q.clordid;
+  origclordid = q.origclordid;
+  downstream = q.downstream;
+  outcome = outcome;
 }
 
 abbrev pub first : Request
 first = request 0 0 C [] X
 
--- the gateway's first n cancels, all answered
+-- the gateway's first n cancels, all refused
 abbrev pub refused_cancels : ℕ → List Request
 refused_cancels zero = []
-refused_cancels (suc n) = refused_cancels n ++ (request 3 1 [] [] (X_ (suc n)) ∷ [])
+refused_cancels (suc n) = refused_cancels n ++ (request 3 2 [] [] (X_ (suc n)) ∷ [])
 
 -- ---- tables as full as one likes
 
@@ -269,18 +287,22 @@ order_of_many n = record {
 }
 
 abbrev pub first_of_many : ℕ → Request
-first_of_many n = record { order = n; kind = 0; answered = 0; clordid = named n; origclordid = no_text; downstream = named n }
+first_of_many n = record { order = n; kind = 0; answered = 0; clordid = named n; origclordid = no_text; downstream = named n; outcome = 0 }
 
 -- a book of n orders
 abbrev pub many_orders : ℕ → Book
 many_orders n = record { setting = 10000; orders = list_below order_of_many n; requests = list_below first_of_many n }
 
--- a book of order X with n + 1 requests: the first, and n cancels of the gateway, all answered
+-- the gateway's cancels X-1, X-2 and so on, from 0 on, refused
+abbrev pub refused_cancel : ℕ → Request
+refused_cancel k = record { order = 0; kind = 3; answered = 1; clordid = no_text; origclordid = no_text; downstream = numbered_text (text_of X) (k + 1); outcome = 2 }
+
+-- a book of order X with n + 1 requests: the first, and n cancels of the gateway, all refused
 abbrev pub many_requests : ℕ → Book
 many_requests n = record {
   setting = 10000;
   orders = order_x (state 48 0 0 1) (links n 1 0) no_pending no_gateway ∷ [];
-  requests = first ∷ list_below (λ k. record { order = 0; kind = 3; answered = 1; clordid = no_text; origclordid = no_text; downstream = numbered_text (text_of X) (k + 1) }) n;
+  requests = first ∷ list_below refused_cancel n;
 }
 
 -- message 16 under C: the order as it is left, with an ExecType, LastQty and LeavesQty in shares, the fill price and its source

@@ -19,7 +19,7 @@ use Rattle.machine.specs.Changes.{Message}
 use Rattle.machine.specs.History.{left_by}
 use Rattle.machine.specs.Machine.{step_of}
 use Rattle.machine.specs.Rules.{rules}
-use Rattle.facts.specs.Play.{Field, number, spelled, mark, bytes, shares, money, X, X_, C, D, E, W, report_of, reject_of, send_fails, sends_again, gateway_cancels, called, state, links, Line, line_of, Row, events, lines}
+use Rattle.facts.specs.Play.{Field, number, spelled, mark, bytes, shares, money, X, X_, C, D, E, W, report_of, reject_of, send_fails, sends_again, gateway_cancels, called, state, links, answered_for, Line, line_of, Row, events, lines}
 
 -- ---- the words of the table: order X of client 7 at venue 3 sells W; order Y is client 8's at venue 4
 
@@ -61,21 +61,22 @@ order_y = record {
   gateway = no_gateway;
 }
 
-abbrev request_of : (order kind answered : ℕ) (clordid origclordid downstream : List ℕ) → Request
-request_of order kind answered clordid origclordid downstream = record {
+abbrev request_of : (order kind outcome : ℕ) (clordid origclordid downstream : List ℕ) → Request
+request_of order kind outcome clordid origclordid downstream = record {
   order = order;
   kind = kind;
-  answered = answered;
+  answered = answered_for outcome;
   clordid = text_of clordid;
   origclordid = text_of origclordid;
   downstream = text_of downstream;
+  outcome = outcome;
 }
 
 abbrev requests_y : List Request
 requests_y = request_of 0 0 0 C [] Y ∷ request_of 0 1 0 D C (89 ∷ 45 ∷ 49 ∷ []) ∷ []
 
 -- of order X
-abbrev asked : (kind answered : ℕ) (clordid origclordid downstream : List ℕ) → Request
+abbrev asked : (kind outcome : ℕ) (clordid origclordid downstream : List ℕ) → Request
 asked = request_of 1
 
 abbrev sale : (qty price timeinforce : ℕ) → Terms
@@ -200,7 +201,7 @@ booked = asked 0 0 C [] X
 abbrev replacing : Request
 replacing = asked 2 0 D C (X_ 1)
 
--- the first request, and the replace that supersedes it, both answered
+-- the first request, and the replace that supersedes it, both accepted
 abbrev settled : List Request
 settled = asked 0 1 C [] X ∷ asked 2 1 D C (X_ 1) ∷ []
 
@@ -240,15 +241,15 @@ tried tries refusedsends = record { tries = tries; unsent = false; stuck = false
 abbrev unsent : GatewayCancel
 unsent = record { tries = 0; unsent = true; stuck = false; origdownstream = 4; refusedsends = 1 }
 
--- the client's cancel under E, the gateway's, the client's under F; each answered or not
-abbrev first_cancel : (answered : ℕ) → Request
-first_cancel answered = asked 1 answered E D (X_ 2)
+-- the client's cancel under E, the gateway's, the client's under F; each with what came of it
+abbrev first_cancel : (outcome : ℕ) → Request
+first_cancel outcome = asked 1 outcome E D (X_ 2)
 
-abbrev second_cancel : (answered : ℕ) → Request
-second_cancel answered = asked 3 answered [] [] (X_ 3)
+abbrev second_cancel : (outcome : ℕ) → Request
+second_cancel outcome = asked 3 outcome [] [] (X_ 3)
 
-abbrev third_cancel : (answered : ℕ) → Request
-third_cancel answered = asked 1 answered F D (X_ 4)
+abbrev third_cancel : (outcome : ℕ) → Request
+third_cancel outcome = asked 1 outcome F D (X_ 4)
 
 afternoon : Goes (book_of (partly 49 4 (links 1 4 0) no_gateway ∷ []) settled)
     (row (cancels_sale E D) (goes 19 (10 ∷ 18 ∷ 30 ∷ []) (X_ 2) Q (X_ 1) (sale 90 11 51) ∷ []) 0
@@ -260,27 +261,27 @@ afternoon : Goes (book_of (partly 49 4 (links 1 4 0) no_gateway ∷ []) settled)
     (partly 54 5 (links 2 4 5) no_gateway) (settled ++ (first_cancel 0 ∷ []))
     ∷ row (reject_of (X_ 2) (spelled 18 P ∷ number 19 4 1234 ∷ spelled 20 T ∷ []))
     (refuses (2 ∷ 20 ∷ []) X E D 49 1 1234 2 0 (long 84) ∷ []) 0
-    (partly 49 5 (links 2 4 5) no_gateway) (settled ++ (first_cancel 1 ∷ []))
+    (partly 49 5 (links 2 4 5) no_gateway) (settled ++ (first_cancel 2 ∷ []))
     ∷ row gateway_cancels (goes 19 (10 ∷ 18 ∷ 30 ∷ []) (X_ 3) Q (X_ 1) (sale 90 11 51) ∷ []) 0
-    (partly 49 5 (links 3 4 6) (tried 1 0)) (settled ++ (first_cancel 1 ∷ second_cancel 0 ∷ []))
-    ∷ row (send_fails (X_ 3)) [] 0 (partly 49 5 (links 3 4 6) unsent) (settled ++ (first_cancel 1 ∷ second_cancel 1 ∷ []))
+    (partly 49 5 (links 3 4 6) (tried 1 0)) (settled ++ (first_cancel 2 ∷ second_cancel 0 ∷ []))
+    ∷ row (send_fails (X_ 3)) [] 0 (partly 49 5 (links 3 4 6) unsent) (settled ++ (first_cancel 2 ∷ second_cancel 3 ∷ []))
     ∷ row (cancels_sale F D) (goes 19 (10 ∷ 18 ∷ 30 ∷ []) (X_ 4) Q (X_ 1) (sale 90 11 51) ∷ []) 0
-    (partly 49 5 (links 4 4 7) unsent) (settled ++ (first_cancel 1 ∷ second_cancel 1 ∷ third_cancel 0 ∷ []))
+    (partly 49 5 (links 4 4 7) unsent) (settled ++ (first_cancel 2 ∷ second_cancel 3 ∷ third_cancel 0 ∷ []))
     ∷ row (report_of (X_ 4) 52 52 0 0 40 (money 11) [])
     (reports (4 ∷ []) F D 52 0 0 (money 11) 3 no_long (partly 52 6 (links 4 4 7) no_gateway) ∷ []) 0
-    (partly 52 6 (links 4 4 7) no_gateway) (settled ++ (first_cancel 1 ∷ second_cancel 1 ∷ third_cancel 1 ∷ []))
+    (partly 52 6 (links 4 4 7) no_gateway) (settled ++ (first_cancel 2 ∷ second_cancel 3 ∷ third_cancel 1 ∷ []))
     ∷ row (report_of (X_ 1) 70 49 10 (money 11) 50 (money 11) []) [] 5
-    (partly 52 6 (links 4 4 7) no_gateway) (settled ++ (first_cancel 1 ∷ second_cancel 1 ∷ third_cancel 1 ∷ []))
+    (partly 52 6 (links 4 4 7) no_gateway) (settled ++ (first_cancel 2 ∷ second_cancel 3 ∷ third_cancel 1 ∷ []))
     ∷ row (cancels_sale G D) (refuses (2 ∷ 27 ∷ []) X G D 52 1 0 1 7 no_long ∷ []) 0
-    (partly 52 6 (links 4 4 7) no_gateway) (settled ++ (first_cancel 1 ∷ second_cancel 1 ∷ third_cancel 1 ∷ []))
+    (partly 52 6 (links 4 4 7) no_gateway) (settled ++ (first_cancel 2 ∷ second_cancel 3 ∷ third_cancel 1 ∷ []))
     -- of a ClOrdID that the client never used: no order, so no name, and Rejected
     ∷ row (cancels_sale G T) (refuses (27 ∷ []) [] G T 56 1 1 1 6 no_long ∷ []) 0
-    (partly 52 6 (links 4 4 7) no_gateway) (settled ++ (first_cancel 1 ∷ second_cancel 1 ∷ third_cancel 1 ∷ []))
+    (partly 52 6 (links 4 4 7) no_gateway) (settled ++ (first_cancel 2 ∷ second_cancel 3 ∷ third_cancel 1 ∷ []))
     ∷ [])
 unfolding called
 afternoon = refl
 
 -- the books of this day keep their rules
-kept : rules (book_of (partly 49 5 (links 4 4 7) unsent ∷ []) (settled ++ (first_cancel 1 ∷ second_cancel 1 ∷ third_cancel 0 ∷ []))) ≡ true
+kept : rules (book_of (partly 49 5 (links 4 4 7) unsent ∷ []) (settled ++ (first_cancel 2 ∷ second_cancel 3 ∷ third_cancel 0 ∷ []))) ≡ true
 unfolding called
 kept = refl

@@ -20,12 +20,12 @@ use Rattle.machine.specs.declared.Findings.{Findings}
 use Rattle.machine.specs.declared.Output.{Output}
 use Rattle.machine.specs.declared.Requests.{Requests}
 use Rattle.machine.specs.Amend.{verdict_text, send_refused}
-use Rattle.machine.specs.Changes.{Message, with_order, answering, superseding, adding, telling, alarming, next_link, next_number}
+use Rattle.machine.specs.Changes.{Message, no_requests, with_order, answering, superseding, adding, telling, alarming, next_link, next_number}
 use Rattle.machine.specs.GatewayCancel.{try_sent}
 use Rattle.machine.specs.Machine.{latest_cancel}
 use Rattle.machine.specs.Messages.{no_message, no_price, no_note}
-use Rattle.machine.specs.Rules.{names_range, force_range, priced_range, terms_range, pending_range, gateway_range, request_range, linked, current_test, pending_test, filled_rule, status_rule, done_rule, tries_rule, number_rule, in_flight_rule, same_key}
-use Rattle.facts.specs.Play.{X, X_, C, D, W, called, terms, state, links, order_x, standing, cancelling, request, first, reported}
+use Rattle.machine.specs.Rules.{names_range, force_range, priced_range, terms_range, pending_range, gateway_range, request_range, linked, current_test, pending_test, filled_rule, status_rule, done_rule, tries_rule, number_rule, outcome_rule, in_flight_rule, same_key}
+use Rattle.facts.specs.Play.{X, X_, C, D, W, called, terms, state, links, order_x, standing, cancelling, request, marked, first, reported}
 
 -- so many tests that hold, and that do not
 abbrev yes : ℕ → List Bool
@@ -126,7 +126,7 @@ record Ranges : Type 0 where
       ∷ []
       ≡ yes 4
   requests_out : request_range (request 4 0 D C (X_ 1))
-      ∷ request_range (request 0 2 C [] X)
+      ∷ request_range (marked 2 2 first)
       ∷ request_range (request 0 0 [] [] X)
       ∷ request_range (request 0 0 C D X)
       ∷ request_range (request 1 0 [] C (X_ 1))
@@ -173,8 +173,8 @@ order_of status cum p g = order_x (state status cum 0 1) (links 1 1 2) p g
 abbrev live : GatewayCancel → Order
 live g = order_of 48 0 no_pending g
 
-abbrev gateway_asks : (answered : ℕ) → Request
-gateway_asks answered = request 3 answered [] [] (X_ 1)
+abbrev gateway_asks : (outcome : ℕ) → Request
+gateway_asks outcome = request 3 outcome [] [] (X_ 1)
 
 -- two orders of a client, or of two, each with one request under that ClOrdID
 abbrev twice : (client : ℕ) (clordid : List ℕ) → Book
@@ -192,7 +192,7 @@ twice client clordid = record {
         gateway = no_gateway;
       }
       ∷ [];
-  requests = request 0 0 clordid [] X ∷ record { order = 1; kind = 0; answered = 0; clordid = text_of clordid; origclordid = no_text; downstream = text_of W } ∷ [];
+  requests = request 0 0 clordid [] X ∷ record { order = 1; kind = 0; answered = 0; clordid = text_of clordid; origclordid = no_text; downstream = text_of W; outcome = 0 } ∷ [];
 }
 
 record Tests : Type 0 where
@@ -225,6 +225,9 @@ record Tests : Type 0 where
       ∷ number_rule (text_of X) 1 (request 0 0 C [] (X_ 1))
       ∷ []
       ≡ no 5
+  -- what came of a request: 0 exactly where it is unanswered, and 3 at most
+  outcomes : outcome_rule (marked 0 0 first) ∷ outcome_rule (marked 1 1 first) ∷ outcome_rule (marked 1 2 first) ∷ outcome_rule (marked 1 3 first) ∷ [] ≡ yes 4
+  not_outcomes : outcome_rule (marked 0 1 first) ∷ outcome_rule (marked 0 4 first) ∷ outcome_rule (marked 1 0 first) ∷ outcome_rule (marked 1 4 first) ∷ [] ≡ no 4
   -- an unanswered gateway cancel of a live order is its latest cancel, tried, sent and not stuck; any other request is free
   in_flight : in_flight_rule 2 (gateway_asks 0) (live (cancelling 1 false))
       ∷ in_flight_rule 3 (gateway_asks 1) (live (tried 1 true false 1 0))
@@ -262,6 +265,8 @@ tests = record {
   not_tries = refl;
   numbered = refl;
   not_numbered = refl;
+  outcomes = refl;
+  not_outcomes = refl;
   in_flight = refl;
   not_in_flight = refl;
   same = refl;
@@ -273,8 +278,8 @@ tests = record {
 abbrev changed : Order → Requests → Output → Change
 changed o qs out = record { refusal = 1; place = 2; order = o; requests = qs; output = out }
 
-abbrev answers : (answered superseded added : ℕ) → Request → Requests
-answers answered superseded added q = record { answered = answered; superseded = superseded; added = added; request = q }
+abbrev answers : (answered superseded outcome added : ℕ) → Request → Requests
+answers answered superseded outcome added q = record { answered = answered; superseded = superseded; outcome = outcome; added = added; request = q }
 
 abbrev puts : (count : ℕ) → (one two : Message) → (alarm alarm2 : ℕ) → Output
 puts count one two alarm alarm2 = record { count = count; first = one; second = two; alarm = alarm; alarm2 = alarm2 }
@@ -293,15 +298,15 @@ abbrev q : Request
 q = gateway_asks 0
 
 record Changed : Type 0 where
-  order : with_order p (changed o (answers 3 4 0 first) (puts 1 (m 1) (m 2) 5 6)) ≡ changed p (answers 3 4 0 first) (puts 1 (m 1) (m 2) 5 6)
-  answer : answering 9 (changed o (answers 3 4 1 first) (puts 1 (m 1) (m 2) 5 6)) ≡ changed o (answers 9 4 1 first) (puts 1 (m 1) (m 2) 5 6)
-  supersede : superseding 9 (changed o (answers 3 4 1 first) (puts 1 (m 1) (m 2) 5 6)) ≡ changed o (answers 3 9 1 first) (puts 1 (m 1) (m 2) 5 6)
-  add : adding q (changed o (answers 3 4 0 first) (puts 1 (m 1) (m 2) 5 6)) ≡ changed o (answers 3 4 1 q) (puts 1 (m 1) (m 2) 5 6)
+  order : with_order p (changed o (answers 3 4 5 0 first) (puts 1 (m 1) (m 2) 5 6)) ≡ changed p (answers 3 4 5 0 first) (puts 1 (m 1) (m 2) 5 6)
+  answer : answering 9 8 (changed o (answers 3 4 5 1 first) (puts 1 (m 1) (m 2) 5 6)) ≡ changed o (answers 9 4 8 1 first) (puts 1 (m 1) (m 2) 5 6)
+  supersede : superseding 9 (changed o (answers 3 4 5 1 first) (puts 1 (m 1) (m 2) 5 6)) ≡ changed o (answers 3 9 5 1 first) (puts 1 (m 1) (m 2) 5 6)
+  add : adding q (changed o (answers 3 4 5 0 first) (puts 1 (m 1) (m 2) 5 6)) ≡ changed o (answers 3 4 5 1 q) (puts 1 (m 1) (m 2) 5 6)
   -- a message and an alarm go behind the one that is there
-  tell : telling (m 3) (changed o (answers 3 4 0 first) (puts 0 (m 1) (m 2) 5 6)) ≡ changed o (answers 3 4 0 first) (puts 1 (m 3) (m 2) 5 6)
-  tell_second : telling (m 3) (changed o (answers 3 4 0 first) (puts 1 (m 1) (m 2) 5 6)) ≡ changed o (answers 3 4 0 first) (puts 2 (m 1) (m 3) 5 6)
-  alarm : alarming 9 (changed o (answers 3 4 0 first) (puts 1 (m 1) (m 2) 0 6)) ≡ changed o (answers 3 4 0 first) (puts 1 (m 1) (m 2) 9 6)
-  alarm_second : alarming 9 (changed o (answers 3 4 0 first) (puts 1 (m 1) (m 2) 5 0)) ≡ changed o (answers 3 4 0 first) (puts 1 (m 1) (m 2) 5 9)
+  tell : telling (m 3) (changed o (answers 3 4 5 0 first) (puts 0 (m 1) (m 2) 5 6)) ≡ changed o (answers 3 4 5 0 first) (puts 1 (m 3) (m 2) 5 6)
+  tell_second : telling (m 3) (changed o (answers 3 4 5 0 first) (puts 1 (m 1) (m 2) 5 6)) ≡ changed o (answers 3 4 5 0 first) (puts 2 (m 1) (m 3) 5 6)
+  alarm : alarming 9 (changed o (answers 3 4 5 0 first) (puts 1 (m 1) (m 2) 0 6)) ≡ changed o (answers 3 4 5 0 first) (puts 1 (m 1) (m 2) 9 6)
+  alarm_second : alarming 9 (changed o (answers 3 4 5 0 first) (puts 1 (m 1) (m 2) 5 0)) ≡ changed o (answers 3 4 5 0 first) (puts 1 (m 1) (m 2) 5 9)
 
 changes : Changed
 unfolding called
@@ -348,6 +353,7 @@ record Ends : Type 0 where
       }
   price : no_price ≡ record { price = 0 ∷ 0 ∷ []; source = 0 }
   note : no_note ≡ record { text = no_long; fixedtext = 0; reason = 0; origin = 0 }
+  requests : no_requests ≡ answers 0 0 0 0 no_request
   -- an order without a cancel has no latest one
   no_cancel : latest_cancel (twice 7 C) (standing 48 0 0 1) ≡ no_request
   cancel : latest_cancel (twice 7 C) (order_x (state 48 0 0 1) (links 1 1 1) no_pending no_gateway) ≡ first
@@ -372,6 +378,7 @@ ends = record {
   message = refl;
   price = refl;
   note = refl;
+  requests = refl;
   no_cancel = refl;
   cancel = refl;
   link = refl;

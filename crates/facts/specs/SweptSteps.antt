@@ -1,7 +1,7 @@
 -- One event on a small book that is spelled out, beside all that comes of it: messages, alarm and the whole book. Near and wrong definitions that no list of
 -- events in the other files tells from the right ones. Rests on Play.
 -- The books keep their rules, and some are reached by no list: an entry takes any book that keeps them. Question 1 is not asked here.
-use Rattle.std.specs.Prelude.{ℕ, ◌≡◌, refl, true, false, List, [], ◌∷◌, replicate}
+use Rattle.std.specs.Prelude.{ℕ, ◌≡◌, refl, true, false, List, [], ◌∷◌, map, replicate}
 use Rattle.prelude.specs.Texts.{text_of}
 use Rattle.bits.specs.Map.{map_of}
 use Rattle.records.specs.Record.{event_in}
@@ -20,6 +20,10 @@ use Rattle.facts.specs.Play.{Field, number, spelled, mark, bytes, shares, money,
 
 abbrev comes : Book → (event : List ℕ) → Line
 comes b event = line_of b (step_of b (event_in event))
+
+-- what came of each request then
+abbrev came : Book → (event : List ℕ) → List ℕ
+came b event = map (λ q. q.outcome) (comes b event).book.requests
 
 -- order X and its requests
 abbrev book_x : Order → List Request → Book
@@ -46,12 +50,12 @@ done = book_x (standing 52 0 0 2) (first ∷ [])
 abbrev at_venue4 : (kind : ℕ) → List Field → List ℕ
 at_venue4 kind more = bytes kind (number 1 2 4 ∷ spelled 5 X ∷ more)
 
--- a replace is out, at that status, with its terms waiting or not
+-- a replace is out, at that status, with its terms waiting or not; and what came of it
 abbrev hundred : Pending
 hundred = record { request = 2; qty = shares 100; price = money 10; ordtype = 50; timeinforce = 0 }
 
-abbrev replacing : (status cum : ℕ) → Pending → (answered : ℕ) → Book
-replacing status cum p answered = book_x (order_x (state status cum 0 1) (links 1 1 0) p no_gateway) (first ∷ request 2 answered D C (X_ 1) ∷ [])
+abbrev replacing : (status cum : ℕ) → Pending → (outcome : ℕ) → Book
+replacing status cum p outcome = book_x (order_x (state status cum 0 1) (links 1 1 0) p no_gateway) (first ∷ request 2 outcome D C (X_ 1) ∷ [])
 
 -- a name that no order and no request has
 abbrev Z : List ℕ
@@ -76,37 +80,44 @@ not_sent = record {
 }
 
 -- a gateway cancel in flight, the second; and as a failed send leaves it: one try less, unsent, and one more refused send
-abbrev second : (answered : ℕ) → List Request
-second answered = first ∷ request 3 1 [] [] (X_ 1) ∷ request 3 answered [] [] (X_ 2) ∷ []
+abbrev second : (outcome : ℕ) → List Request
+second outcome = first ∷ request 3 2 [] [] (X_ 1) ∷ request 3 outcome [] [] (X_ 2) ∷ []
 
 abbrev waits : (tries refusedsends : ℕ) → GatewayCancel
 waits tries refusedsends = record { tries = tries; unsent = true; stuck = false; origdownstream = 1; refusedsends = refusedsends }
 
-abbrev trying : GatewayCancel → (answered : ℕ) → Book
-trying g answered = book_x (order_x (state 48 0 0 1) (links 2 1 3) no_pending g) (second answered)
+abbrev trying : GatewayCancel → (outcome : ℕ) → Book
+trying g outcome = book_x (order_x (state 48 0 0 1) (links 2 1 3) no_pending g) (second outcome)
 
 -- the gateway's cancel of a done order is out
-abbrev done_cancel : (answered : ℕ) → Book
-done_cancel answered = book_x (order_x (state 52 0 0 2) (links 1 1 2) no_pending no_gateway) (first ∷ request 3 answered [] [] (X_ 1) ∷ [])
+abbrev done_cancel : (outcome : ℕ) → Book
+done_cancel outcome = book_x (order_x (state 52 0 0 2) (links 1 1 2) no_pending no_gateway) (first ∷ request 3 outcome [] [] (X_ 1) ∷ [])
 
 -- the client's cancel is out
 abbrev cancel_out : GatewayCancel → Book
 cancel_out g = book_x (order_x (state 48 0 0 1) (links 1 1 2) no_pending g) (first ∷ request 1 0 D C (X_ 1) ∷ [])
 
+-- two cancels of the gateway are out, of an order that is done
+abbrev both_out : (outcome : ℕ) → Book
+both_out outcome = book_x (order_x (state 52 0 0 2) (links 2 1 3) no_pending no_gateway) (first ∷ request 3 outcome [] [] (X_ 1) ∷ request 3 0 [] [] (X_ 2) ∷ [])
+
 record Sends : Type 0 where
   -- the first send fails while it is PendingNew, and of its own venue alone
-  fails : comes booked (send_fails X) ≡ line (not_sent ∷ []) 0 (book_x (standing 56 0 0 1) (request 0 1 C [] X ∷ []))
+  fails : comes booked (send_fails X) ≡ line (not_sent ∷ []) 0 (book_x (standing 56 0 0 1) (request 0 3 C [] X ∷ []))
   fails_late : comes (replacing 48 0 hundred 0) (send_fails X) ≡ silent (replacing 48 0 hundred 0)
   fails_elsewhere : comes (replacing 65 0 hundred 0) (at_venue4 7 (spelled 20 (78 ∷ []) ∷ [])) ≡ silent (replacing 65 0 hundred 0)
   -- it is sent again while it is PendingNew, and of its own venue alone
   again_late : comes (replacing 48 0 hundred 0) (sends_again X) ≡ silent (replacing 48 0 hundred 0)
   again_elsewhere : comes (replacing 65 0 hundred 0) (at_venue4 8 []) ≡ silent (replacing 65 0 hundred 0)
   -- the gateway's second try is not sent: one try is left
-  try : comes (trying (cancelling 2 false) 0) (send_fails (X_ 2)) ≡ silent (trying (waits 1 1) 1)
+  try : comes (trying (cancelling 2 false) 0) (send_fails (X_ 2)) ≡ silent (trying (waits 1 1) 3)
   -- told twice it counts once
-  try_twice : comes (trying (waits 1 1) 1) (send_fails (X_ 2)) ≡ silent (trying (waits 1 1) 1)
+  try_twice : comes (trying (waits 1 1) 3) (send_fails (X_ 2)) ≡ silent (trying (waits 1 1) 3)
   -- of a done order it is answered, and the order has no gateway cancel
-  try_done : comes (done_cancel 0) (send_fails (X_ 1)) ≡ silent (done_cancel 1)
+  try_done : comes (done_cancel 0) (send_fails (X_ 1)) ≡ silent (done_cancel 3)
+  -- sent again it is refused; and so is the earlier of two by the venue
+  again_done : comes (done_cancel 0) (sends_again (X_ 1)) ≡ silent (done_cancel 2)
+  earlier : comes (both_out 0) (rejects (X_ 1) 1) ≡ silent (both_out 2)
   -- the gateway's cancel is asked for: of a done order, while one is in flight, and behind the client's, where it waits
   asked_done : comes (done_cancel 1) gateway_cancels ≡ silent (done_cancel 1)
   asked_twice : comes (trying (cancelling 2 false) 0) gateway_cancels ≡ silent (trying (cancelling 2 false) 0)
@@ -123,6 +134,8 @@ sends = record {
   try = refl;
   try_twice = refl;
   try_done = refl;
+  again_done = refl;
+  earlier = refl;
   asked_done = refl;
   asked_twice = refl;
   asked_behind = refl;
@@ -201,7 +214,7 @@ two = record {
         gateway = no_gateway;
       }
       ∷ [];
-  requests = first ∷ record { order = 1; kind = 0; answered = 0; clordid = text_of Z; origclordid = no_text; downstream = text_of Z } ∷ [];
+  requests = first ∷ record { order = 1; kind = 0; answered = 0; clordid = text_of Z; origclordid = no_text; downstream = text_of Z; outcome = 0 } ∷ [];
 }
 
 -- a refusal of ours under another ClOrdID than D, or of no order: the name is there where there is an order
@@ -251,11 +264,10 @@ record Requests : Type 0 where
   -- a block refuses a rise alone
   blocked_same : comes live (replace_of D 100 (mark 22 ∷ []) 0) ≡ line (to_venue' 20 (X_ 1) 100 ∷ []) 0 (replacing 48 0 hundred 0)
   -- a refused replace takes PendingReplace back to New, above a cumulative of 0 to PartiallyFilled
-  back_to_new : comes (replacing 69 0 hundred 0) (reject_of (X_ 1) []) ≡ line (refused 48 2 99 10 ∷ []) 0 (replacing 48 0 no_pending 1)
-  back_to_partial : comes (replacing 69 40 hundred 0) (reject_of (X_ 1) []) ≡ line (refused 49 2 99 10 ∷ []) 0 (replacing 49 40 no_pending 1)
+  back_to_new : comes (replacing 69 0 hundred 0) (reject_of (X_ 1) []) ≡ line (refused 48 2 99 10 ∷ []) 0 (replacing 48 0 no_pending 2)
+  back_to_partial : comes (replacing 69 40 hundred 0) (reject_of (X_ 1) []) ≡ line (refused 49 2 99 10 ∷ []) 0 (replacing 49 40 no_pending 2)
   -- and another status stays
-  stays : comes (replacing 65 0 hundred 0) (reject_of (X_ 1) []) ≡ line (refused 65 2 99 10 ∷ []) 0 (replacing 65 0 no_pending 1)
-  -- a replace whose terms no longer wait is not sent again
+  stays : comes (replacing 65 0 hundred 0) (reject_of (X_ 1) []) ≡ line (refused 65 2 99 10 ∷ []) 0 (replacing 65 0 no_pending 2)
   -- a reject of another venue, of a request that was answered, and of the order itself
   elsewhere : comes (cancel_out no_gateway) (bytes 6 (number 1 2 4 ∷ spelled 5 (X_ 1) ∷ [])) ≡ silent (cancel_out no_gateway)
   answered : comes (superseded 48) (rejects (X_ 1) 1) ≡ silent (superseded 48)
@@ -269,7 +281,8 @@ record Requests : Type 0 where
   -- a limit at 0 and no price are not the same: the verdict is asked for
   no_price : comes (book_x free_order (first ∷ [])) (bytes 3 (number 0 2 7 ∷ spelled 3 D ∷ spelled 4 C ∷ spelled 6 W ∷ number 7 1 49 ∷ number 9 8 (shares 100) ∷ number 23 1 3 ∷ []))
       ≡ line (refused 48 2 99 14 ∷ []) 0 (book_x free_order (first ∷ []))
-  not_waiting : comes (replacing 48 0 no_pending 0) (sends_again (X_ 1)) ≡ line (refused 48 2 99 11 ∷ []) 0 (replacing 48 0 no_pending 1)
+  -- a replace whose terms no longer wait is not sent again
+  not_waiting : comes (replacing 48 0 no_pending 0) (sends_again (X_ 1)) ≡ line (refused 48 2 99 11 ∷ []) 0 (replacing 48 0 no_pending 2)
 
 requests : Requests
 unfolding called
@@ -341,6 +354,9 @@ record Reports : Type 0 where
   stale_repeat : comes done (report_of X 52 52 0 0 0 0 (spelled 18 E ∷ [])) ≡ silent done
   -- PendingReplace under a replace that was accepted is behind
   settled : comes (superseded 48) (turns (X_ 1) 69 69) ≡ silent (superseded 48)
+  -- what a replace supersedes is accepted with it, unless something had come of it before: here its send had failed
+  supersedes : came (replacing 48 0 hundred 0) (turns (X_ 1) 53 48) ≡ 1 ∷ 1 ∷ []
+  superseded_failed : came (book_x (order_x (state 65 0 0 0) (links 1 1 0) hundred no_gateway) (request 0 3 C [] X ∷ request 2 0 D C (X_ 1) ∷ [])) (turns (X_ 1) 53 48) ≡ 3 ∷ 1 ∷ []
   -- an order at PendingReplace is not taken back by New under its own ClOrdID; under the replace's it is accepted
   held : comes (replacing 69 0 hundred 0) (turns X 48 48) ≡ silent (replacing 69 0 hundred 0)
 
@@ -360,5 +376,7 @@ reports = record {
   stale = refl;
   stale_repeat = refl;
   settled = refl;
+  supersedes = refl;
+  superseded_failed = refl;
   held = refl;
 }

@@ -48,7 +48,7 @@ timed setting status cum avg sequence amendments cancel qs = record {
 
 -- filled to 40, and the cancel D refused
 abbrev worn : (setting : ℕ) → Book
-worn setting = timed setting 49 40 (money 10) 1 1 2 (first ∷ request 1 1 D C (X_ 1) ∷ [])
+worn setting = timed setting 49 40 (money 10) 1 1 2 (first ∷ request 1 2 D C (X_ 1) ∷ [])
 
 abbrev stepped_on : Book → List (List ℕ) → Book
 stepped_on b [] = b
@@ -243,7 +243,7 @@ record Sends : Type 0 where
   -- sent again: a cancel, a replace, and an order that is PendingNew
   cancel_again : comes (cancels E ∷ []) (sends_again (X_ 2)) ≡ came (19 ∷ []) 0 0 49 (three 0)
   replace_again : comes (replaces E 150 ∷ []) (sends_again (X_ 2)) ≡ came (20 ∷ []) 0 0 49 (three 0)
-  first_again : comes_on (timed 10000 65 0 0 0 1 2 (first ∷ request 1 1 D C (X_ 1) ∷ [])) (sends_again X) ≡ filled (18 ∷ []) 65 0 100 two
+  first_again : comes_on (timed 10000 65 0 0 0 1 2 (first ∷ request 1 2 D C (X_ 1) ∷ [])) (sends_again X) ≡ filled (18 ∷ []) 65 0 100 two
   -- not sent again: an answered cancel, and a done order's
   answered_again : comes [] (sends_again (X_ 1)) ≡ silent 49 two
   done_again : comes (cancels E ∷ canceled ∷ []) (sends_again (X_ 2)) ≡ came (17 ∷ []) 11 0 52 (three 1)

@@ -1,6 +1,7 @@
 // A message's fields, written into a slice that has room for them. The slice, where to write and what come
-// one by one, as decimal's functions take them: a struct of the first two would be made for each call, since
-// each goes on from where the last one ended. Rests on `value`, fix_table and decimal.
+// one by one, as decimal's functions take them. The contracts say where each field ends by `at`; the methods of a
+// cursor would say the same of its field, and each caller names the place where the next one goes: no plainer.
+// Rests on `value`, fix_table and decimal.
 ghost use Rattle.std.specs.Prelude.{◌≡◌, Some, [], ◌∷◌, ◌++◌, ℕ, ◌+◌, ◌≤◌, ◌<◌, length};
 ghost use Rattle.prelude.specs.Span.{span, splice};
 ghost use Rattle.decimal.specs.Decimal.{digits, decimal};

@@ -2,7 +2,7 @@
 // on fix_table, format and bits. A bit is an index of the parts here, as in a row (fix_table's `bit`), and
 // once the number by which bits shifts (format's `bit`). A record's lengths are u64 and a bit's number is a
 // u32 in bits: by `as`, which is proved to lose nothing, since std has no From between them and usize.
-ghost use Rattle.std.specs.Prelude.{◌≡◌, ◌-◌, ◌<◌};
+ghost use Rattle.std.specs.Prelude.{◌≡◌, ◌+◌, ◌-◌, ◌<◌, get_or};
 ghost use Rattle.fix.specs.Laws.Plan.{plain_plan, fixed_plan, exec_plan, instead_plan, planned};
 
 use fix_table::spoken::NONE;
@@ -24,7 +24,8 @@ pub(crate) enum Value {
         n: u64,
         places: u8,
     },
-    // A fill price that one word does not hold.
+    // A fill price that one word does not hold. Two members and no `[u64; 2]`: the laws of Plan, Planned and Putting
+    // say `Price l h p`, and each would take the two out of a list: no plainer.
     Price {
         low: u64,
         high: u64,
@@ -48,11 +49,14 @@ pub(crate) fn text_place(to: usize, n: u64) -> (usize, usize)
     (to.saturating_sub(count), count)
 }
 
-// A bit that stands and ends at `to`, from its number.
+// A bit that stands.
 #[tactic(auto, using(fix_table::specs::Laws::Choices::choices), unfolding(crate::specs::Laws::Plan::plain_plan))]
-fn plain(to: usize, n: u64, high: u64, b: usize) -> Value
-    ensures { result ≡ plain_plan to n high b }
+fn plain(parts: &Parts, b: usize) -> Value
+    requires { b < 32 }
+    ensures { result ≡ plain_plan (get_or parts.now.at (b + 1) 0) (get_or parts.now.numbers b 0) parts.now.high b }
 {
+    let to = parts.at[b + 1];
+    let n = parts.numbers[b];
     match form_of(b) {
         Form::Text => {
             let (from, count) = text_place(to, n);
@@ -62,10 +66,10 @@ fn plain(to: usize, n: u64, high: u64, b: usize) -> Value
             from: to.saturating_sub(1),
             count: 1,
         },
-        // Most prices fit one word: with two words for all, a fill was written in 1,304 ns, not 1,118.
-        Form::Number(places) if b == bit::FILLPRICE && high != 0 => Value::Price {
+        // Asked once, here: most prices fit one word, and `room` and `put` would each ask again which do.
+        Form::Number(places) if b == bit::FILLPRICE && parts.high != 0 => Value::Price {
             low: n,
-            high,
+            high: parts.high,
             places,
         },
         Form::Number(places) => Value::Number { n, places },
@@ -73,10 +77,11 @@ fn plain(to: usize, n: u64, high: u64, b: usize) -> Value
 }
 
 #[tactic(auto, using(fix_table::specs::Laws::Choices::choices), unfolding(crate::specs::Laws::Plan::fixed_plan))]
-fn fixed(map: u32, n: u64) -> Option<Value>
-    ensures { result ≡ fixed_plan map n }
+fn fixed(parts: &Parts) -> Option<Value>
+    ensures { result ≡ fixed_plan parts.now.map (get_or parts.now.numbers 27 0) }
 {
-    bits::has(map, format::bit::FIXEDTEXT).then_some(Value::Words(n))
+    let n = parts.numbers[bit::FIXEDTEXT];
+    bits::has(parts.map, format::bit::FIXEDTEXT).then_some(Value::Words(n))
 }
 
 #[tactic(auto, using(fix_table::specs::Laws::Choices::choices), unfolding(crate::specs::Laws::Plan::exec_plan))]
@@ -94,22 +99,23 @@ fn exec(parts: &Parts) -> Option<Value>
 
 // What stands in a reject for a bit that does not.
 #[tactic(auto, using(fix_table::specs::Laws::Choices::choices), unfolding(crate::specs::Laws::Plan::instead_plan))]
-fn instead(kind: u8, map: u32, n: u64, b: usize) -> Option<Value>
-    ensures { result ≡ instead_plan kind map n b }
+fn instead(kind: u8, parts: &Parts, b: usize) -> Option<Value>
+    ensures { result ≡ instead_plan kind parts.now.map (get_or parts.now.numbers 27 0) b }
 {
     if kind != codes::CANCEL_REJECT {
         return None;
     }
     match b {
         bit::NAME => Some(Value::Words(NONE)),
-        bit::TEXT => fixed(map, n),
+        bit::TEXT => fixed(parts),
         _ => None,
     }
 }
 
-// The value of bit b of a message of this kind. That b is below 32 stands in this contract and in two
-// of `write`: it is an index of the parts, and a type for it would be made of each row's number only to
-// be taken apart here. It would say no more as a `Row`, which is public, and whose bit may be any number.
+// The value of bit b of a message of this kind. That b is below 32 stands in this contract, in that of
+// `plain` and of `put_body`, and in two of `write`: it is an index of the parts, and a type for it would be made
+// of each row's number only to be taken apart here. It would say no more as a `Row`, which is public, and whose
+// bit may be any number.
 #[tactic(auto, using(fix_table::specs::Laws::Choices::choices), unfolding(crate::specs::Laws::Plan::planned))]
 pub(crate) fn value_at(kind: u8, parts: &Parts, b: usize) -> Option<Value>
     requires { b < 32 }
@@ -117,10 +123,8 @@ pub(crate) fn value_at(kind: u8, parts: &Parts, b: usize) -> Option<Value>
 {
     match b {
         bit::EXEC => exec(parts),
-        bit::FIXEDTEXT => fixed(parts.map, parts.numbers[bit::FIXEDTEXT]),
-        _ if bits::has(parts.map, b as u32) => {
-            Some(plain(parts.at[b + 1], parts.numbers[b], parts.high, b))
-        }
-        _ => instead(kind, parts.map, parts.numbers[bit::FIXEDTEXT], b),
+        bit::FIXEDTEXT => fixed(parts),
+        _ if bits::has(parts.map, b as u32) => Some(plain(parts, b)),
+        _ => instead(kind, parts, b),
     }
 }

@@ -34,18 +34,18 @@ fn is_text(s: &[u8]) -> bool
     !s.is_empty() && s.iter().all(|c| b' ' <= *c)
 }
 
-// The same of bit b, where it is a text, stands, and ends at `to`.
+// The same of bit b, where it is a text and stands.
 #[tactic(auto, using(fix_table::specs::Laws::Choices::choices, crate::specs::Laws::Whole::form_text, crate::specs::Laws::Whole::form_other, prelude::specs::Span::part_span), unfolding(crate::specs::Laws::Plan::text_right))]
-fn text_right(s: &[u8], map: u32, to: usize, n: u64, b: usize) -> bool
-    requires { (b < 32) × (form_of b ≡ Text → (to - n) + n ≤ length s.now) }
-    ensures { result ≡ text_right s.now map to n b }
+fn text_right(s: &[u8], parts: &Parts, b: usize) -> bool
+    requires { (b < 32) × (form_of b ≡ Text → (get_or parts.now.at (b + 1) 0 - get_or parts.now.numbers b 0) + get_or parts.now.numbers b 0 ≤ length s.now) }
+    ensures { result ≡ text_right s.now parts.now.map (get_or parts.now.at (b + 1) 0) (get_or parts.now.numbers b 0) b }
 {
     match form_of(b) {
         Form::Text => {
-            if !bits::has(map, b as u32) {
+            if !bits::has(parts.map, b as u32) {
                 return true;
             }
-            let (from, count) = text_place(to, n);
+            let (from, count) = text_place(parts.at[b + 1], parts.numbers[b]);
             is_text(&s[from..from + count])
         }
         _ => true,
@@ -58,7 +58,7 @@ fn texts_right(s: &[u8], parts: &Parts) -> bool
     requires { (b : ℕ) → b < 32 → form_of b ≡ Text → (get_or parts.now.at (b + 1) 0 - get_or parts.now.numbers b 0) + get_or parts.now.numbers b 0 ≤ length s.now }
     ensures { result ≡ texts_right s.now parts.now.map parts.now.at parts.now.numbers }
 {
-    (0..32).all(|b| text_right(s, parts.map, parts.at[b + 1], parts.numbers[b], b))
+    (0..32).all(|b| text_right(s, parts, b))
 }
 
 // Whether FIX can carry every text, of the session and of the record.

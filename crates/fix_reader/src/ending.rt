@@ -22,23 +22,14 @@ fn is_sum(s: &[u8], v: &[u8]) -> bool
 }
 
 // Whether 10 is field i and the last.
-#[tactic(auto, using(crate::specs::Laws::Ending::sum_early, crate::specs::Laws::Ending::sum_here, crate::specs::Laws::Ending::place_10, crate::specs::Laws::Cut::part_within))]
+#[tactic(auto, using(crate::specs::Laws::Ending::sum_elsewhere, crate::specs::Laws::Ending::sum_here, crate::specs::Laws::Ending::place_10, crate::specs::Laws::Cut::part_within))]
 fn sum_right(f: &Fields, i: usize) -> bool
     ensures { result ≡ same_fields (drop i (fields_in f.now.message.now)) (sum_field (fields_in f.now.message.now) ∷ []) }
 {
-    // One `if` for each question and no `&&`: of the three joined, the proof did not close.
-    if f.count() <= i {
+    if f.count().saturating_sub(i) != 1 || f.tag(i) != 10 {
         return false;
     }
-    if f.count() != i + 1 {
-        return false;
-    }
-    if f.tag(i) != 10 {
-        return false;
-    }
-    // By `as`, as in `fields`.
-    let before = f.table.at[i] as usize - 3;
-    is_sum(&f.message[..before], f.value(i))
+    is_sum(&f.message[..f.at(i) - 3], f.value(i))
 }
 
 // Whether 60, where it stands, and 10 are the fields from i on, and the last. The kind's number alone, here and
@@ -60,7 +51,8 @@ fn length_right(f: &Fields) -> bool
     ensures { result ≡ same (value_at (fields_in f.now.message.now) 1) (digits (length (spellings (drop 2 (init (fields_in f.now.message.now)))))) }
 {
     let last = f.count() - 1;
-    values::spelled(f.value(1), f.table.at[last] - f.table.at[2], 0)
+    // By `as`: decimal's numbers are u64, for which std has no `From<usize>`.
+    values::spelled(f.value(1), (f.at(last) - f.at(2)) as u64, 0)
 }
 
 // Whether the end is one that the writer yields, where the rows have taken the fields before i.

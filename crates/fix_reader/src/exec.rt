@@ -21,11 +21,10 @@ fn behind_point(v: &[u8]) -> &[u8]
 pub(crate) fn exec_fits(name: &[u8], v: &[u8]) -> bool
     ensures { result ≡ same (name.now ++ (46 ∷ digits (number_in (after 46 v.now) % word))) v.now }
 {
-    let Some(rest) = v.strip_prefix(name) else {
-        return false;
-    };
-    match rest {
-        [b'.', number @ ..] => values::spelled(number, price::wrapped(behind_point(v))[0], 0),
+    // Behind the first point of the whole value, as `fits` reads: a name may hold a point, and nothing here says
+    // that this one holds none.
+    match v.strip_prefix(name) {
+        Some([b'.', number @ ..]) => values::spelled(number, price::wrapped(behind_point(v))[0], 0),
         _ => false,
     }
 }

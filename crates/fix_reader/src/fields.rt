@@ -4,7 +4,7 @@ ghost use Rattle.std.specs.Prelude.{◌≡◌, length, drop, slice_index};
 ghost use Rattle.fix_words.specs.Spelling.{fields_in};
 ghost use Rattle.fix_words.specs.Rows.{leads};
 ghost use Rattle.fix_words.specs.Message.{value_at};
-ghost use Rattle.fix_claims.specs.Reading.{tag_of};
+ghost use Rattle.fix_claims.specs.Reading.{tag_of, place_of};
 ghost use Rattle.fix_reader.specs.Laws.Cut.{Cut, cut_props};
 
 use fix_claims::FixFields;
@@ -40,12 +40,19 @@ impl<'a> Fields<'a> {
         self.table.tag.get(i).copied().unwrap_or(0)
     }
 
+    // Where the value of field i starts, 0 behind the last.
+    pub(crate) fn at(&self, i: usize) -> usize
+        ensures { result ≡ place_of (fields_in self.now.message.now) i }
+    {
+        entry(&self.table.at, i)
+    }
+
     // The value of field i, no bytes behind the last.
     #[tactic(auto, using(crate::specs::Laws::Cut::part_within, crate::specs::Laws::Cut::part_value))]
     pub(crate) fn value(&self, i: usize) -> &'a [u8]
         ensures { result.now ≡ value_at (fields_in self.now.message.now) i }
     {
-        let at = entry(&self.table.at, i);
+        let at = self.at(i);
         &self.message[at..at + entry(&self.table.length, i)]
     }
 

@@ -1,5 +1,5 @@
 // The fields of a message found one behind the other: tag, '=', value, SOH.
-ghost use Rattle.std.specs.Prelude.{◌≡◌, ◌≤◌, [], length, slice_index};
+ghost use Rattle.std.specs.Prelude.{◌≡◌, ◌≤◌, [], length};
 ghost use Rattle.fix_reader.specs.Laws.Pieces.{Digit, Tagged, Ends, Pieced};
 ghost use Rattle.fix_reader.specs.Laws.Split.{Splits};
 ghost use Rattle.fix_claims.specs.Reading.{tabled};
@@ -23,49 +23,34 @@ struct Piece {
     pub end: usize,
 }
 
-// Byte i, 0 behind the end.
-fn byte(t: &[u8], i: usize) -> u8
-    ensures { result ≡ slice_index t.now i }
+// A byte as a digit, where it is one.
+fn digit(c: u8) -> Option<u32>
+    ensures { Digit c result }
 {
-    t.get(i).copied().unwrap_or(0)
-}
-
-// Byte i as a digit, where it is one.
-fn digit(t: &[u8], i: usize) -> Option<u32>
-    ensures { Digit (slice_index t.now i) result }
-{
-    let c = byte(t, i);
     c.is_ascii_digit().then(|| u32::from(c - b'0'))
 }
 
-// The tag at the front, of at most three digits. One byte after the other: to look for the = first would
-// read the bytes twice, and ask the same of each digit behind it.
-#[tactic(auto, using(crate::specs::Laws::Pieces::no_tag))]
+// The tag at the front, of at most three digits.
+#[tactic(auto, using(crate::specs::Laws::Pieces::no_tag, crate::specs::Laws::Pieces::no_equals))]
 fn tag_here(t: &[u8]) -> Option<Tag>
     ensures { Tagged t.now result }
 {
-    let a = digit(t, 0)?;
-    if a == 0 {
-        return None;
+    match t {
+        [b'0', ..] => None,
+        [a, b'=', ..] => {
+            let tag = digit(*a)?;
+            Some(Tag { tag, at: 2 })
+        }
+        [a, b, b'=', ..] => {
+            let tag = digit(*a)? * 10 + digit(*b)?;
+            Some(Tag { tag, at: 3 })
+        }
+        [a, b, c, b'=', ..] => {
+            let tag = (digit(*a)? * 10 + digit(*b)?) * 10 + digit(*c)?;
+            Some(Tag { tag, at: 4 })
+        }
+        _ => None,
     }
-    if byte(t, 1) == b'=' {
-        return Some(Tag { tag: a, at: 2 });
-    }
-    let b = digit(t, 1)?;
-    if byte(t, 2) == b'=' {
-        return Some(Tag {
-            tag: a * 10 + b,
-            at: 3,
-        });
-    }
-    let c = digit(t, 2)?;
-    if byte(t, 3) != b'=' {
-        return None;
-    }
-    Some(Tag {
-        tag: (a * 10 + b) * 10 + c,
-        at: 4,
-    })
 }
 
 // Where the printing bytes from an index on end.
@@ -89,7 +74,7 @@ fn piece_here(t: &[u8]) -> Option<Piece>
 {
     let g = tag_here(t)?;
     let end = end_of(t, g.at);
-    if byte(t, end) != 1 {
+    if t.get(end) != Some(&1) {
         return None;
     }
     Some(Piece {

@@ -19,8 +19,8 @@ fn step(n: [u64; 2], c: u8) -> [u64; 2]
     [low, n[1].wrapping_mul(10).wrapping_add(over)]
 }
 
-// The number that a value's digits are, modulo 2^128: its two words, and no u128, since decimal's `Digits` has no
-// instance for it, and wide keeps its conversions to itself.
+// The number that a value's digits are, modulo 2^128: its two words, and no u128: each step would be the same two
+// operations, and the number would be split again for `spelled`, which takes two words: no plainer.
 #[tactic(auto, using(crate::specs::Laws::Numbers::read_more, crate::specs::Laws::Numbers::read_all, crate::specs::Laws::Wrapping::step_word, crate::specs::Laws::Wrapping::step_high_lem))]
 pub(crate) fn wrapped(v: &[u8]) -> [u64; 2]
     ensures { (slice_index result 0 ≡ number_in v.now % word) × (slice_index result 1 ≡ number_in v.now / word % word) }

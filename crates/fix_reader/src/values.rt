@@ -5,7 +5,7 @@ ghost use Rattle.prelude.specs.Cases.{if◌then◌otherwise◌};
 ghost use Rattle.prelude.specs.Number.{bound};
 ghost use Rattle.decimal.specs.Decimal.{is_digit, decimal, number_in};
 ghost use Rattle.format.specs.Codes.{within, is_alnum};
-ghost use Rattle.format.specs.Format.{in_range, range};
+ghost use Rattle.format.specs.Format.{in_range, range, size};
 ghost use Rattle.fix_words.specs.Lists.{every, is_print, same};
 ghost use Rattle.fix_words.specs.Values.{none_word, word_number};
 ghost use Rattle.fix_words.specs.Message.{is_text};
@@ -116,11 +116,12 @@ fn is_decimal(v: &[u8], places: u8) -> bool
 }
 
 // Whether a value is a number of bit b, spelled with so many decimals.
-pub(crate) fn number_fits(b: usize, s: usize, places: u8, v: &[u8]) -> bool
-    requires { (s ≢ 8) → (s ≢ 4) → s ≡ 1 }
-    ensures { result ≡ (nat_lt (number_in v.now) (bound s) && (same (decimal places (number_in v.now)) v.now && in_range (range b) (number_in v.now))) }
+pub(crate) fn number_fits(b: usize, places: u8, v: &[u8]) -> bool
+    requires { (size b ≢ 8) → (size b ≢ 4) → size b ≡ 1 }
+    ensures { result ≡ (nat_lt (number_in v.now) (bound (size b)) && (same (decimal places (number_in v.now)) v.now && in_range (range b) (number_in v.now))) }
 {
-    is_decimal(v, places) && number(v).is_some_and(|n| below(n, s) && places::may_hold(b, n))
+    is_decimal(v, places)
+        && number(v).is_some_and(|n| below(n, places::size_of(b)) && places::may_hold(b, n))
 }
 
 // Whether a value is a number of one word.

@@ -46,17 +46,17 @@ fn value_fits(kind: MessageKind, b: usize, v: &[u8], name: &[u8]) -> bool
         _ => match fix_table::form_of(b) {
             Form::Text => values::text_fits(b, v),
             Form::Code => values::code_fits(b, v),
-            Form::Number(places) => values::number_fits(b, places::size_of(b), places, v),
+            Form::Number(places) => values::number_fits(b, places, v),
         },
     }
 }
 
-// The same of field i; behind a venue's text no words of our own stand.
-fn asked(f: &Fields, kind: MessageKind, b: usize, i: usize, seen: bool) -> bool
+// The same of the field that is next; behind a venue's text no words of our own stand.
+fn asked(f: &Fields, kind: MessageKind, b: usize, t: Taken) -> bool
     requires { in_rows (rows kind.number) b ≡ true }
-    ensures { result ≡ asked_by kind.number (value_at (fields_in f.now.message.now) 7) seen b (value_at (fields_in f.now.message.now) i) }
+    ensures { result ≡ asked_by kind.number (value_at (fields_in f.now.message.now) 7) t.seen b (value_at (fields_in f.now.message.now) t.next) }
 {
-    value_fits(kind, b, f.value(i), f.value(7)) && !(seen && b == bit::FIXEDTEXT)
+    value_fits(kind, b, f.value(t.next), f.value(7)) && !(t.seen && b == bit::FIXEDTEXT)
 }
 
 // One row.
@@ -65,15 +65,14 @@ fn take_row(f: &Fields, kind: MessageKind, row: &fix_table::Row, t: Taken) -> Op
     requires { in_rows (rows kind.number) row.now.bit ≡ true }
     ensures { (rs : List Row) → walk_on (fields_in f.now.message.now) kind.number result rs ≡ walk_on (fields_in f.now.message.now) kind.number (Some t) (as_row row.now ∷ rs) }
 {
-    let i = t.next;
-    if !f.leads(i, row.tag) {
+    if !f.leads(t.next, row.tag) {
         return if row.must { None } else { Some(t) };
     }
-    if !asked(f, kind, row.bit, i, t.seen) {
+    if !asked(f, kind, row.bit, t) {
         return None;
     }
     Some(Taken {
-        next: i + 1,
+        next: t.next + 1,
         seen: t.seen || row.bit == bit::TEXT,
     })
 }

@@ -1,8 +1,7 @@
 // The tables of FIX messages in code, for the writer and the reader: the rows of each kind (`rows`), the
 // message types, how each bit is written, the words of our own (`spoken`) and the checksum (`sum`). Each
 // function is total and equals a definition of specs/Table or of fix_words, or says its number itself.
-// Tables are statics: a constant
-// would be built on the stack at each access. Rests on fix_words and format.
+// Tables are statics: a constant would be built on the stack at each access. Rests on fix_words and format.
 #![tactic(auto)]
 
 ghost use Rattle.std.specs.Prelude.{◌≡◌, map, nat_le};
@@ -63,8 +62,8 @@ pub fn rows(kind: u8) -> &'static [Row]
     }
 }
 
-// MsgType: below the first kind a report's, past the last 0, and no Option: its promise, and a message has one
-// byte there.
+// MsgType: below the first kind a report's, past the last 0. No Option: that is what it promises, and a message
+// has one byte there.
 #[tactic(auto, using(crate::specs::Laws::Rows::low, crate::specs::Laws::Rows::past), unfolding(fix_words::specs::Values::type_of, fix_words::specs::Values::types))]
 pub fn type_of(kind: u8) -> u8
     ensures { result ≡ type_of kind }

@@ -16,7 +16,7 @@ use Rattle.fix_words.specs.Record.{Session}
 
 -- ---- the bits of a kind, and their tags
 
--- the tag of each bit, 0 where it has none; of a reject's reason it is CxlRejReason
+-- the tag of each bit, 0 if it has none; of a reject's reason it is CxlRejReason
 abbrev tags : List ℕ
 tags =
     0 ∷ 0 ∷ 37 ∷ 11 ∷ 41 ∷ 11 ∷ 55 ∷ 54 ∷ 40 ∷ 38 ∷ 44 ∷ 59 ∷ 150 ∷ 39 ∷ 32 ∷ 0
@@ -82,7 +82,7 @@ pub record Holds (s : List ℕ) (b : ℕ) (v : List ℕ) : Type 0 where
   -- the words of a fixed text
   pub words : b ≡ 27 → v ≡ words_of (number (held s 27))
 
--- the fields fs are those of bit b: one where it is carried and stands, else none
+-- the fields fs are those of bit b: one if it is carried and stands, else none
 pub record Told (s : List ℕ) (b : ℕ) (fs : List Field) : Type 0 where
   pub there : is_told (kind_at s 0) b ≡ true → stands s b ≡ true → (v : List ℕ) × (fs ≡ field (tag_for (kind_at s 0) b) v ∷ []) × Holds s b v
   pub absent : stands s b ≡ false → (eqb (kind_at s 0) 17 && (eqb b 2 || eqb b 20)) ≡ false → fs ≡ []

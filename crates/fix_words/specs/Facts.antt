@@ -131,7 +131,7 @@ record Answers : Type 0 where
   reject : answer_to (reject_of (says 20 "t" ∷ [])) ≡ 0
   no_text_lem : answer_to (reject_of []) ≡ 3
   both_texts : answer_to (reject_of (says 20 "t" ∷ holds 27 (1 ∷ []) ∷ [])) ≡ 3
-  -- 4: a code that is none, a text or number out of range, a name that is none, a fixed text past the list
+  -- 4: a code that is not listed, a text or number out of range, a name that is malformed, a fixed text past the list
   side_nine : answer_to (least_of "X" "9") ≡ 4
   symbol_16 : answer_to (least_of "ABCDEFGHIJKLMNOP" "1") ≡ 0
   symbol_17 : answer_to (least_of "ABCDEFGHIJKLMNOPQ" "1") ≡ 4
@@ -319,8 +319,8 @@ rejects = record {
   cancel_with_type = refl;
 }
 
--- A report is too long to compute whole: what is read of a value, and the question that it fails. 37; 58 behind 31; both 58; 17, of which the number is
--- read, and written again behind the name has to be as it stood.
+-- A report is too long to compute whole: here are what is read of a value, and the question that it fails. 37; 58 behind 31; both 58; 17, whose number
+-- is read, and which, written again behind the name, has to be as it stood.
 abbrev read_as : ℕ → String → Option (List ℕ)
 read_as b v = held_in b (Some (ascii v))
 

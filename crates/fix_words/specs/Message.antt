@@ -108,7 +108,7 @@ texted w = is_text w.sender && (is_text w.target && (is_text w.time && all_below
 unfoldable pub typed : Writing → Bool
 typed w = ltb w.sequence (bound 8) && (every (λ x. ltb x 256) w.sender && (every (λ x. ltb x 256) w.target && every (λ x. ltb x 256) w.time))
 
--- it can be written, with room enough
+-- it can be written, if there is room enough
 unfoldable pub is_writing : Writing → Bool
 is_writing w = typed w && (shaped w.kind w.at && (ranged w.at && texted w))
 

@@ -39,7 +39,7 @@ write_refusal s n room =
 abbrev pub session_typed : Session → Bool
 session_typed n = typed (writing_of [] n)
 
--- what the call writes, where it writes
+-- what the call writes, if it writes
 abbrev pub write_of : List ℕ → Session → List ℕ
 write_of s n = bytes_for (writing_of s n)
 

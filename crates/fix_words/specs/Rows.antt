@@ -9,7 +9,7 @@ pub record Row : Type 0 where
   pub bit : ℕ
   pub must : Bool
 
--- the value of each bit, where it has one
+-- the value of each bit, if it has one
 abbrev pub Values : Type 0
 Values = ℕ → Option (List ℕ)
 

@@ -81,7 +81,7 @@ words_of n = get_or texts n []
 abbrev pub none_word : List ℕ
 none_word = 78 ∷ 79 ∷ 78 ∷ 69 ∷ []
 
--- the number of a fixed text, 0 where it is none
+-- the number of a fixed text, 0 if it is none
 unfoldable pub word_number : List ℕ → ℕ
 word_number v = maybe 0 (λ n. n) (first_below (λ n. same (words_of n) v) 19)
 
@@ -143,7 +143,7 @@ held_in b v =
     if eqb b 27 then over (λ x. word_number x ∷ []) v otherwise
     over (unspelled b) v
 
--- a bit that is not carried: where it must stand, some value in its range; the origin stands with its reason
+-- a bit that is not carried: if it must stand, some value in its range; the origin stands with its reason
 unfoldable pub unsaid : ℕ → Option (List ℕ) → ℕ → Option (List ℕ)
 unsaid k reason b =
     if eqb b 28 then over (λ v. 1 ∷ []) reason otherwise

@@ -6,7 +6,7 @@ use Rattle.prelude.specs.Number.{number, word32}
 use Rattle.bits.specs.Map.{bit}
 use Rattle.format.specs.Format.{size, range, is_text_bit, in_range, bits_right}
 
--- the bytes that field b takes where it starts at `at`; past the end a length byte counts as 0
+-- the bytes that field b takes if it starts at `at`; past the end a length byte counts as 0
 unfoldable pub extent : List ℕ → ℕ → ℕ → ℕ
 extent s b at = if is_text_bit b then 1 + get_or s at 0 otherwise size b
 
@@ -23,7 +23,7 @@ start s o m (suc b) = next s m b (start s o m b)
 unfoldable pub strip : ℕ → List ℕ → List ℕ
 strip b l = if is_text_bit b then drop 1 l otherwise l
 
--- the bytes of field b, none where its bit does not stand, and what it holds
+-- the bytes of field b, none if its bit does not stand, and what it holds
 unfoldable pub part : List ℕ → ℕ → ℕ → ℕ → List ℕ
 part s o m b = span s (start s o m b) (start s o m (suc b) - start s o m b)
 

@@ -9,7 +9,7 @@ use Rattle.format.specs.Format.{is_text_bit}
 unfoldable pub encode : ℕ → List ℕ → List ℕ
 encode b l = if is_text_bit b then length l ∷ l otherwise l
 
--- field b, or nothing where its bit does not stand
+-- field b, or nothing if its bit does not stand
 unfoldable pub field_bytes : ℕ → (ℕ → List ℕ) → ℕ → List ℕ
 field_bytes m held b = if bit m b then encode b (held b) otherwise []
 

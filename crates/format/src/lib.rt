@@ -12,8 +12,8 @@ use prelude::Text;
 pub mod bit;
 pub mod codes;
 
-// FIX's lists of codes, by their characters: most codes have no name in the code, which asks of them only
-// whether they are on the list.
+// FIX's lists of codes, by their characters, as its tables and the definitions have them. Those of which code asks
+// more than whether they are on the list have a name in `codes`.
 #[tactic(auto, unfolding(crate::specs::Codes::is_side, crate::specs::Codes::sides))]
 pub fn is_side(code: u8) -> bool
     ensures { result ≡ is_side code }
@@ -57,7 +57,7 @@ pub fn is_alnum(c: u8) -> bool
     c.is_ascii_alphanumeric()
 }
 
-// Whether all bytes are.
+// Whether all bytes are digits or letters.
 pub fn alnums(bytes: &[u8]) -> bool
     ensures { result ≡ list_all is_alnum bytes.now }
 {
@@ -103,8 +103,8 @@ macro_rules! maps {
     };
 }
 
-// Those of each kind, whose number is its place. A static: a constant would be built on the stack at each
-// access.
+// The maps of each kind, at the place of the kind's number. A static: a constant would be built on the stack at
+// each access.
 static MAPS: [Maps; 21] = [
     NO_KIND,
     maps!(975, 4047),
@@ -129,7 +129,7 @@ static MAPS: [Maps; 21] = [
     maps!(1073742818, 1074008034),
 ];
 
-// A kind's maps: none where there is no such kind.
+// A kind's maps: none if there is no such kind.
 fn maps_of(kind: u8) -> Maps
     ensures required { result.required ≡ required kind }
     ensures permitted { result.permitted ≡ required kind + allowed kind }

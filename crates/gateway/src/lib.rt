@@ -4,14 +4,14 @@
 // `net_position` writes the net position's lines, `set_mark` marks the book and `return_to_mark` makes it
 // what it was then, `needs` gives what an event will need, `chain` writes the chain of a ClOrdID. They
 // return the numbers and structures of the C functions, which gateway_c lends as they are. Each is total:
-// whatever the bytes, it returns, and a refused call has written nothing. Rests on step, outcomes, opens,
+// whatever the bytes, it returns, and a refused call has written nothing. Rests on step, index, rules, opens,
 // records, store, page, net, marks, needs and chain.
 #![tactic(auto)]
 
 ghost use Rattle.std.specs.Prelude.{◌≡◌};
 ghost use Rattle.step.specs.Entries.{start_of, start_refusal, check_of, outcome, event_of};
 ghost use Rattle.page.specs.Page.{paged, page_call};
-ghost use Rattle.opens.specs.Keeps.{open_call};
+ghost use Rattle.opens.specs.Opens.{open_call};
 ghost use Rattle.net.specs.Net.{IsNet};
 ghost use Rattle.marks.specs.Marks.{marked, set_mark_of, return_of};
 ghost use Rattle.needs.specs.Needs.{needs_call};
@@ -23,7 +23,6 @@ use orders::order;
 use prelude::Refusal;
 use store::layout;
 
-mod beside; // what goes beside the requests' fields, by value
 mod write; // a change written into the book
 
 // Makes an empty book: zeros but for the setting, the most ClOrdIDs that a client may use. Its one question is
@@ -46,16 +45,16 @@ pub fn start(book: &mut [u8], setting: u32) -> u32
 pub fn event(book: &mut [u8], record: &[u8], answer: &mut [u8]) -> u32
     ensures { outcome result book.new answer.new ≡ event_of book.old «record».now answer.old }
 {
-    let c = match step::call_of(book, record, answer.len()) {
-        Ok(c) => c,
+    let step = match step::call_of(book, record, answer.len()) {
+        Ok(step) => step,
         Err(refusal) => return refusal.number(),
     };
+    let c = step.change;
+    let client = c.order.client;
     let leaves = order::leaves_qty(c.order);
-    let opening = opens::opening(book, c.place, c.order.client, leaves);
-    let outcome = beside::outcome(record, c.requests);
-    let origin = beside::origin(book, c.order.client, c.requests);
+    let opening = index::opening(book, c.place, client, leaves);
     write::place_order(book, c.place, c.order);
-    write::place_requests(book, outcome, origin, c.requests);
+    write::place_requests(book, step.origin, c.requests);
     write::place_open(book, c.place, opening);
     let out = c.output;
     let _ = records::write_answer(
@@ -69,7 +68,7 @@ pub fn event(book: &mut [u8], record: &[u8], answer: &mut [u8]) -> u32
 pub fn check(book: &[u8]) -> u32
     ensures { result ≡ check_of book.now }
 {
-    if opens::keeps(book) {
+    if rules::keeps(book) {
         0
     } else {
         Refusal::BadBook.number()

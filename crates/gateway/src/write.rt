@@ -5,8 +5,8 @@ ghost use Rattle.prelude.specs.Cases.{if◌then◌otherwise◌};
 ghost use Rattle.store.specs.Book.{store_open};
 ghost use Rattle.step.specs.Entries.{place_order, mark_link, place_requests};
 
+use index::Word;
 use machine::Requests;
-use opens::Word;
 use store::Order;
 
 // The order goes to the place of its link: 0 is none, one past those in use is a new order.
@@ -35,13 +35,13 @@ fn mark_link(book: &mut [u8], link: u16, outcome: u8)
     store::mark_answered(book, usize::from(link - 1), outcome);
 }
 
-// The requests settled have the outcome, and the one added has the origin beside it.
+// The requests settled have the change's outcome, and the one added has the origin beside it.
 #[tactic(auto, unfolding(step::specs::Entries::place_requests), using(orders::specs::Laws::Choices::choices))]
-pub(crate) fn place_requests(book: &mut [u8], outcome: u8, origin: u16, r: Requests)
-    ensures { book.new ≡ place_requests book.old outcome origin r }
+pub(crate) fn place_requests(book: &mut [u8], origin: u16, r: Requests)
+    ensures { book.new ≡ place_requests book.old origin r }
 {
-    mark_link(book, r.answered, outcome);
-    mark_link(book, r.superseded, outcome);
+    mark_link(book, r.answered, r.outcome);
+    mark_link(book, r.superseded, r.outcome);
     if r.added == 0 {
         return;
     }

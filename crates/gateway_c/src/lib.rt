@@ -5,7 +5,7 @@
 ghost use Rattle.std.specs.Prelude.{◌≡◌};
 ghost use Rattle.step.specs.Entries.{start_of, start_refusal, check_of, outcome, event_of};
 ghost use Rattle.page.specs.Page.{paged, page_call};
-ghost use Rattle.opens.specs.Keeps.{open_call};
+ghost use Rattle.opens.specs.Opens.{open_call};
 ghost use Rattle.net.specs.Net.{IsNet};
 ghost use Rattle.marks.specs.Marks.{marked, set_mark_of, return_of};
 ghost use Rattle.needs.specs.Needs.{needs_call};

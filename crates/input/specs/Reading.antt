@@ -1,4 +1,4 @@
--- What the calls that read take from the input, by the bytes that it has left before and after, where those are known. Rests on nothing.
+-- What the calls that read take from the input, by the bytes that it has left before and after, if those are known. Rests on nothing.
 use Rattle.std.specs.Prelude.{ℕ, ◌≡◌, ◌+◌, ◌-◌, ◌*◌, ◌≤◌, ◌<◌, List, ◌∷◌, length, take, drop, replicate, Option}
 use Rattle.std.specs.Io.KnownBytes.{Consumes, IsAtEnd}
 use Rattle.input.specs.declared.Next.{Next}
@@ -7,7 +7,7 @@ use Rattle.input.specs.declared.Next.{Next}
 abbrev pub Short : ℕ → Option (List ℕ) → Option (List ℕ) → Type 0
 Short n old new = (bytes : List ℕ) × (length bytes < n) × Consumes old new bytes × IsAtEnd new
 
--- the bytes begin with those that were left, and with all of them where these are fewer; zeros follow
+-- the bytes begin with those that were left, and with all of them if these are fewer; zeros follow
 abbrev pub Padded : Option (List ℕ) → Option (List ℕ) → List ℕ → Type 0
 Padded old new bytes =
     (n : ℕ) × (n ≤ length bytes) × Consumes old new (take n bytes) × (n < length bytes → IsAtEnd new) × (drop n bytes ≡ replicate (length bytes - n) 0)

@@ -29,7 +29,7 @@ pub fn read_full<R: Read>(input: &mut R, space: &mut [u8]) -> io::Result<usize>
     Ok(done)
 }
 
-// The next N bytes; None where the input ends before them.
+// The next N bytes; None if the input ends before them.
 pub fn read_array<R: Read, const N: usize>(input: &mut R) -> io::Result<Option<[u8; N]>>
     ensures { IfOk result (λ found. MatchOption found (Short N (R.remaining input.old) (R.remaining input.new)) (λ bytes. Consumes (R.remaining input.old) (R.remaining input.new) bytes)) }
 {

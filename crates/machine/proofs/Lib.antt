@@ -1,6 +1,7 @@
 pub mod Numbered
 pub mod Made
 pub mod Stepped
+pub mod Outcomes
 pub mod Kept
 pub mod Claim
 pub mod Said

@@ -2,20 +2,22 @@
 -- A handler is followed twice, with findings that differ in the count of the requests alone; where the count does not matter, both are the same.
 use Rattle.std.proofs.Common.{ℕ, ◌-◌, ◌≤◌, ◌<◌, max, arith, ◌≡◌, refl, sym, ap, subst, ◌∙◌, ◌⊎◌, inl, inr, Bool, true, false, not, ◌&&◌, ◌||◌, eqb, ltb, eqb-true, ltb-false, leb-false}
 use Rattle.std.proofs.lemmas.Bool.{not-false, not-true, and_parts, or_parts, and_left, and_right}
-use Rattle.prelude.specs.Cases.{if◌then◌otherwise◌, split_if, clash, if_false}
+use Rattle.prelude.specs.Cases.{if◌then◌otherwise◌, split_if, clash, if_true, if_false}
 use Rattle.store.specs.declared.Order.{Order}
 use Rattle.store.specs.declared.Request.{Request}
 use Rattle.store.specs.Requests.{no_request}
 use Rattle.text.specs.Words.{no_text}
-use Rattle.format.specs.Codes.{pending_new, rejected, exec_rejected, exec_status}
+use Rattle.format.specs.Codes.{pending_new, pending_replace, canceled, rejected, exec_rejected, exec_status}
+use Rattle.machine.specs.Constants as came
 use Rattle.machine.specs.Constants.{cancel_kind, replace_kind, most_tries, most_alarm, stuck_cancel, other, ours, text_not_sent}
 use Rattle.machine.specs.Orders.{has_gateway, is_done, short_alarm, set_status, record_venue_order_id, pending_terms, next_exec, with_gateway}
 use Rattle.machine.specs.Messages.{no_message, no_price, no_note, no_long_text, report, cancel_reject, new_order, cancel_request, replace_request}
 use Rattle.machine.specs.Changes.{Event, Message, unchanged, refusing, adding, answering, superseding, telling, alarming, is_first, is_replace, is_gateway, is_cancel, is_answered}
 use Rattle.machine.specs.GatewayCancel.{outstanding_cancel, gateway_cancel_in_flight, begun, try_sent, given_up, send_gateway_cancel, cancel_order, gateway_cancel_waiting, resume_gateway_cancel, stuck, retry_gateway_cancel, gateway_cancel_refused}
 use Rattle.machine.specs.Amend.{amend_refusal, refuse, redelivered_report, already_taken, cancel_refusal, cancel_goes, cancel, or_own, replace_refusal, priced_right, replace_goes, replace, refused_order, refused_alarm, refused_note, refuse_request, venue_note, venue_cancel_reject, send_refused, first_failed, send_failed, resendable, unsent}
-use Rattle.machine.specs.Report.{unknown_at_venue, stale, dropped_stale, dropped_repeat, status_taken, accepts, answers_request, ordered_qty, reported_order, fill_price_of, client_report, settles, apply_report, venue_report}
+use Rattle.machine.specs.Report.{unknown_at_venue, is_rejection, pending_here, stale, dropped_stale, dropped_repeat, status_taken, accepts, answers_request, ordered_qty, reported_order, fill_price_of, client_report, settles, apply_report, venue_report}
 use Rattle.machine.specs.Machine.{text_note, on_report}
+use Rattle.machine.specs.Outcomes.{outcome_by}
 use Rattle.machine.proofs.Kept.Laws.{and_else}
 use Rattle.machine.specs.declared.Findings.{Findings}
 use Rattle.machine.specs.declared.Note.{Note}
@@ -38,9 +40,9 @@ says m a = record { count = 1; first = m; second = no_message; alarm = a; alarm2
 abbrev pub stuck_behind : (alarm : ℕ) → Output
 stuck_behind a = record { count = 0; first = no_message; second = no_message; alarm = if eqb a 0 then stuck_cancel otherwise a; alarm2 = if eqb a 0 then 0 otherwise stuck_cancel }
 
--- the order that is left, the links of the requests answered and superseded, and what is put out. No request is added.
-abbrev pub left : (place : ℕ) → Order → (answered superseded : ℕ) → Output → Change
-left p x j s out = record { refusal = 0; place = p; order = x; requests = record { answered = j; superseded = s; added = 0; request = no_request }; output = out }
+-- the order that is left, the links of the requests answered and superseded, what they come to, and what is put out. No request is added.
+abbrev pub left : (place : ℕ) → Order → (answered superseded outcome : ℕ) → Output → Change
+left p x j s v out = record { refusal = 0; place = p; order = x; requests = record { answered = j; superseded = s; outcome = v; added = 0; request = no_request }; output = out }
 
 abbrev pub findings : (place : ℕ) (cancel : Request) (requests : ℕ) → Findings
 findings p x n = record { place = p; requests = n; cancel = x }
@@ -48,16 +50,17 @@ findings p x n = record { place = p; requests = n; cancel = x }
 -- ---- events 4 to 8: k is the link of the request that the event names, q that request, and o its order
 
 module _ (k : ℕ) (q : Request) (o : Order) (e : Event) where
-  -- the note of a send that failed
-  pub data Failure : Note → Type 0 where
-    told_us : Failure (text_note e)
-    not_sent : Failure (record { text = no_long_text; fixedtext = text_not_sent; reason = 0; origin = 0 })
+  -- the note of a send that failed, and what its request comes to
+  pub data Failure : Note → ℕ → Type 0 where
+    told_us : outcome_by e ≡ came.failed_to_send → Failure (text_note e) came.failed_to_send
+    not_sent : outcome_by e ≡ came.refused → Failure (record { text = no_long_text; fixedtext = text_not_sent; reason = 0; origin = 0 }) came.refused
 
   -- what refuses the request
   pub data From : Refused → Type 0 where
-    by_report : From (record { status = if eqb e.exec.status rejected then 0 otherwise e.exec.status; venueorderid = e.ids.venueorderid; note = text_note e })
-    by_reject : From (record { status = e.exec.status; venueorderid = e.ids.venueorderid; note = venue_note e })
-    by_failure : {n : Note} → Failure n → From (record { status = o.state.status; venueorderid = no_text; note = n })
+    by_report : outcome_by e ≡ came.refused
+        → From (record { status = if eqb e.exec.status rejected then 0 otherwise e.exec.status; venueorderid = e.ids.venueorderid; note = text_note e; outcome = came.refused })
+    by_reject : outcome_by e ≡ came.refused → From (record { status = e.exec.status; venueorderid = e.ids.venueorderid; note = venue_note e; outcome = came.refused })
+    by_failure : {n : Note} {v : ℕ} → Failure n v → From (record { status = o.state.status; venueorderid = no_text; note = n; outcome = v })
 
   -- the request may be refused
   pub record Open : Type 0 where
@@ -66,39 +69,41 @@ module _ (k : ℕ) (q : Request) (o : Order) (e : Event) where
     pub unanswered : is_answered q ≡ false
 
   -- a request refused: nothing changes; the gateway's is answered, and given up or not; the client's is answered and the client told
-  pub data Refuses : Order → ℕ → ℕ → Output → Type 0 where
-    still : Refuses o 0 0 (calm 0)
-    gone : {r : Refused} → From r → Open → is_gateway q ≡ true → Refuses (refused_order k r o) k 0 (calm (refused_alarm r o))
+  pub data Refuses : Order → ℕ → ℕ → ℕ → Output → Type 0 where
+    still : Refuses o 0 0 0 (calm 0)
+    gone : {r : Refused} → From r → Open → is_gateway q ≡ true → Refuses (refused_order k r o) k 0 r.outcome (calm (refused_alarm r o))
     given_up_lem : {r : Refused} → From r → Open → is_gateway q ≡ true → has_gateway (refused_order k r o) ≡ true
-        → Refuses (with_gateway (given_up (refused_order k r o)) (refused_order k r o)) k 0 (stuck_behind (refused_alarm r o))
+        → Refuses (with_gateway (given_up (refused_order k r o)) (refused_order k r o)) k 0 r.outcome (stuck_behind (refused_alarm r o))
     told : {r : Refused} → From r → Open → is_gateway q ≡ false
-        → Refuses (refused_order k r o) k 0
+        → Refuses (refused_order k r o) k 0 r.outcome
         (says (cancel_reject o.client o.names.name (refused_order k r o).state.status q.clordid q.origclordid q.kind (refused_note r.note)) (refused_alarm r o))
 
   -- a send that failed
-  pub data Fails : Order → ℕ → ℕ → Output → Type 0 where
-    unfailed : Fails o 0 0 (calm 0)
-    refused : {x : Order} {j s : ℕ} {out : Output} → Refuses x j s out → is_gateway q ≡ false → Fails x j s out
-    freed : is_gateway q ≡ true → has_gateway o ≡ false → Fails o k 0 (calm 0)
-    fell : eqb o.venue e.venue ≡ true → is_gateway q ≡ true → is_answered q ≡ false → has_gateway o ≡ true → Fails (with_gateway (send_refused o.gateway) o) k 0 (calm 0)
-    ended : {n : Note} → Failure n → is_first q ≡ true → is_gateway q ≡ false → eqb o.state.status pending_new ≡ true
-        → Fails (next_exec (set_status rejected o)) k 0
+  pub data Fails : Order → ℕ → ℕ → ℕ → Output → Type 0 where
+    unfailed : Fails o 0 0 0 (calm 0)
+    refused : {x : Order} {j s v : ℕ} {out : Output} → Refuses x j s v out → is_gateway q ≡ false → Fails x j s v out
+    freed : {n : Note} {v : ℕ} → Failure n v → is_gateway q ≡ true → has_gateway o ≡ false → Fails o k 0 v (calm 0)
+    fell : {n : Note} {v : ℕ} → Failure n v → eqb o.venue e.venue ≡ true → is_gateway q ≡ true → is_answered q ≡ false → has_gateway o ≡ true
+        → Fails (with_gateway (send_refused o.gateway) o) k 0 v (calm 0)
+    ended : {n : Note} {v : ℕ} → Failure n v → is_first q ≡ true → is_gateway q ≡ false → eqb o.state.status pending_new ≡ true
+        → Fails (next_exec (set_status rejected o)) k 0 v
         (says (report (next_exec (set_status rejected o)) (next_exec (set_status rejected o)).names.clordid no_text exec_rejected 0 no_price
         (record { text = n.text; fixedtext = n.fixedtext; reason = other; origin = ours })) 0)
 
   -- a request sent again, or a send that failed
-  pub data Resends : Order → ℕ → ℕ → Output → Type 0 where
-    new_again : Resends o 0 0 (says (new_order o q.downstream) 0)
-    cancel_again : is_cancel q ≡ true → Resends o 0 0 (says (cancel_request o q.downstream) 0)
-    replace_again : eqb o.pending.request k ≡ true → Resends o 0 0 (says (replace_request o q.downstream (pending_terms o)) 0)
-    failing : {x : Order} {j s : ℕ} {out : Output} → resendable q e.venue o && is_cancel q ≡ false → Fails x j s out → Resends x j s out
+  pub data Resends : Order → ℕ → ℕ → ℕ → Output → Type 0 where
+    new_again : Resends o 0 0 0 (says (new_order o q.downstream) 0)
+    cancel_again : is_cancel q ≡ true → Resends o 0 0 0 (says (cancel_request o q.downstream) 0)
+    replace_again : eqb o.pending.request k ≡ true → Resends o 0 0 0 (says (replace_request o q.downstream (pending_terms o)) 0)
+    failing : {x : Order} {j s v : ℕ} {out : Output} → resendable q e.venue o && is_cancel q ≡ false → Fails x j s v out → Resends x j s v out
 
-  -- a report that is applied: of a live order, and neither less than was filled nor more than was ordered
+  -- a report that is applied: of a live order, neither less than was filled nor more than was ordered, and a rejection at most of the first request
   pub record Applied : Type 0 where
     pub kind : eqb e.kind 4 ≡ true
     pub live : is_done o.state.status ≡ false
     pub up : o.state.cumqty ≤ e.exec.cumqty
     pub fits : e.exec.cumqty ≤ ordered_qty (accepts k q o e) o
+    pub first : is_rejection e && not (is_first q) ≡ false
 
   abbrev pub reported : Order
   reported = reported_order (accepts k q o e) (status_taken k q o e) q o e
@@ -106,51 +111,51 @@ module _ (k : ℕ) (q : Request) (o : Order) (e : Event) where
   abbrev pub reported_alarm : ℕ
   reported_alarm = short_alarm (ordered_qty (accepts k q o e) o) e.exec.cumqty (status_taken k q o e)
 
-  -- the links of the requests that it answers
-  pub data Settles : ℕ → ℕ → Type 0 where
-    replaced : accepts k q o e ≡ true → Settles k o.links.current
-    cancelled : accepts k q o e ≡ false → is_cancel q ≡ true → Settles k 0
-    neither : accepts k q o e ≡ false → Settles 0 0
+  -- the links of the requests that it answers, and what they come to
+  pub data Settles : ℕ → ℕ → ℕ → Type 0 where
+    replaced : accepts k q o e ≡ true → outcome_by e ≡ came.accepted → Settles k o.links.current came.accepted
+    cancelled : accepts k q o e ≡ false → is_cancel q ≡ true → outcome_by e ≡ came.accepted → Settles k 0 came.accepted
+    neither : accepts k q o e ≡ false → Settles 0 0 0
 
-  pub data Left : Order → ℕ → ℕ → Output → Type 0 where
-    fails : {x : Order} {j s : ℕ} {out : Output} → eqb e.kind 7 ≡ true → Fails x j s out → Left x j s out
-    resends : {x : Order} {j s : ℕ} {out : Output} → eqb e.kind 7 ≡ false → Resends x j s out → Left x j s out
-    alarms : (a : ℕ) → a ≤ most_alarm → Left o 0 0 (calm a)
-    names : Left (record_venue_order_id e.ids.venueorderid false o) 0 0 (calm 0)
-    applies : {j s : ℕ} → Applied → e.exec.cumqty ≡ o.state.cumqty → Settles j s → Left reported j s (calm reported_alarm)
-    informs : {j s : ℕ} → Applied → Settles j s
-        → Left (next_exec reported) j s
+  pub data Left : Order → ℕ → ℕ → ℕ → Output → Type 0 where
+    fails : {x : Order} {j s v : ℕ} {out : Output} → eqb e.kind 7 ≡ true → Fails x j s v out → Left x j s v out
+    resends : {x : Order} {j s v : ℕ} {out : Output} → eqb e.kind 7 ≡ false → Resends x j s v out → Left x j s v out
+    alarms : (a : ℕ) → a ≤ most_alarm → Left o 0 0 0 (calm a)
+    names : Left (record_venue_order_id e.ids.venueorderid false o) 0 0 0 (calm 0)
+    applies : {j s v : ℕ} → Applied → e.exec.cumqty ≡ o.state.cumqty → Settles j s v → Left reported j s v (calm reported_alarm)
+    informs : {j s v : ℕ} → Applied → Settles j s v
+        → Left (next_exec reported) j s v
         (says (client_report (answers_request k q o) (e.exec.cumqty - o.state.cumqty) q (fill_price_of o e) (next_exec reported) e) reported_alarm)
 
   -- the order's link is p, its latest cancel x, and m and n are the counts
   module _ (p : ℕ) (x : Request) (m n : ℕ) where
     -- nothing is added, and both changes are one
-    pub data Rests (L : Order → ℕ → ℕ → Output → Type 0) : Change → Change → Type 0 where
-      rests : {y : Order} {j s : ℕ} {out : Output} → L y j s out → Rests L (left p y j s out) (left p y j s out)
+    pub data Rests (L : Order → ℕ → ℕ → ℕ → Output → Type 0) : Change → Change → Type 0 where
+      rests : {y : Order} {j s v : ℕ} {out : Output} → L y j s v out → Rests L (left p y j s v out) (left p y j s v out)
 
     -- a request refused, and the gateway's tried again
     pub data Refusing : Change → Change → Type 0 where
-      quietly : {y : Order} {j s : ℕ} {out : Output} → Refuses y j s out → Refusing (left p y j s out) (left p y j s out)
+      quietly : {y : Order} {j s v : ℕ} {out : Output} → Refuses y j s v out → Refusing (left p y j s v out) (left p y j s v out)
       retries : {r : Refused} → From r → Open → is_gateway q ≡ true → has_gateway (refused_order k r o) ≡ true → (refused_order k r o).gateway.tries < 3
-          → Refusing (send_gateway_cancel (findings p x m) (left p (refused_order k r o) k 0 (calm (refused_alarm r o))))
-          (send_gateway_cancel (findings p x n) (left p (refused_order k r o) k 0 (calm (refused_alarm r o))))
+          → Refusing (send_gateway_cancel (findings p x m) (left p (refused_order k r o) k 0 r.outcome (calm (refused_alarm r o))))
+          (send_gateway_cancel (findings p x n) (left p (refused_order k r o) k 0 r.outcome (calm (refused_alarm r o))))
 
     -- and a gateway's cancel that waited goes out
     pub data Made : Change → Change → Type 0 where
-      stays : {y : Order} {j s : ℕ} {out : Output} → Left y j s out → Made (left p y j s out) (left p y j s out)
+      stays : {y : Order} {j s v : ℕ} {out : Output} → Left y j s v out → Made (left p y j s v out) (left p y j s v out)
       refusing! : {c c' : Change} → eqb e.kind 7 ≡ false → Refusing c c' → Made c c'
-      resumes : {y : Order} {j s : ℕ} {out : Output} → eqb e.kind 7 ≡ false → Refuses y j s out → has_gateway y ≡ true → y.gateway.unsent ≡ true
-          → Made (send_gateway_cancel (findings p x m) (left p y j s out)) (send_gateway_cancel (findings p x n) (left p y j s out))
+      resumes : {y : Order} {j s v : ℕ} {out : Output} → eqb e.kind 7 ≡ false → Refuses y j s v out → has_gateway y ≡ true → y.gateway.unsent ≡ true
+          → Made (send_gateway_cancel (findings p x m) (left p y j s v out)) (send_gateway_cancel (findings p x n) (left p y j s v out))
 
 -- ---- event 9
 
 module _ (o : Order) (p : ℕ) (x : Request) (m n : ℕ) where
   pub data Asked : Change → Change → Type 0 where
-    declined : (is_done o.state.status ≡ true) ⊎ (gateway_cancel_in_flight (findings p x m) o ≡ true) → Asked (left p o 0 0 (calm 0)) (left p o 0 0 (calm 0))
+    declined : (is_done o.state.status ≡ true) ⊎ (gateway_cancel_in_flight (findings p x m) o ≡ true) → Asked (left p o 0 0 0 (calm 0)) (left p o 0 0 0 (calm 0))
     waits : is_done o.state.status ≡ false → gateway_cancel_in_flight (findings p x m) o ≡ false
-        → Asked (left p (with_gateway (begun o) o) 0 0 (calm 0)) (left p (with_gateway (begun o) o) 0 0 (calm 0))
+        → Asked (left p (with_gateway (begun o) o) 0 0 0 (calm 0)) (left p (with_gateway (begun o) o) 0 0 0 (calm 0))
     goes : is_done o.state.status ≡ false → gateway_cancel_in_flight (findings p x m) o ≡ false
-        → Asked (send_gateway_cancel (findings p x m) (left p (with_gateway (begun o) o) 0 0 (calm 0))) (send_gateway_cancel (findings p x n) (left p (with_gateway (begun o) o) 0 0 (calm 0)))
+        → Asked (send_gateway_cancel (findings p x m) (left p (with_gateway (begun o) o) 0 0 0 (calm 0))) (send_gateway_cancel (findings p x n) (left p (with_gateway (begun o) o) 0 0 0 (calm 0)))
 
 -- ---- events 2 and 3: `order` is the link of the order that the ClOrdID was used for, and `full` says that the client may use no more
 
@@ -172,10 +177,10 @@ module _ (order : ℕ) (full : Bool) (o : Order) (e : Event) (p : ℕ) (x : Requ
 
   pub data Amended : Change → Change → Type 0 where
     repeated : already_taken (findings p x m) order e ≡ true
-        → Amended (left p (next_exec o) 0 0 (says (status_told o e) 0)) (left p (next_exec o) 0 0 (says (status_told o e) 0))
+        → Amended (left p (next_exec o) 0 0 0 (says (status_told o e) 0)) (left p (next_exec o) 0 0 0 (says (status_told o e) 0))
     turned : {kind : ℕ} {own : Reject} → Own kind own → not (eqb (amend_refusal (findings p x m) order full o e own).fixedtext 0) ≡ true
-        → Amended (left p o 0 0 (says (refusal_told p kind o e (amend_refusal (findings p x m) order full o e own)) 0))
-        (left p o 0 0 (says (refusal_told p kind o e (amend_refusal (findings p x m) order full o e own)) 0))
+        → Amended (left p o 0 0 0 (says (refusal_told p kind o e (amend_refusal (findings p x m) order full o e own)) 0))
+        (left p o 0 0 0 (says (refusal_told p kind o e (amend_refusal (findings p x m) order full o e own)) 0))
     unpriced : not (eqb (amend_refusal (findings p x m) order full o e (replace_refusal (findings p x m) o e)).fixedtext 0) ≡ false → Amended (refusing 6) (refusing 6)
     cancel_sent : eqb e.kind 2 ≡ true → not (eqb (amend_refusal (findings p x m) order full o e (cancel_refusal (findings p x m) o)).fixedtext 0) ≡ false
         → Amended (cancel_goes (findings p x m) o e) (cancel_goes (findings p x n) o e)
@@ -211,6 +216,34 @@ not_stale k q o e h =
     (or_parts (is_done o.state.status || ltb e.exec.cumqty o.state.cumqty) _ h).0 in
     (d, ltb-false _ _ l)
 
+-- what the event's kind and status say of the outcome
+module _ (e : Event) where
+  pub outcome_failed : eqb e.kind 7 ≡ true → outcome_by e ≡ came.failed_to_send
+  unfolding outcome_by
+  outcome_failed z = if_true _ _ _ z
+
+  pub outcome_else : eqb e.kind 7 ≡ false → eqb e.kind 4 ≡ false → outcome_by e ≡ came.refused
+  unfolding outcome_by if◌then◌otherwise◌
+  outcome_else z y = rw (z, y) refl
+
+  outcome_rejected : eqb e.kind 4 ≡ true → is_rejection e ≡ true → outcome_by e ≡ came.refused
+  unfolding outcome_by is_rejection
+  outcome_rejected z h =
+      if_false _ _ _ (not_kind e 4 7 z refl)
+      ∙ if_false _ _ _ (none (eqb e.kind 4) (eqb e.exec.status rejected) (eqb e.exec.exectype exec_rejected) (not (eqb e.exec.status 0)) h)
+    where
+      none : (k a b c : Bool) → a || (b && c) ≡ true → k && not a && not b ≡ false
+      none k a b c h = grind arith
+
+  outcome_taken : eqb e.kind 4 ≡ true → is_rejection e ≡ false → eqb e.exec.status 0 ≡ false → outcome_by e ≡ came.accepted
+  unfolding outcome_by is_rejection
+  outcome_taken z h n =
+      if_false _ _ _ (not_kind e 4 7 z refl)
+      ∙ if_true _ _ _ (all (eqb e.kind 4) (eqb e.exec.status rejected) (eqb e.exec.exectype exec_rejected) (eqb e.exec.status 0) z h n)
+    where
+      all : (k a b c : Bool) → k ≡ true → a || (b && not c) ≡ false → c ≡ false → k && not a && not b ≡ true
+      all k a b c z h n = grind arith
+
 level : (a b c d : Bool) → a && b && c && d ≡ true → b ≡ true
 level a b c d h = grind arith
 
@@ -230,13 +263,13 @@ module _ (k : ℕ) (q : Request) (o : Order) (e : Event) (p : ℕ) (x : Request)
   -- ---- a request refused
 
   gateway_made : (note : Note) {r : Refused} → From k q o e r → Open k q o e → is_gateway q ≡ true
-      → let c = left p (refused_order k r o) k 0 (calm (refused_alarm r o)) in N (gateway_cancel_refused f note c) (gateway_cancel_refused f' note c)
+      → let c = left p (refused_order k r o) k 0 r.outcome (calm (refused_alarm r o)) in N (gateway_cancel_refused f note c) (gateway_cancel_refused f' note c)
   unfolding gateway_cancel_refused retry_gateway_cancel
   gateway_made note {r} w u g =
       split_two N _ (λ h. quietly (gone w u g))
       (λ h. split_two N _ (λ t. up (not-false _ h)) (λ t. split_two N _ (λ t. up (not-false _ h)) (λ t. retries w u g (not-false _ h) (leb-false most_tries _ t))))
     where
-      up : has_gateway (refused_order k r o) ≡ true → let c = left p (refused_order k r o) k 0 (calm (refused_alarm r o)) in N (stuck c) (stuck c)
+      up : has_gateway (refused_order k r o) ≡ true → let c = left p (refused_order k r o) k 0 r.outcome (calm (refused_alarm r o)) in N (stuck c) (stuck c)
       up h = unfold stuck alarming in quietly (given_up_lem w u g h)
 
   refuse_made : {r : Refused} → From k q o e r → N (refuse_request f k q e.venue r o) (refuse_request f' k q e.venue r o)
@@ -260,11 +293,13 @@ module _ (k : ℕ) (q : Request) (o : Order) (e : Event) (p : ℕ) (x : Request)
   unfolding resume_gateway_cancel gateway_cancel_waiting outstanding_cancel
   resume_made z (quietly {y} {j} {s} {out} r) =
       split_two M _ (λ w. let (h, t) = and_parts (has_gateway y) y.gateway.unsent (and_parts (has_gateway y && y.gateway.unsent) _ w).0 in resumes z r h t) (λ w. refusing! z (quietly r))
-  resume_made z (retries {r} w u g h t) = once z (left p (refused_order k r o) k 0 (calm (refused_alarm r o))) (retries w u g h t)
+  resume_made z (retries {r} w u g h t) = once z (left p (refused_order k r o) k 0 r.outcome (calm (refused_alarm r o))) (retries w u g h t)
 
-  pub reject_made : eqb e.kind 7 ≡ false → M (venue_cancel_reject f k q o e) (venue_cancel_reject f' k q o e)
+  pub reject_made : eqb e.kind 6 ≡ true → M (venue_cancel_reject f k q o e) (venue_cancel_reject f' k q o e)
   unfolding venue_cancel_reject
-  reject_made z = resume_made z (refuse_made by_reject)
+  reject_made z =
+      let z₇ : eqb e.kind 7 ≡ false = not_kind e 6 7 z refl in
+      resume_made z₇ (refuse_made (by_reject (outcome_else e z₇ (not_kind e 6 4 z refl))))
 
   -- ---- reports
 
@@ -280,9 +315,35 @@ module _ (k : ℕ) (q : Request) (o : Order) (e : Event) (p : ℕ) (x : Request)
   unfolding unknown_at_venue
   unknown_made = split_two M _ (λ h. none) (λ h. split_two M _ (λ h. none) (λ h. split_two M _ (λ h. none) (λ h. here _ (omega arith))))
 
-  settles_made : (P : Change → Type 0) (y : Order) → ((j s : ℕ) → Settles k q o e j s → P (left p y j s (calm 0))) → P (settles (accepts k q o e) (status_taken k q o e) k q o (unchanged p y))
+  -- a status that is taken is the event's
+  taken_status : eqb (status_taken k q o e) 0 ≡ false → eqb e.exec.status 0 ≡ false
+  unfolding status_taken
+  taken_status = split_if (λ (n : ℕ). eqb n 0 ≡ false → eqb e.exec.status 0 ≡ false) _ (λ t h. clash true refl h) (λ t h. h)
+
+  accepts_taken : Applied k q o e → accepts k q o e ≡ true → outcome_by e ≡ came.accepted
+  unfolding accepts
+  accepts_taken a h =
+      let (r, s) = accepted (pending_here k o) (is_rejection e) (eqb (status_taken k q o e) 0) (eqb (status_taken k q o e) pending_replace) h in
+      outcome_taken e a.kind r (taken_status s)
+    where
+      accepted : (a b c d : Bool) → a && not b && (not c && not d) ≡ true → (b ≡ false) × (c ≡ false)
+      accepted a b c d h = (grind arith, grind arith)
+
+  cancel_taken : Applied k q o e → is_cancel q && eqb (status_taken k q o e) canceled ≡ true → outcome_by e ≡ came.accepted
+  unfolding is_cancel
+  cancel_taken a h =
+      let (c, s) = and_parts _ (eqb (status_taken k q o e) canceled) h in
+      outcome_taken e a.kind (later (is_rejection e) (is_first q) (is_replace q) a.first c)
+      (taken_status (ap (λ (n : ℕ). eqb n 0) (eqb-true (status_taken k q o e) canceled s)))
+    where
+      later : (a b c : Bool) → a && not b ≡ false → not b && not c ≡ true → a ≡ false
+      later a b c h n = grind arith
+
+  settles_made : Applied k q o e → (P : Change → Type 0) (y : Order) → ((j s v : ℕ) → Settles k q o e j s v → P (left p y j s v (calm 0))) → P (settles (accepts k q o e) (status_taken k q o e) k q o (unchanged p y))
   unfolding settles superseding answering unchanged
-  settles_made P y h = split_if P _ (λ t. h _ _ (replaced t)) (λ t. split_if P _ (λ u. h _ _ (cancelled t (and_parts (is_cancel q) _ u).0)) (λ u. h _ _ (neither t)))
+  settles_made a P y h =
+      split_if P _ (λ t. h _ _ _ (replaced t (accepts_taken a t)))
+      (λ t. split_if P _ (λ u. h _ _ _ (cancelled t (and_parts (is_cancel q) _ u).0 (cancel_taken a u))) (λ u. h _ _ _ (neither t)))
 
   abbrev Quiet : Change → Type 0
   Quiet c = M (alarming (reported_alarm k q o e) c) (alarming (reported_alarm k q o e) c)
@@ -290,20 +351,20 @@ module _ (k : ℕ) (q : Request) (o : Order) (e : Event) (p : ℕ) (x : Request)
   abbrev Aloud : Change → Type 0
   Aloud c = Quiet (telling (client_report (answers_request k q o) (e.exec.cumqty - o.state.cumqty) q (fill_price_of o e) (next_exec (reported k q o e)) e) c)
 
-  quiet : Applied k q o e → e.exec.cumqty ≡ o.state.cumqty → (j s : ℕ) → Settles k q o e j s → Quiet (left p (reported k q o e) j s (calm 0))
+  quiet : Applied k q o e → e.exec.cumqty ≡ o.state.cumqty → (j s v : ℕ) → Settles k q o e j s v → Quiet (left p (reported k q o e) j s v (calm 0))
   unfolding alarming if◌then◌otherwise◌
-  quiet a z j s t = stays (applies a z t)
+  quiet a z j s v t = stays (applies a z t)
 
-  aloud : Applied k q o e → (j s : ℕ) → Settles k q o e j s → Aloud (left p (next_exec (reported k q o e)) j s (calm 0))
+  aloud : Applied k q o e → (j s v : ℕ) → Settles k q o e j s v → Aloud (left p (next_exec (reported k q o e)) j s v (calm 0))
   unfolding alarming telling if◌then◌otherwise◌
-  aloud a j s t = stays (informs a t)
+  aloud a j s v t = stays (informs a t)
 
   apply_made : Applied k q o e → M (alarming (reported_alarm k q o e) (apply_report f k q o e)) (alarming (reported_alarm k q o e) (apply_report f' k q o e))
   unfolding apply_report
   apply_made a =
       split_if Quiet _
-      (λ h. settles_made Quiet _ (quiet a (even (level (is_gateway q) (eqb (e.exec.cumqty - o.state.cumqty) 0) (not (is_done (reported k q o e).state.status)) (not (accepts k q o e)) h) a.up)))
-      (λ h. settles_made Aloud _ (aloud a))
+      (λ h. settles_made a Quiet _ (quiet a (even (level (is_gateway q) (eqb (e.exec.cumqty - o.state.cumqty) 0) (not (is_done (reported k q o e).state.status)) (not (accepts k q o e)) h) a.up)))
+      (λ h. settles_made a Aloud _ (aloud a))
     where
       even : eqb (e.exec.cumqty - o.state.cumqty) 0 ≡ true → o.state.cumqty ≤ e.exec.cumqty → e.exec.cumqty ≡ o.state.cumqty
       even h l = let z : e.exec.cumqty - o.state.cumqty ≡ 0 = eqb-true _ 0 h in omega arith
@@ -311,13 +372,13 @@ module _ (k : ℕ) (q : Request) (o : Order) (e : Event) (p : ℕ) (x : Request)
   report_made : eqb e.kind 4 ≡ true → M (venue_report f k q o e) (venue_report f' k q o e)
   unfolding venue_report dropped_stale dropped_repeat
   report_made z =
-      split_two M _ (λ h. resume_made (not_kind e 4 7 z refl) (refuse_made by_report))
-      (λ h. split_two M _ (λ a. none)
+      split_two M _ (λ h. resume_made (not_kind e 4 7 z refl) (refuse_made (by_report (outcome_rejected e z (and_parts (is_rejection e) _ h).0))))
+      (λ first. split_two M _ (λ a. none)
       (λ a. split_two M _ (λ s. split_two M _ (λ t. here _ (omega arith)) (λ t. none))
       (λ s. split_two M _ (λ r. unfold unchanged in stays names)
       (λ r. split_two M _ (λ v. here _ (omega arith))
       (λ v. let (d, l) = not_stale k q o e s in let w : max e.exec.cumqty o.state.cumqty ≤ ordered_qty (accepts k q o e) o = ltb-false _ _ v in
-      apply_made (record { kind = z; live = d; up = l; fits = omega arith }))))))
+      apply_made (record { kind = z; live = d; up = l; fits = omega arith; first = first }))))))
 
   pub on_report_made : eqb e.kind 4 ≡ true → M (on_report e f k q o) (on_report e f' k q o)
   unfolding on_report
@@ -332,14 +393,14 @@ module _ (k : ℕ) (q : Request) (o : Order) (e : Event) (p : ℕ) (x : Request)
   client_failed g (quietly r) = rests (refused r g)
   client_failed g (retries w u h t l) = clash _ h g
 
-  failed_fails : {z : Note} → Failure k q o e z → F (send_failed f k q e.venue z o) (send_failed f' k q e.venue z o)
+  failed_fails : {z : Note} {v : ℕ} → Failure k q o e z v → F (send_failed f k q e.venue v z o) (send_failed f' k q e.venue v z o)
   unfolding send_failed first_failed
   failed_fails w =
       split_two F _ (λ z. same)
       (λ there. split_two F _ (λ z. same)
-      (λ a. split_two F _ (λ h. unfold answering unchanged in rests (freed (and_parts (is_gateway q) _ h).0 (not-true _ (and_parts (is_gateway q) _ h).1)))
+      (λ a. split_two F _ (λ h. unfold answering unchanged in rests (freed w (and_parts (is_gateway q) _ h).0 (not-true _ (and_parts (is_gateway q) _ h).1)))
       (λ h. split_two F _
-      (λ g. unfold answering unchanged in rests (fell (not-false _ there) g (and_else (is_gateway q) (is_answered q) g a) (not-false _ (and_else (is_gateway q) _ g h))))
+      (λ g. unfold answering unchanged in rests (fell w (not-false _ there) g (and_else (is_gateway q) (is_answered q) g a) (not-false _ (and_else (is_gateway q) _ g h))))
       (λ g. split_two F _ (λ t. client_failed g (refuse_made (by_failure w)))
       (λ t. split_two F _ (λ z. same)
       (λ z. unfold telling answering unchanged if◌then◌otherwise◌ in rests (ended w (not-false _ t) g (not-false _ (or_parts (is_answered q) _ z).1))))))))
@@ -353,25 +414,25 @@ module _ (k : ℕ) (q : Request) (o : Order) (e : Event) (p : ℕ) (x : Request)
   failing_again : resendable q e.venue o && is_cancel q ≡ false → {c c' : Change} → F c c' → G c c'
   failing_again h (rests l) = rests (failing h l)
 
-  unsent_resends : G (unsent f k q e.venue o) (unsent f' k q e.venue o)
+  unsent_resends : eqb e.kind 8 ≡ true → G (unsent f k q e.venue o) (unsent f' k q e.venue o)
   unfolding unsent
-  unsent_resends =
+  unsent_resends z =
       split_two G _ (λ h. unfold telling unchanged if◌then◌otherwise◌ in rests new_again)
       (λ h. split_two G (resendable q e.venue o && is_cancel q) (λ t. unfold telling unchanged if◌then◌otherwise◌ in rests (cancel_again (and_parts (resendable q e.venue o) _ t).1))
       (λ t. split_two G _ (λ u. unfold telling unchanged if◌then◌otherwise◌ in rests (replace_again (and_parts (resendable q e.venue o && is_replace q) _ u).1))
-      (λ u. failing_again t (failed_fails not_sent))))
+      (λ u. failing_again t (failed_fails (not_sent (outcome_else e (not_kind e 8 7 z refl) (not_kind e 8 4 z refl)))))))
 
-  pub failed_made : eqb e.kind 7 ≡ true → M (send_failed f k q e.venue (text_note e) o) (send_failed f' k q e.venue (text_note e) o)
-  failed_made z = by (failed_fails told_us)
+  pub failed_made : eqb e.kind 7 ≡ true → M (send_failed f k q e.venue came.failed_to_send (text_note e) o) (send_failed f' k q e.venue came.failed_to_send (text_note e) o)
+  failed_made z = by (failed_fails (told_us (outcome_failed e z)))
     where
       by : {c c' : Change} → F c c' → M c c'
       by (rests l) = stays (fails z l)
 
-  pub unsent_made : eqb e.kind 7 ≡ false → M (unsent f k q e.venue o) (unsent f' k q e.venue o)
-  unsent_made z = by unsent_resends
+  pub unsent_made : eqb e.kind 8 ≡ true → M (unsent f k q e.venue o) (unsent f' k q e.venue o)
+  unsent_made z = by (unsent_resends z)
     where
       by : {c c' : Change} → G c c' → M c c'
-      by (rests l) = stays (resends z l)
+      by (rests l) = stays (resends (not_kind e 8 7 z refl) l)
 
 -- event 9
 module _ (o : Order) (p : ℕ) (x : Request) (m n : ℕ) where
@@ -403,6 +464,10 @@ module _ (order : ℕ) (full : Bool) (o : Order) (e : Event) (p : ℕ) (x : Requ
 
 -- ---- a property of the order that is left, and of the links: P of two changes, by S of the order
 
+-- what the requests of these links come to: no request, and 0, or what the event makes of them
+abbrev pub Came : Event → (answered superseded outcome : ℕ) → Type 0
+Came e j s v = ((j ≡ 0) × (s ≡ 0) × (v ≡ 0)) ⊎ (v ≡ outcome_by e)
+
 pub record Closed (k : ℕ) (q : Request) (o : Order) (e : Event) (p : ℕ) (x : Request) (m n : ℕ) (S : Order → Type 0) (P : Change → Change → Type 0) : Type 0 where
   pub own : S o
   pub refused : {r : Refused} → From k q o e r → S (refused_order k r o)
@@ -412,45 +477,60 @@ pub record Closed (k : ℕ) (q : Request) (o : Order) (e : Event) (p : ℕ) (x :
   pub reports : S (reported k q o e)
   pub gives_up : (y : Order) → S y → S (with_gateway (given_up y) y)
   pub counts : (y : Order) → S y → S (next_exec y)
-  pub leaves : {y : Order} {j s : ℕ} {out : Output} → S y → (j ≡ 0) ⊎ (j ≡ k) → (s ≡ 0) ⊎ (s ≡ o.links.current) → P (left p y j s out) (left p y j s out)
-  pub sends : {y : Order} {j s : ℕ} (out : Output) → S y → (j ≡ 0) ⊎ (j ≡ k) → (s ≡ 0) ⊎ (s ≡ o.links.current)
-      → P (send_gateway_cancel (findings p x m) (left p y j s out)) (send_gateway_cancel (findings p x n) (left p y j s out))
+  pub leaves : {y : Order} {j s v : ℕ} {out : Output} → S y → (j ≡ 0) ⊎ (j ≡ k) → (s ≡ 0) ⊎ (s ≡ o.links.current) → Came e j s v → P (left p y j s v out) (left p y j s v out)
+  pub sends : {y : Order} {j s v : ℕ} (out : Output) → S y → (j ≡ 0) ⊎ (j ≡ k) → (s ≡ 0) ⊎ (s ≡ o.links.current) → Came e j s v
+      → P (send_gateway_cancel (findings p x m) (left p y j s v out)) (send_gateway_cancel (findings p x n) (left p y j s v out))
 
 module _ {k : ℕ} {q : Request} {o : Order} {e : Event} {p : ℕ} {x : Request} {m n : ℕ} {S : Order → Type 0} {P : Change → Change → Type 0} (z : Closed k q o e p x m n S P) where
-  abbrev Linked : Order → ℕ → ℕ → Type 0
-  Linked y j s = S y × ((j ≡ 0) ⊎ (j ≡ k)) × ((s ≡ 0) ⊎ (s ≡ o.links.current))
+  abbrev Linked : Order → ℕ → ℕ → ℕ → Type 0
+  Linked y j s v = S y × ((j ≡ 0) ⊎ (j ≡ k)) × ((s ≡ 0) ⊎ (s ≡ o.links.current)) × Came e j s v
 
-  refuses_linked : {y : Order} {j s : ℕ} {out : Output} → Refuses k q o e y j s out → Linked y j s
-  refuses_linked still = (z.own, inl refl, inl refl)
-  refuses_linked (gone w u g) = (z.refused w, inr refl, inl refl)
-  refuses_linked (given_up_lem w u g h) = (z.gives_up _ (z.refused w), inr refl, inl refl)
-  refuses_linked (told w u g) = (z.refused w, inr refl, inl refl)
+  none_linked : {y : Order} → S y → Linked y 0 0 0
+  none_linked y = (y, inl refl, inl refl, inl (refl, refl, refl))
 
-  fails_linked : {y : Order} {j s : ℕ} {out : Output} → Fails k q o e y j s out → Linked y j s
-  fails_linked unfailed = (z.own, inl refl, inl refl)
+  one_linked : {y : Order} {v : ℕ} → S y → v ≡ outcome_by e → Linked y k 0 v
+  one_linked y v = (y, inr refl, inl refl, inr v)
+
+  failure_came : {n : Note} {v : ℕ} → Failure k q o e n v → v ≡ outcome_by e
+  failure_came (told_us h) = sym h
+  failure_came (not_sent h) = sym h
+
+  from_came : {r : Refused} → From k q o e r → r.outcome ≡ outcome_by e
+  from_came (by_report h) = sym h
+  from_came (by_reject h) = sym h
+  from_came (by_failure w) = failure_came w
+
+  refuses_linked : {y : Order} {j s v : ℕ} {out : Output} → Refuses k q o e y j s v out → Linked y j s v
+  refuses_linked still = none_linked z.own
+  refuses_linked (gone w u g) = one_linked (z.refused w) (from_came w)
+  refuses_linked (given_up_lem w u g h) = one_linked (z.gives_up _ (z.refused w)) (from_came w)
+  refuses_linked (told w u g) = one_linked (z.refused w) (from_came w)
+
+  fails_linked : {y : Order} {j s v : ℕ} {out : Output} → Fails k q o e y j s v out → Linked y j s v
+  fails_linked unfailed = none_linked z.own
   fails_linked (refused r g) = refuses_linked r
-  fails_linked (freed g h) = (z.own, inr refl, inl refl)
-  fails_linked (fell t g u h) = (z.fallen, inr refl, inl refl)
-  fails_linked (ended w t g h) = (z.counts _ z.ended, inr refl, inl refl)
+  fails_linked (freed w g h) = one_linked z.own (failure_came w)
+  fails_linked (fell w t g u h) = one_linked z.fallen (failure_came w)
+  fails_linked (ended w t g h) = one_linked (z.counts _ z.ended) (failure_came w)
 
-  settles_linked : {y : Order} {j s : ℕ} → S y → Settles k q o e j s → Linked y j s
-  settles_linked y (replaced t) = (y, inr refl, inr refl)
-  settles_linked y (cancelled t u) = (y, inr refl, inl refl)
-  settles_linked y (neither t) = (y, inl refl, inl refl)
+  settles_linked : {y : Order} {j s v : ℕ} → S y → Settles k q o e j s v → Linked y j s v
+  settles_linked y (replaced t h) = (y, inr refl, inr refl, inr (sym h))
+  settles_linked y (cancelled t u h) = one_linked y (sym h)
+  settles_linked y (neither t) = none_linked y
 
-  left_linked : {y : Order} {j s : ℕ} {out : Output} → Left k q o e y j s out → Linked y j s
+  left_linked : {y : Order} {j s v : ℕ} {out : Output} → Left k q o e y j s v out → Linked y j s v
   left_linked (fails z₇ l) = fails_linked l
-  left_linked (resends z₇ new_again) = (z.own, inl refl, inl refl)
-  left_linked (resends z₇ (cancel_again t)) = (z.own, inl refl, inl refl)
-  left_linked (resends z₇ (replace_again t)) = (z.own, inl refl, inl refl)
+  left_linked (resends z₇ new_again) = none_linked z.own
+  left_linked (resends z₇ (cancel_again t)) = none_linked z.own
+  left_linked (resends z₇ (replace_again t)) = none_linked z.own
   left_linked (resends z₇ (failing t l)) = fails_linked l
-  left_linked (alarms a l) = (z.own, inl refl, inl refl)
-  left_linked names = (z.named, inl refl, inl refl)
+  left_linked (alarms a l) = none_linked z.own
+  left_linked names = none_linked z.named
   left_linked (applies a u s) = settles_linked z.reports s
   left_linked (informs a s) = settles_linked (z.counts _ z.reports) s
 
   pub closed_made : {c c' : Change} → Made k q o e p x m n c c' → P c c'
-  closed_made (stays l) = let (y, j, s) = left_linked l in z.leaves y j s
-  closed_made (refusing! z₇ (quietly r)) = let (y, j, s) = refuses_linked r in z.leaves y j s
-  closed_made (refusing! z₇ (retries w u g h t)) = z.sends _ (z.refused w) (inr refl) (inl refl)
-  closed_made (resumes z₇ r h t) = let (y, j, s) = refuses_linked r in z.sends _ y j s
+  closed_made (stays l) = let (y, j, s, v) = left_linked l in z.leaves y j s v
+  closed_made (refusing! z₇ (quietly r)) = let (y, j, s, v) = refuses_linked r in z.leaves y j s v
+  closed_made (refusing! z₇ (retries w u g h t)) = let (y, j, s, v) = one_linked (z.refused w) (from_came w) in z.sends _ y j s v
+  closed_made (resumes z₇ r h t) = let (y, j, s, v) = refuses_linked r in z.sends _ y j s v

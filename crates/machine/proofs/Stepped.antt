@@ -13,7 +13,7 @@ use Rattle.machine.specs.Machine.{order_link, order_of, order_at_link, findings_
 use Rattle.machine.specs.declared.Findings.{Findings}
 use Rattle.machine.specs.declared.Change.{Change}
 use Rattle.machine.proofs.Kept.Tables.{at_link}
-use Rattle.machine.proofs.Made.{not_kind, Made, Asked, Amended, on_report_made, unknown_made, reject_made, failed_made, unsent_made, asked_made, cancel_made, replace_made}
+use Rattle.machine.proofs.Made.{Made, Asked, Amended, on_report_made, unknown_made, reject_made, failed_made, unsent_made, asked_made, cancel_made, replace_made}
 
 -- by one handler, with its findings
 abbrev pub MadeBy : Findings → ℕ → Request → Order → Event → Change → Change → Type 0
@@ -84,9 +84,9 @@ module _ (P : Change → Type 0) (b : Book) (e : Event) (w : Ways P b e) where
       (λ k₂. split_if P (eqb e.kind 3) (λ t. by_clordid replace (inr (eqb-true e.kind 3 t)) (λ f order full o. replace_made order full o e _ _ _ _))
       (λ k₃. split_if P (eqb e.kind 4) (λ t. by_request 4 t (omega arith) (omega arith) _ _ w.unknown (λ f k q o. on_report_made k q o e _ _ _ _ t))
       (λ k₄. split_if P (eqb e.kind 5) (λ t. by_request 5 t (omega arith) (omega arith) _ _ w.unknown (λ f k q o. unknown_made k q o e _ _ _ _))
-      (λ k₅. split_if P (eqb e.kind 6) (λ t. by_request 6 t (omega arith) (omega arith) _ _ w.unknown (λ f k q o. reject_made k q o e _ _ _ _ (not_kind e 6 7 t refl)))
+      (λ k₅. split_if P (eqb e.kind 6) (λ t. by_request 6 t (omega arith) (omega arith) _ _ w.unknown (λ f k q o. reject_made k q o e _ _ _ _ t))
       (λ k₆. split_if P (eqb e.kind 7) (λ t. by_request 7 t (omega arith) (omega arith) _ _ (λ z. w.no_order_lem (inl z)) (λ f k q o. failed_made k q o e _ _ _ _ t))
-      (λ k₇. split_if P (eqb e.kind 8) (λ t. by_request 8 t (omega arith) (omega arith) _ _ (λ z. w.no_order_lem (inl z)) (λ f k q o. unsent_made k q o e _ _ _ _ (not_kind e 8 7 t refl)))
+      (λ k₇. split_if P (eqb e.kind 8) (λ t. by_request 8 t (omega arith) (omega arith) _ _ (λ z. w.no_order_lem (inl z)) (λ f k q o. unsent_made k q o e _ _ _ _ t))
       (λ k₈. by_name (λ l. past 7 _ k₈ (past 6 _ k₇ (past 5 _ k₆ (past 4 _ k₅ (past 3 _ k₄ (past 2 _ k₃ (past 1 _ k₂ (past 0 _ k₁ l))))))))))))))))
 
   pub step_made : P (step_of b e)

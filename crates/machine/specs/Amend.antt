@@ -9,6 +9,7 @@ use Rattle.store.specs.declared.Pending.{Pending}
 use Rattle.store.specs.declared.Order.{Order}
 use Rattle.store.specs.declared.Request.{Request}
 use Rattle.text.specs.Words.{no_text}
+use Rattle.machine.specs.Constants as came
 use Rattle.machine.specs.Constants.{cancel_kind, replace_kind, too_late, unknown, already_pending, duplicate, other, ours, venues, text_cancelling, text_replace_pending, text_below_filled, text_blocked, text_duplicate, text_unknown_order, text_done, text_too_many, text_side_or_symbol, text_rejected, text_not_sent}
 use Rattle.format.specs.Codes.{pending_new, new, partially_filled, pending_cancel, pending_replace, rejected, exec_rejected, exec_status, limit}
 use Rattle.machine.specs.Orders.{one_more, has_pending, has_gateway, limit_price, is_done, short_alarm, set_status, record_venue_order_id, pending_terms, next_exec, with_pending, with_gateway}
@@ -192,7 +193,7 @@ refused_note n = record {
 unfoldable pub refuse_request : Findings → ℕ → Request → (venue : ℕ) → Refused → Order → Change
 refuse_request f k q venue r o =
     let o' = refused_order k r o in
-    let c = alarming (refused_alarm r o) (answering k (unchanged f.place o')) in
+    let c = alarming (refused_alarm r o) (answering k r.outcome (unchanged f.place o')) in
     if is_first q then unchanged f.place o
     otherwise if not (eqb o.venue venue) then unchanged f.place o
     otherwise if is_answered q then unchanged f.place o
@@ -208,7 +209,7 @@ venue_note e = record { text = e.text; fixedtext = 0; reason = e.reason; origin 
 unfoldable pub venue_cancel_reject : Findings → ℕ → Request → Order → Event → Change
 venue_cancel_reject f k q o e =
     resume_gateway_cancel f
-    (refuse_request f k q e.venue (record { status = e.exec.status; venueorderid = e.ids.venueorderid; note = venue_note e }) o)
+    (refuse_request f k q e.venue (record { status = e.exec.status; venueorderid = e.ids.venueorderid; note = venue_note e; outcome = came.refused }) o)
 
 -- ---- `send_failed`
 
@@ -223,22 +224,23 @@ send_refused g = record {
 }
 
 -- the first send failed: the order is rejected, for a reason of ours
-unfoldable pub first_failed : Findings → ℕ → Note → Order → Change
-first_failed f k n o =
+unfoldable pub first_failed : Findings → ℕ → (outcome : ℕ) → Note → Order → Change
+first_failed f k outcome n o =
     let o' = next_exec (set_status rejected o) in
     telling
     (report o' o'.names.clordid no_text exec_rejected 0 no_price (record { text = n.text; fixedtext = n.fixedtext; reason = other; origin = ours }))
-    (answering k (unchanged f.place o'))
+    (answering k outcome (unchanged f.place o'))
 
-unfoldable pub send_failed : Findings → ℕ → Request → (venue : ℕ) → Note → Order → Change
-send_failed f k q venue n o =
+-- the request comes to the outcome that is given
+unfoldable pub send_failed : Findings → ℕ → Request → (venue outcome : ℕ) → Note → Order → Change
+send_failed f k q venue outcome n o =
     if not (eqb o.venue venue) then unchanged f.place o
     otherwise if is_gateway q && is_answered q then unchanged f.place o
-    otherwise if is_gateway q && not (has_gateway o) then answering k (unchanged f.place o)
-    otherwise if is_gateway q then answering k (unchanged f.place (with_gateway (send_refused o.gateway) o))
-    otherwise if not (is_first q) then refuse_request f k q venue (record { status = o.state.status; venueorderid = no_text; note = n }) o
+    otherwise if is_gateway q && not (has_gateway o) then answering k outcome (unchanged f.place o)
+    otherwise if is_gateway q then answering k outcome (unchanged f.place (with_gateway (send_refused o.gateway) o))
+    otherwise if not (is_first q) then refuse_request f k q venue (record { status = o.state.status; venueorderid = no_text; note = n; outcome = outcome }) o
     otherwise if is_answered q || not (eqb o.state.status pending_new) then unchanged f.place o
-    otherwise first_failed f k n o
+    otherwise first_failed f k outcome n o
 
 -- ---- `unsent`: a request is sent again, or its send has failed
 
@@ -251,4 +253,4 @@ unsent f k q venue o =
     otherwise if resendable q venue o && is_cancel q then telling (cancel_request o q.downstream) (unchanged f.place o)
     otherwise if resendable q venue o && is_replace q && eqb o.pending.request k
     then telling (replace_request o q.downstream (pending_terms o)) (unchanged f.place o)
-    otherwise send_failed f k q venue (record { text = no_long_text; fixedtext = text_not_sent; reason = 0; origin = 0 }) o
+    otherwise send_failed f k q venue came.refused (record { text = no_long_text; fixedtext = text_not_sent; reason = 0; origin = 0 }) o

@@ -8,7 +8,7 @@ use Rattle.store.specs.declared.Request.{Request}
 use Rattle.store.specs.Orders.{no_order}
 use Rattle.store.specs.Requests.{no_request}
 use Rattle.text.specs.Numbered.{numbered_text}
-use Rattle.machine.specs.Constants.{first_kind, cancel_kind, replace_kind, gateway_kind}
+use Rattle.machine.specs.Constants.{first_kind, replace_kind, gateway_kind}
 use Rattle.machine.specs.Orders.{one_more, with_links}
 use Rattle.machine.specs.Messages.{no_message}
 use Rattle.machine.specs.declared.Findings.{Findings}
@@ -43,7 +43,7 @@ is_answered q = not (eqb q.answered 0)
 -- ---- changes
 
 abbrev pub no_requests : Requests
-no_requests = record { answered = 0; superseded = 0; added = 0; request = no_request }
+no_requests = record { answered = 0; superseded = 0; outcome = 0; added = 0; request = no_request }
 
 abbrev pub silent : Output
 silent = record { count = 0; first = no_message; second = no_message; alarm = 0; alarm2 = 0 }
@@ -59,23 +59,23 @@ refusing n = record { refusal = n; place = 0; order = no_order; requests = no_re
 abbrev pub with_order : Order → Change → Change
 with_order o c = record { refusal = c.refusal; place = c.place; order = o; requests = c.requests; output = c.output }
 
--- the request of this link is answered
-unfoldable pub answering : ℕ → Change → Change
-answering k c = record {
+-- the request of this link is answered, and comes to this
+unfoldable pub answering : ℕ → (outcome : ℕ) → Change → Change
+answering k outcome c = record {
   refusal = c.refusal;
   place = c.place;
   order = c.order;
-  requests = record { answered = k; superseded = c.requests.superseded; added = c.requests.added; request = c.requests.request };
+  requests = record { answered = k; superseded = c.requests.superseded; outcome = outcome; added = c.requests.added; request = c.requests.request };
   output = c.output;
 }
 
--- and so is the one that it supersedes
+-- and so is the one that it supersedes, which comes to the same
 unfoldable pub superseding : ℕ → Change → Change
 superseding k c = record {
   refusal = c.refusal;
   place = c.place;
   order = c.order;
-  requests = record { answered = c.requests.answered; superseded = k; added = c.requests.added; request = c.requests.request };
+  requests = record { answered = c.requests.answered; superseded = k; outcome = c.requests.outcome; added = c.requests.added; request = c.requests.request };
   output = c.output;
 }
 
@@ -85,7 +85,7 @@ adding q c = record {
   refusal = c.refusal;
   place = c.place;
   order = c.order;
-  requests = record { answered = c.requests.answered; superseded = c.requests.superseded; added = 1; request = q };
+  requests = record { answered = c.requests.answered; superseded = c.requests.superseded; outcome = c.requests.outcome; added = 1; request = q };
   output = c.output;
 }
 
@@ -141,6 +141,7 @@ next_request f o kind clordid origclordid = record {
   clordid = clordid;
   origclordid = origclordid;
   downstream = next_downstream o;
+  outcome = 0;
 }
 
 -- a cancel becomes the order's latest

@@ -1,4 +1,4 @@
--- The book's own numbers, by name: kinds of requests and of messages, alarms, reasons and their origin, fixed texts, the most tries. Rests on nothing.
+-- The book's own numbers, by name: kinds and outcomes of requests, kinds of messages, alarms, reasons and their origin, fixed texts, the most tries. Rests on nothing.
 use Rattle.std.specs.Prelude.{ℕ}
 
 -- a request's kind: `Sent.kind` and `Sent.origin` in one
@@ -13,6 +13,16 @@ replace_kind = 2
 
 abbrev pub gateway_kind : ℕ
 gateway_kind = 3
+
+-- a request's outcome, 0 while it is open: "0 open until the Rust's `answered` is set, then for good 1 accepted .. 3 failed to send .. or 2 refused"
+abbrev pub accepted : ℕ
+accepted = 1
+
+abbrev pub refused : ℕ
+refused = 2
+
+abbrev pub failed_to_send : ℕ
+failed_to_send = 3
 
 -- messages
 abbrev pub report_kind : ℕ

@@ -22,4 +22,5 @@ pub mod Said
 pub mod Exchange
 pub mod Status
 pub mod Sources
+pub mod Outcomes
 pub mod Taken

@@ -11,6 +11,7 @@ use Rattle.store.specs.Book.{Book, order_in, request_in, answered}
 use Rattle.store.specs.Orders.{no_order, no_pending, no_gateway}
 use Rattle.store.specs.Requests.{no_request}
 use Rattle.text.specs.Words.{no_text}
+use Rattle.machine.specs.Constants as came
 use Rattle.machine.specs.Constants.{first_kind, unknown_order}
 use Rattle.format.specs.Codes.{pending_new}
 use Rattle.machine.specs.Changes.{Event, unchanged, refusing, adding, alarming}
@@ -56,7 +57,7 @@ booked_order link e = record {
 }
 
 unfoldable pub first_request : (order : ℕ) → Event → Request
-first_request order e = record { order = order; kind = first_kind; answered = 0; clordid = e.ids.clordid; origclordid = no_text; downstream = e.ids.name }
+first_request order e = record { order = order; kind = first_kind; answered = 0; clordid = e.ids.clordid; origclordid = no_text; downstream = e.ids.name; outcome = 0 }
 
 -- the name and the ClOrdID are both unused
 unfoldable pub unused : Book → Event → Bool
@@ -109,7 +110,7 @@ change_of b e =
     otherwise if eqb e.kind 4 then on_request unknown_report (on_report e) b e
     otherwise if eqb e.kind 5 then on_request unknown_report (λ f k q o. unknown_at_venue f k o e) b e
     otherwise if eqb e.kind 6 then on_request unknown_report (λ f k q o. venue_cancel_reject f k q o e) b e
-    otherwise if eqb e.kind 7 then on_request nothing (λ f k q o. send_failed f k q e.venue (text_note e) o) b e
+    otherwise if eqb e.kind 7 then on_request nothing (λ f k q o. send_failed f k q e.venue came.failed_to_send (text_note e) o) b e
     otherwise if eqb e.kind 8 then on_request nothing (λ f k q o. unsent f k q e.venue o) b e
     otherwise on_name b e
 
@@ -129,9 +130,9 @@ step_of b e =
     otherwise if has_room b c then c
     otherwise refusing 7
 
--- the requests with the one of this link answered
-unfoldable pub answer_link : ℕ → List Request → List Request
-answer_link k qs = if eqb k 0 then qs otherwise set qs (k - 1) (answered (get_or qs (k - 1) no_request))
+-- the requests with the one of this link answered, with this outcome
+unfoldable pub answer_link : ℕ → (outcome : ℕ) → List Request → List Request
+answer_link k outcome qs = if eqb k 0 then qs otherwise set qs (k - 1) (answered outcome (get_or qs (k - 1) no_request))
 
 unfoldable pub orders_after : List Order → Change → List Order
 orders_after os c =
@@ -141,7 +142,7 @@ orders_after os c =
 
 unfoldable pub requests_after : List Request → Change → List Request
 requests_after qs c =
-    let settled = answer_link c.requests.superseded (answer_link c.requests.answered qs) in
+    let settled = answer_link c.requests.superseded c.requests.outcome (answer_link c.requests.answered c.requests.outcome qs) in
     if eqb c.requests.added 0 then settled otherwise settled ++ (c.requests.request ∷ [])
 
 -- the book that a change leaves

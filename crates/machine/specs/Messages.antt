@@ -15,7 +15,7 @@ use Rattle.store.specs.declared.Order.{Order}
 use Rattle.text.specs.Words.{no_text}
 use Rattle.machine.specs.Orders.{no_terms, is_empty, leaves_qty}
 use Rattle.machine.specs.Constants.{report_kind, cancel_reject_kind, new_order_kind, cancel_request_kind, replace_request_kind}
-use Rattle.format.specs.Codes.{limit, rejected}
+use Rattle.format.specs.Codes.{limit}
 use Rattle.machine.specs.declared.Note.{Note}
 
 -- bit k where the test holds

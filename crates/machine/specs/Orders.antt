@@ -14,7 +14,7 @@ use Rattle.store.specs.declared.Order.{Order}
 use Rattle.store.specs.declared.Request.{Request}
 use Rattle.store.specs.Orders.{no_order, no_pending, no_gateway}
 use Rattle.machine.specs.Constants.{filled_short}
-use Rattle.format.specs.Codes.{pending_new, new, partially_filled, filled, canceled, expired, rejected, done_for_day, market, limit}
+use Rattle.format.specs.Codes.{pending_new, new, partially_filled, filled, canceled, expired, rejected, done_for_day, market}
 
 -- one more, or the same at the top of the field's range, which the book's rules keep away
 unfoldable pub one_more : (top n : ℕ) → ℕ

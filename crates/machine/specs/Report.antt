@@ -6,6 +6,7 @@ use Rattle.wide.specs.Wide.{fill_price}
 use Rattle.store.specs.declared.Order.{Order}
 use Rattle.store.specs.declared.Request.{Request}
 use Rattle.text.specs.Words.{no_text}
+use Rattle.machine.specs.Constants as came
 use Rattle.machine.specs.Constants.{unknown_order_reason, overfill, unknown_at_venue_alarm, fill_on_done_order, venues}
 use Rattle.format.specs.Codes.{pending_new, new, partially_filled, pending_cancel, pending_replace, canceled, rejected, exec_trade, exec_replaced, exec_rejected, exec_restated, exec_done_for_day, exec_status}
 use Rattle.machine.specs.Orders.{is_done, as_asked, short_alarm, set_status, record_venue_order_id, apply_replace, next_exec, with_state}
@@ -114,11 +115,11 @@ client_report answers rise q price o e =
     report o (if answers then q.clordid otherwise o.names.clordid) (if answers then q.origclordid otherwise no_text)
     (if ltb 0 rise then exec_trade otherwise e.exec.exectype) rise price (report_note e)
 
--- the requests that the report answers: an accepted replace and the one that it supersedes, or a cancel that was Canceled
+-- the requests that the report answers, which are accepted: a replace and the one that it supersedes, or a cancel that was Canceled
 unfoldable pub settles : (accepted : Bool) (s : ℕ) → ℕ → Request → Order → Change → Change
 settles accepted s k q o c =
-    if accepted then superseding o.links.current (answering k c)
-    otherwise if is_cancel q && eqb s canceled then answering k c
+    if accepted then superseding o.links.current (answering k came.accepted c)
+    otherwise if is_cancel q && eqb s canceled then answering k came.accepted c
     otherwise c
 
 -- the report is applied. An ack of the gateway's own cancel is not the client's.
@@ -142,6 +143,7 @@ venue_report f k q o e =
       status = if eqb e.exec.status rejected then 0 otherwise e.exec.status;
       venueorderid = e.ids.venueorderid;
       note = record { text = e.text; fixedtext = 0; reason = 0; origin = 0 };
+      outcome = came.refused;
     })
     o)
     otherwise if not (eqb o.venue e.venue) then unchanged f.place o

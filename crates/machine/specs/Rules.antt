@@ -15,7 +15,7 @@ use Rattle.store.specs.declared.Order.{Order}
 use Rattle.store.specs.declared.Request.{Request}
 use Rattle.store.specs.Book.{Book, order_in, request_in}
 use Rattle.store.specs.Requests.{no_request}
-use Rattle.machine.specs.Constants.{most_tries}
+use Rattle.machine.specs.Constants.{most_tries, failed_to_send}
 use Rattle.machine.specs.Orders.{is_empty, is_done, has_pending, has_gateway}
 use Rattle.machine.specs.Changes.{is_first, is_replace, is_gateway, is_cancel, is_answered}
 use Rattle.format.specs.Codes.{is_side, is_ordtype, is_timeinforce, is_status, is_qty, is_price, pending_new, new, limit}
@@ -123,6 +123,10 @@ order_rule b i =
 unfoldable pub number_in : List Request → ℕ → ℕ
 number_in qs j = count_below (of_order qs (get_or qs j no_request).order) j
 
+-- "exactly the unanswered have outcome 0", and it is at most 3
+unfoldable pub outcome_rule : Request → Bool
+outcome_rule q = if is_answered q then ltb 0 q.outcome && leb q.outcome failed_to_send otherwise eqb q.outcome 0
+
 -- the order's name, then its name with -1, -2 and so on
 unfoldable pub name_number : Text → ℕ → Text
 name_number name n = if eqb n 0 then name otherwise numbered_text name n
@@ -137,11 +141,20 @@ in_flight_rule link q o =
     not (is_gateway q) || is_answered q || is_done o.state.status
     || (eqb o.links.cancel link && ltb 0 o.gateway.tries && not o.gateway.unsent && not o.gateway.stuck)
 
+-- "an OrigClOrdID names such a request": one of the same order, numbered lower, has it as its ClOrdID
+abbrev pub bears_origin : List Request → (k j : ℕ) → Bool
+bears_origin qs k j = eqb (get_or qs j no_request).order (get_or qs k no_request).order && same_text (get_or qs j no_request).clordid (get_or qs k no_request).origclordid
+
+-- one of the lower bears it: not each of them does not
+unfoldable pub origin_rule : List Request → ℕ → Bool
+origin_rule qs k = is_empty (get_or qs k no_request).origclordid || not (all_below (λ j. not (bears_origin qs k j)) k)
+
 unfoldable pub request_rule : Book → ℕ → Bool
 request_rule b j =
     let q = request_in b j in
     let o = order_in b q.order in
-    request_range q && ltb q.order (length b.orders) && number_rule o.names.name (number_in b.requests j) q && in_flight_rule (j + 1) q o
+    request_range q && outcome_rule q && ltb q.order (length b.orders) && number_rule o.names.name (number_in b.requests j) q
+    && in_flight_rule (j + 1) q o && origin_rule b.requests j
 
 -- ---- names, and ClOrdIDs within a client, are distinct. Downstream ClOrdIDs are, since names have no '-' (a law).
 

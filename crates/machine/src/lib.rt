@@ -40,22 +40,24 @@ pub struct Reject {
 }
 
 // A refusal of a cancel or replace that was sent (the Rust's `Refused`): the order's status as the
-// venue gives it and the venue's OrderID, and what the client is told. 0 and empty where not given, as
-// the record has them: the definitions read these fields, and the theorems name them.
+// venue gives it and the venue's OrderID, what the client is told, and what the request comes to. 0 and
+// empty where not given, as the record has them: the definitions read these fields, and the theorems name them.
 #[derive(Clone, Copy)]
 pub struct Refused {
     pub status: u8,
     pub venueorderid: Text,
     pub note: Note,
+    pub outcome: u8,
 }
 
-// What an event does to the requests: the links of those it answers, 0 for none, and the one it adds,
-// where the flag beside it is 1. As numbers, since the definitions and their theorems name each field
+// What an event does to the requests: the links of those it answers, 0 for none, what these come to, 0
+// where there are none, and the one it adds, where the flag beside it is 1. As numbers, since the definitions and their theorems name each field
 // (`requests.added ≡ 0`).
 #[derive(Clone, Copy)]
 pub struct Requests {
     pub answered: u16,
     pub superseded: u16,
+    pub outcome: u8,
     pub added: u8,
     pub request: Request,
 }

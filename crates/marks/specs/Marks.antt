@@ -1,5 +1,5 @@
 -- MARKS TO COME BACK TO (change request 10): a name and an image of the book, in a lent buffer divided into places; and the two calls, one that sets a mark
--- and one that returns to it. What stands in quotes is the desk's wording. Rests on format's `is_alnum`, store's `book_size` and opens' `keeps_of`.
+-- and one that returns to it. What stands in quotes is the desk's wording. Rests on format's `is_alnum`, store's `book_size` and rules' `keeps_of`.
 use Rattle.std.specs.Prelude.{ℕ, ◌+◌, ◌*◌, ◌/◌, Bool, not, ◌&&◌, List, ◌++◌, length, get_or, take, Option, Some}
 use Rattle.prelude.specs.Below.{all_below, first_below}
 use Rattle.prelude.specs.Bytes.{zeros}
@@ -8,7 +8,7 @@ use Rattle.prelude.specs.Span.{span, splice}
 use Rattle.prelude.specs.Texts.{agree_at}
 use Rattle.format.specs.Codes.{within, is_alnum}
 use Rattle.store.specs.Layout.{book_size}
-use Rattle.opens.specs.Keeps.{keeps_of}
+use Rattle.rules.specs.Keeps.{keeps_of}
 
 -- ---- a place: "32 bytes of name, zeros after it, then the image"
 
@@ -80,7 +80,7 @@ pub record Marked : Type 0 where
 abbrev pub marked : (returned : ℕ) (book places : List ℕ) → Marked
 marked n b p = record { returned = n; book = b; places = p }
 
--- `set_mark`: 1 where the book does not keep its rules, then 13 where the name is malformed, then 15 where no place is of that name and none is free.
+-- `set_mark`: 1 if the book does not keep its rules, then 13 if the name is malformed, then 15 if no place is of that name and none is free.
 -- Else name and image stand in the place, and every other byte is as it was.
 unfoldable pub set_mark_of : (book name places : List ℕ) → Marked
 set_mark_of book name places =
@@ -88,7 +88,7 @@ set_mark_of book name places =
     otherwise if not (is_mark_name name) then marked 13 book places
     otherwise maybe (marked 15 book places) (λ i. marked 0 book (splice places (place i) (name_bytes name ++ book))) (set_place places name)
 
--- `return_to_mark`: 1 where the book does not keep its rules, then 13 where the name is malformed, then 14 where no place is of that name and has an
+-- `return_to_mark`: 1 if the book does not keep its rules, then 13 if the name is malformed, then 14 if no place is of that name and has an
 -- image that keeps the rules. Else "the book [is] exactly its image".
 unfoldable pub return_of : (book name places : List ℕ) → Marked
 return_of book name places =

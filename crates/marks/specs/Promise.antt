@@ -3,7 +3,7 @@
 use Rattle.std.specs.Prelude.{ℕ, ◌+◌, ◌*◌, ◌≤◌, ◌<◌, ◌≡◌, true, false, ◌⊎◌, List, ◌++◌, length, get_or, Some}
 use Rattle.prelude.specs.Bytes.{zeros}
 use Rattle.prelude.specs.Number.{Bytes}
-use Rattle.opens.specs.Keeps.{keeps_of}
+use Rattle.rules.specs.Keeps.{keeps_of}
 use Rattle.marks.specs.Marks.{name_size, place_size, place, place_count, name_at, image_at, is_mark_name, name_bytes, return_place, Marked, marked, set_mark_of, return_of}
 
 -- ---- names as bytes
@@ -34,7 +34,7 @@ pub record SetAt (book name places : List ℕ) (i : ℕ) (r : Marked) : Type 0 w
   pub bytes : (k : ℕ) → k < 65536 → get_or r.places (i * 65568 + 32 + k) 0 ≡ get_or book k 0
   pub rest : (k : ℕ) → (k < place i) ⊎ (place i + place_size ≤ k) → get_or r.places k 0 ≡ get_or places k 0
 
--- 1 before 13 before 15; the first place of its name, be a free one before it; else the first free one
+-- 1 before 13 before 15; the first place of its name, even if a free one is before it; else the first free one
 pub record IsSet (book name places : List ℕ) (r : Marked) : Type 0 where
   pub bad : keeps_of book ≡ false → r ≡ marked 1 book places
   pub malformed : keeps_of book ≡ true → is_mark_name name ≡ false → r ≡ marked 13 book places

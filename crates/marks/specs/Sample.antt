@@ -6,7 +6,7 @@ use Rattle.prelude.specs.Bytes.{zeros}
 use Rattle.prelude.specs.Cases.{if◌then◌otherwise◌, maybe}
 use Rattle.prelude.specs.Span.{span}
 use Rattle.format.specs.Codes.{is_alnum}
-use Rattle.opens.specs.Keeps.{keeps_of}
+use Rattle.rules.specs.Keeps.{keeps_of}
 use Rattle.marks.specs.Marks.{name_size, place_count, name_at, image_at, is_mark_name, name_bytes, has_name, is_of, is_free, set_place, is_mark, return_place}
 
 -- ---- names
@@ -62,7 +62,7 @@ module _ (p : List ℕ) (two : place_count p ≡ 2) (first : name_at p 0 ≡ zer
   unfolding set_place has_name name_bytes first_below all_below maybe if◌then◌otherwise◌
   sample_fresh = rw (two, first, second) refl
 
--- [A, A damaged]: a set of A goes to the first, and where B has neither, a set of B finds no place
+-- [A, A damaged]: a set of A goes to the first, and a set of B finds no place, since none is B's and none is free
 module _ (p : List ℕ) (two : place_count p ≡ 2) (first : name_at p 0 ≡ name_bytes A) (second : name_at p 1 ≡ name_bytes A) where
   pub sample_first : set_place p A ≡ Some 0
   unfolding set_place has_name name_bytes first_below all_below maybe if◌then◌otherwise◌

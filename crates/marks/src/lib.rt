@@ -1,6 +1,6 @@
 // Marks to come back to: a name and an image of the book in a place of a lent buffer; set, and returned
 // to. What a place is and what the calls do stands in specs/Marks.antt. Both calls are total: all that
-// is asked is asked before a byte is written. Rests on opens, store and format.
+// is asked is asked before a byte is written. Rests on rules, store and format.
 #![tactic(auto)]
 
 ghost use Rattle.std.specs.Prelude.{◌≡◌};
@@ -8,14 +8,14 @@ ghost use Rattle.counted.specs.Counted.{refusal_of};
 ghost use Rattle.marks.specs.Marks.{marked, set_mark_of, return_of};
 
 use name::Name;
-use opens::Kept;
 use prelude::Refusal;
+use rules::Kept;
 
 mod name; // a mark's name
 mod place; // the places of a buffer
 
 // Sets a mark: name and book go to the first place of that name, else to the first free one. Refuses a
-// book that does not keep its rules, then a malformed name, then where no place is free.
+// book that does not keep its rules, then a malformed name, then a name for which there is no such place.
 #[tactic(auto, using(crate::specs::Laws::Calls::set_calls, crate::proofs::Laws::Places::set_below))]
 pub fn set_mark(book: &[u8], name: &[u8], places: &mut [u8]) -> Result<(), Refusal>
     ensures { marked (refusal_of result) book.now places.new ≡ set_mark_of book.now name.now places.old }
@@ -30,8 +30,7 @@ pub fn set_mark(book: &[u8], name: &[u8], places: &mut [u8]) -> Result<(), Refus
 }
 
 // Returns to a mark: the book becomes the image of the first place of that name whose image keeps the
-// rules. Refuses a book that does not keep them, then a malformed name, then where there is no such
-// place.
+// rules. Refuses a book that does not keep them, then a malformed name, then a name without such a place.
 #[tactic(auto, using(crate::specs::Laws::Calls::return_calls, crate::proofs::Laws::Places::return_below, crate::proofs::Laws::Stands::book_long))]
 pub fn return_to_mark(book: &mut [u8], name: &[u8], places: &[u8]) -> Result<(), Refusal>
     ensures { marked (refusal_of result) book.new places.now ≡ return_of book.old name.now places.now }

@@ -1,16 +1,16 @@
 // The places of a buffer: their names compared, the place of a mark found, and a mark written or read.
 // Places go by their index, as in specs/Marks.antt, and that place i is there stands in the contracts: a mark
-// is written by the index, since `as_chunks_mut` says nothing of what the slice ends as, and `as_chunks` to
-// look the places through would be a second form beside it. Rests on opens and store's layout.
+// is written by the index, since `as_chunks_mut` says nothing of what the slice ends as, and looking through the
+// places by `as_chunks` would be a second form beside it. Rests on rules and store's layout.
 ghost use Rattle.std.specs.Prelude.{◌≡◌, ◌&&◌, ◌++◌, ◌+◌, ◌≤◌, ◌<◌, length};
 ghost use Rattle.prelude.specs.Below.{first_below};
 ghost use Rattle.prelude.specs.Span.{splice};
 ghost use Rattle.store.specs.Layout.{book_size};
-ghost use Rattle.opens.specs.Keeps.{keeps_of};
+ghost use Rattle.rules.specs.Keeps.{keeps_of};
 ghost use Rattle.marks.specs.Marks.{place, place_count, image_at, name_bytes, has_name, set_place, return_place};
 
 use crate::name::{NAME, Name};
-use opens::Kept;
+use rules::Kept;
 use store::layout;
 
 // A place: the name, then the image.
@@ -26,7 +26,7 @@ fn has_name(places: &[u8], i: usize, bytes: &[u8; NAME]) -> bool
     &places[at..at + NAME] == bytes.as_slice()
 }
 
-// The first place that has.
+// The first place that has these bytes for its name.
 fn find(places: &[u8], bytes: &[u8; NAME]) -> Option<usize>
     ensures { result ≡ first_below (has_name places.now bytes.now) (place_count places.now) }
 {
@@ -47,7 +47,7 @@ fn is_mark(places: &[u8], i: usize, bytes: &[u8; NAME]) -> bool
     ensures { result ≡ has_name places.now bytes.now i && keeps_of (image_at places.now i) }
 {
     let at = i * PLACE + NAME;
-    has_name(places, i, bytes) && opens::keeps(&places[at..at + layout::BOOK])
+    has_name(places, i, bytes) && rules::keeps(&places[at..at + layout::BOOK])
 }
 
 // The place that a return to that name takes.

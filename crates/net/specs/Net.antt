@@ -1,5 +1,5 @@
 -- THE NET POSITION of a book (change request 6): for each client and symbol that has an order, what was bought less what was sold, as values
--- and as the bytes of a line; and the call that writes the lines. Rests on counted, store's book, machine's `filled_on` and opens' `keeps_of`.
+-- and as the bytes of a line; and the call that writes the lines. Rests on counted, store's book, machine's `filled_on` and rules' `keeps_of`.
 use Rattle.std.specs.Prelude.{ℕ, zero, suc, ◌-◌, ◌*◌, ◌^◌, ◌≡◌, Bool, true, false, not, ◌&&◌, ◌||◌, List, [], ◌∷◌, ◌++◌, map, eqb, ltb, length, replicate}
 use Rattle.std.specs.List.{concat}
 use Rattle.prelude.specs.Below.{all_below}
@@ -15,7 +15,7 @@ use Rattle.counted.specs.Counted.{refusing, counting}
 use Rattle.store.specs.declared.Order.{Order}
 use Rattle.store.specs.Book.{Book, order_in, book_of}
 use Rattle.machine.specs.Since.{filled_on}
-use Rattle.opens.specs.Keeps.{keeps_of}
+use Rattle.rules.specs.Keeps.{keeps_of}
 use Rattle.net.specs.declared.Amounts.{Amounts}
 
 -- ---- signed numbers
@@ -118,7 +118,7 @@ read_lines count lines = list_below (λ i. read_line (span lines (27 * i) 27)) c
 abbrev pub is_of : (client : ℕ) (symbol : Text) → Position → Bool
 is_of client symbol p = eqb p.client client && same_text p.symbol symbol
 
--- the net of a client in a symbol by the positions: 0 where it has none
+-- the net of a client in a symbol by the positions: 0 if it has none
 unfoldable pub net_for : (client : ℕ) (symbol : Text) → List Position → Signed
 net_for client symbol [] = nothing
 net_for client symbol (p ∷ ps) = if is_of client symbol p then p.net otherwise net_for client symbol ps
@@ -143,7 +143,7 @@ pub record Written : Type 0 where
 abbrev pub written : Counted → List ℕ → Written
 written r lines = record { returned = r; lines = lines }
 
--- 1 where the book does not keep its rules, then 11 where scratch or lines are short, be the book empty: nothing is written.
+-- 1 if the book does not keep its rules, then 11 if scratch or lines are too short, even for an empty book: nothing is written.
 -- Else the lines stand at the front of the buffer, and their count is returned.
 unfoldable pub net_call : (book : List ℕ) (scratch : ℕ) (lines : List ℕ) → Written
 net_call book scratch lines =
@@ -152,7 +152,7 @@ net_call book scratch lines =
     otherwise if ltb scratch least_scratch || ltb (length lines) least_lines then written (refusing 11) lines
     otherwise written (counting (length net)) (splice lines 0 (net_bytes net))
 
--- The contract: result and lines by one equation. The scratch keeps its length, and is as it was where the call is refused; else what it
+-- The contract: result and lines by one equation. The scratch keeps its length, and is as it was if the call is refused; else what it
 -- holds afterwards is free.
 pub record IsNet (book scratch lines : List ℕ) (returned : Counted) (left linesLeft : List ℕ) : Type 0 where
   pub is : written returned linesLeft ≡ net_call book (length scratch) lines

@@ -9,16 +9,16 @@ use Rattle.prelude.specs.declared.Text.{Text}
 use Rattle.counted.specs.Counted.{refusing, counting}
 use Rattle.store.specs.Book.{Book, order_in, book_of}
 use Rattle.machine.specs.Rules.{rules}
-use Rattle.opens.specs.Keeps.{keeps_of}
+use Rattle.rules.specs.Keeps.{keeps_of}
 use Rattle.net.specs.Net.{netted, filled_in, Position, position_of, unseen, is_first, positions, net_of, no_position, is_of, net_for, line_bytes, read_lines, Written, written, net_call}
 
 -- ---- the positions
 
--- each client has in each symbol what its orders bought less what they sold: 0 where it has no order
+-- each client has in each symbol what its orders bought less what they sold: 0 if it has no order
 abbrev pub NetRight : Type 0
 NetRight = (b : Book) (client : ℕ) (symbol : Text) → net_for client symbol (net_of b) ≡ netted (filled_in b client symbol)
 
--- no position where none of the orders is its, and one where one is, be its net 0
+-- a client has no position in a symbol if none of the orders is its, and one if an order is, even if its net is 0
 abbrev pub NetOnce : Type 0
 NetOnce = (b : Book) (client : ℕ) (symbol : Text) → how_many (is_of client symbol) (net_of b) ≡ (if unseen b client symbol (length b.orders) then 0 otherwise 1)
 
@@ -39,7 +39,7 @@ NetSmall = (b : Book) → rules b ≡ true → Every IsSmall (net_of b)
 
 -- ---- a line
 
--- the zeros behind a symbol: they are read by nobody, and yet they are said
+-- the zeros behind a symbol: nobody reads them, yet they are promised
 abbrev pub LineZeros : Type 0
 LineZeros = (p : Position) (k : ℕ) → length (contents p.symbol) ≤ k → k < 16 → get_or (line_bytes p) (3 + k) 0 ≡ 0
 
@@ -53,8 +53,8 @@ pub record IsWritten (book lines : List ℕ) (r : Written) : Type 0 where
   pub read : Bytes book → read_lines (length (net_of (book_of book))) r.lines ≡ net_of (book_of book)
   pub rest : (k : ℕ) → 27 * length (net_of (book_of book)) ≤ k → get_or r.lines k 0 ≡ get_or lines k 0
 
--- 1 for a book that does not keep its rules, whatever is lent; then 11 for a scratch or lines that are too short, be it by one, and be the
--- book empty: nothing is written. What is exactly long enough is taken.
+-- 1 for a book that does not keep its rules, whatever is lent; then 11 for a scratch or lines that are too short, even by one, and even
+-- for an empty book: nothing is written. What is exactly long enough is taken.
 pub record IsCall (book : List ℕ) (scratch : ℕ) (lines : List ℕ) : Type 0 where
   pub bad : keeps_of book ≡ false → net_call book scratch lines ≡ written (refusing 1) lines
   pub short : keeps_of book ≡ true → ((scratch < 1) ⊎ (length lines < 64 * 27)) → net_call book scratch lines ≡ written (refusing 11) lines

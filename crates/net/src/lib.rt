@@ -1,6 +1,6 @@
 // The net position of a book, written into a lent buffer: 27 bytes for each client and symbol that has
 // an order, by its first booking. What a position and a line are stands in specs/Net.antt, and what
-// holds of them in specs/Promise.antt. Rests on opens, store, text, words and counted.
+// holds of them in specs/Promise.antt. Rests on rules, store, text, words and counted.
 #![tactic(auto)]
 
 ghost use Rattle.std.specs.Prelude.{◌≡◌, ◌≤◌, ◌<◌, length};
@@ -10,9 +10,9 @@ ghost use Rattle.counted.specs.Counted.{counted_of};
 ghost use Rattle.net.specs.Net.{positions, net_of, net_bytes, least_lines, IsNet};
 ghost use Rattle.net.specs.Laws.Call.{IsNext};
 
-use opens::Kept;
 use pair::Pair;
 use prelude::Refusal;
+use rules::Kept;
 
 mod line; // one line
 mod pair; // the orders of one client in one symbol
@@ -32,8 +32,8 @@ const LEAST_SCRATCH: usize = 1;
 
 const LEAST_LINES: usize = 1728;
 
-// Behind so many lines, the line of order i where it is the first of its client and symbol. Returns how
-// many lines there are then. The line's place by its number: `as_chunks_mut` says nothing of what the slice
+// Writes the line of order i behind so many lines, if it is the first of its client and symbol, and returns how
+// many lines there are then. The line is placed by its number: `as_chunks_mut` says nothing of what the slice
 // ends as.
 #[tactic(auto, using(store::specs::Laws::Stored::count_most))]
 fn put_next(book: &Kept<'_>, out: &mut [u8], i: usize, lines: usize) -> usize

@@ -7,8 +7,8 @@ ghost use Rattle.net.specs.Net.{fields};
 
 use crate::pair::Pair;
 
-// Writes w into s from index at. `store` has the same for itself alone: as a public function it could ask
-// nothing of its callers.
+// Writes w into s from index at. `store` has the same, for itself alone: a public function could ask nothing of
+// its callers.
 #[tactic(auto, using(prelude::specs::Span::part_splice))]
 fn put(s: &mut [u8], at: usize, w: &[u8])
     requires { at + length w.now ≤ length s.old }

@@ -6,8 +6,8 @@ ghost use Rattle.net.specs.Net.{of_pair, unseen, netted, twos, filled_in};
 ghost use Rattle.net.specs.Laws.Pair.{InUse, IsSum};
 
 use crate::Amounts;
-use opens::Kept;
 use prelude::Text;
+use rules::Kept;
 use store::layout;
 use words::{get16, get64};
 
@@ -44,7 +44,7 @@ impl Pair {
             && text::text_is(book, base + layout::SYMBOL, self.symbol)
     }
 
-    // Whether none of the first n orders is.
+    // Whether none of the first n orders is that client's in that symbol.
     pub(crate) fn unseen(self, book: &[u8], n: usize) -> bool
         requires { n ≤ order_count book.now }
         ensures { result ≡ unseen (book_of book.now) self.client self.symbol n }
@@ -76,7 +76,7 @@ impl Pair {
         }
     }
 
-    // What all orders bought and sold of it, where none of the first n did.
+    // What all orders bought and sold of it, if none of the first n did.
     pub(crate) fn amounts(self, book: &Kept<'_>, n: usize) -> Amounts
         requires { (n ≤ order_count book.now.bytes.now) × (unseen (book_of book.now.bytes.now) self.client self.symbol n ≡ true) }
         ensures { result ≡ filled_in (book_of book.now.bytes.now) self.client self.symbol }

@@ -1,5 +1,2 @@
--- Proof text: sums in the bytes, and as the code makes them, what a caller has, and what a change moves.
-pub mod Sums
-pub mod Left
-pub mod Keeps
-pub mod Moved
+-- Proof text: the call as the code comes to it.
+pub mod Calls

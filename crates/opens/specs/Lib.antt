@@ -1,3 +1,2 @@
 pub mod Opens
-pub mod Keeps
 pub mod Laws

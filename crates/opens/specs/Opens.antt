@@ -1,35 +1,21 @@
--- THE OPEN QUANTITY of a client (change request 4) is machine's `open_of`: the sum of `leaves_qty` over its orders. Here: where the book's bytes store it, when
--- what is stored is right, and what an event makes of it, by value. Rests on store's words behind the tables and on machine.
-use Rattle.std.specs.Prelude.{ℕ, ◌+◌, ◌-◌, ◌%◌, ◌^◌, Bool, List, ◌==◌}
-use Rattle.prelude.specs.Below.{all_below}
-use Rattle.prelude.specs.Cases.{maybe}
-use Rattle.store.specs.Book.{book_of, order_in, order_count, open_at, load_open}
-use Rattle.store.specs.Finds.{find_client}
-use Rattle.machine.specs.Orders.{leaves_qty}
-use Rattle.machine.specs.Machine.{order_at_link}
+-- THE CALL that gives a client's open quantity (change request 4): machine's `open_of` of the book that the bytes are. Rests on rules' Keeps and on machine.
+use Rattle.std.specs.Prelude.{ℕ, List, Result, Ok, Err}
+use Rattle.prelude.specs.Cases.{if◌then◌otherwise◌}
+use Rattle.prelude.specs.declared.Refusal.{Refusal}
+use Rattle.prelude.specs.Refusal.{number_of}
+use Rattle.store.specs.Book.{book_of}
 use Rattle.machine.specs.Exchange.{open_of}
-use Rattle.opens.specs.declared.Word.{Word}
+use Rattle.rules.specs.Keeps.{keeps_of}
+use Rattle.opens.specs.declared.Opened.{Opened}
 
--- what is stored for a client: the word of its first order; 0 for a client without orders. The words of other orders, and all bytes behind them, say nothing.
-unfoldable pub stored_open : List ℕ → (client : ℕ) → ℕ
-stored_open b client = maybe 0 (open_at b) (find_client (book_of b) client)
+abbrev pub opened : (refusal quantity : ℕ) → Opened
+opened refusal quantity = record { refusal = refusal; quantity = quantity }
 
--- what is stored for the client of order i is its open quantity
-unfoldable pub open_right : List ℕ → ℕ → Bool
-open_right b i = stored_open b (order_in (book_of b) i).client == open_of (book_of b) (order_in (book_of b) i).client
+-- what a call's answer is to a host
+abbrev pub opened_of : Result ℕ Refusal → Opened
+opened_of (Ok quantity) = opened 0 quantity
+opened_of (Err refusal) = opened (number_of refusal) 0
 
--- THE RULE: so for each order
-unfoldable pub opens_right : List ℕ → Bool
-opens_right b = all_below (open_right b) (order_count b)
-
--- ---- by value, before an event writes: the place of the client's word and what it becomes, where the order of link `place` then has these leaves
-
-abbrev pub word : (at quantity : ℕ) → Word
-word at quantity = record { at = at; quantity = quantity }
-
--- the first order of a client without one is the order that is added
-unfoldable pub opening_of : List ℕ → (place client leaves : ℕ) → Word
-opening_of b place client leaves = record {
-  at = maybe (order_count b) (λ i. i) (find_client (book_of b) client);
-  quantity = maybe leaves (λ i. (load_open b i - leaves_qty (order_at_link (book_of b) place) + leaves) % 2 ^ 64) (find_client (book_of b) client);
-}
+-- the client's open quantity, 0 for a client without orders; 1 if the book does not keep its rules
+unfoldable pub open_call : List ℕ → (client : ℕ) → Opened
+open_call b client = if keeps_of b then opened 0 (open_of (book_of b) client) otherwise opened 1 0

@@ -56,6 +56,7 @@ fn no_requests() -> Requests
     Requests {
         answered: 0,
         superseded: 0,
+        outcome: 0,
         added: 0,
         request: store::no_request(),
     }
@@ -89,17 +90,18 @@ pub fn unchanged(place: u16, o: Order) -> Change
     }
 }
 
-// The request of this link is answered.
+// The request of this link is answered, and comes to this: a number, as in the book.
 #[tactic(auto, unfolding(machine::specs::Changes::answering))]
-pub fn answering(k: u16, c: Change) -> Change
-    ensures { result ≡ answering k c }
+pub fn answering(k: u16, outcome: u8, c: Change) -> Change
+    ensures { result ≡ answering k outcome c }
 {
     let mut out = c;
     out.requests.answered = k;
+    out.requests.outcome = outcome;
     out
 }
 
-// And so is the one that it supersedes.
+// And so is the one that it supersedes, which comes to the same.
 #[tactic(auto, unfolding(machine::specs::Changes::superseding))]
 pub fn superseding(k: u16, c: Change) -> Change
     ensures { result ≡ superseding k c }
@@ -144,11 +146,11 @@ pub fn saying(m: Record, place: u16, o: Order) -> Change
     telling(m, unchanged(place, o))
 }
 
-// The request of this link is answered, and the order at a place stands as it is given.
-pub fn settled(k: u16, place: u16, o: Order) -> Change
-    ensures { result ≡ answering k (unchanged place o) }
+// The request of this link is answered, with this outcome, and the order at a place stands as it is given.
+pub fn settled(k: u16, outcome: u8, place: u16, o: Order) -> Change
+    ensures { result ≡ answering k outcome (unchanged place o) }
 {
-    answering(k, unchanged(place, o))
+    answering(k, outcome, unchanged(place, o))
 }
 
 // On top of a change: a message goes out, a request is added, and the order is given anew.
@@ -228,6 +230,7 @@ pub fn next_request(f: Findings, o: Order, kind: u8, clordid: Text, origclordid:
         clordid,
         origclordid,
         downstream: next_downstream(o),
+        outcome: 0,
     }
 }
 

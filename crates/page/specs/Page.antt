@@ -1,5 +1,5 @@
 -- THE EVENING PAGE of a book (change request 1): a line for each order, as values and as the bytes that are printed; and the call that
--- prints it. Rests on decimal, counted, store's book, machine's `leaves_qty` and opens' `keeps_of`.
+-- prints it. Rests on decimal, counted, store's book, machine's `leaves_qty` and rules' `keeps_of`.
 use Rattle.std.specs.Prelude.{ℕ, ◌-◌, ◌*◌, not, List, [], ◌∷◌, ◌++◌, map, ltb, length, take, replicate}
 use Rattle.std.specs.List.{concat}
 use Rattle.prelude.specs.Cases.{if◌then◌otherwise◌}
@@ -11,7 +11,7 @@ use Rattle.counted.specs.Counted.{refusing, counting}
 use Rattle.store.specs.declared.Order.{Order}
 use Rattle.store.specs.Book.{Book, book_of}
 use Rattle.machine.specs.Orders.{leaves_qty}
-use Rattle.opens.specs.Keeps.{keeps_of}
+use Rattle.rules.specs.Keeps.{keeps_of}
 
 -- ---- what a line says
 
@@ -84,7 +84,7 @@ pub record Paged : Type 0 where
 abbrev pub paged : Counted → List ℕ → Paged
 paged r out = record { returned = r; out = out }
 
--- 1 where the book does not keep its rules, then 8 where the buffer is shorter than 81 bytes for each order: nothing is written.
+-- 1 if the book does not keep its rules, then 8 if the buffer is shorter than 81 bytes for each order: nothing is written.
 -- Else the page stands at the front of the buffer, and its length is returned.
 unfoldable pub page_call : (book out : List ℕ) → Paged
 page_call book out =

@@ -9,12 +9,12 @@ use Rattle.counted.specs.Counted.{refusing, counting}
 use Rattle.store.specs.declared.Order.{Order}
 use Rattle.store.specs.Book.{book_of, order_in, order_count}
 use Rattle.machine.specs.Orders.{leaves_qty}
-use Rattle.opens.specs.Keeps.{keeps_of}
+use Rattle.rules.specs.Keeps.{keeps_of}
 use Rattle.page.specs.Page.{line_feed, line_of, line_bytes, page_of, page_bytes, Paged, paged, page_call}
 
 -- ---- one line
 
--- so many columns show a text: none of it is cut, byte k stands at index k, one below 32 as a blank, and blanks stand behind it
+-- so many columns show a text: none of it is cut, byte k stands at index k, a byte below 32 as a blank, and blanks stand behind it
 pub record Shows (width : ℕ) (bytes : List ℕ) (t : Text) : Type 0 where
   pub long : length bytes ≡ width
   pub uncut : t.len ≤ width
@@ -91,8 +91,8 @@ pub record IsPrinted (book out : List ℕ) (r : Paged) : Type 0 where
   pub page : span r.out 0 (81 * order_count book) ≡ page_bytes (page_of (book_of book))
   pub rest : (k : ℕ) → 81 * order_count book ≤ k → get_or r.out k 0 ≡ get_or out k 0
 
--- 1 for a book that does not keep its rules, 8 for a buffer that is too short, be it by one byte: nothing is written. One that is
--- exactly long enough is taken. And 1 and 8 are returned nowhere else.
+-- 1 for a book that does not keep its rules, 8 for a buffer that is too short, even by one byte: nothing is written. One that is
+-- exactly long enough is taken. And 1 and 8 are returned in no other case.
 pub record IsCall (book out : List ℕ) : Type 0 where
   pub bad : keeps_of book ≡ false → page_call book out ≡ paged (refusing 1) out
   pub short : keeps_of book ≡ true → length out < 81 * order_count book → page_call book out ≡ paged (refusing 8) out

@@ -1,6 +1,6 @@
 // The evening page of a book, printed into a lent buffer: 81 bytes for each order, in booking order.
 // What a page is stands in specs/Page.antt, and what holds of its bytes in specs/Promise.antt. Rests on
-// opens, store, orders' `leaves_qty`, decimal and counted.
+// rules, store, orders' `leaves_qty`, decimal and counted.
 #![tactic(auto)]
 
 ghost use Rattle.std.specs.Prelude.{◌≡◌, ◌+◌, ◌*◌, ◌^◌, ◌≤◌, ◌<◌, ltb, length, get_or};
@@ -12,8 +12,8 @@ ghost use Rattle.counted.specs.Counted.{counted_of};
 ghost use Rattle.page.specs.Page.{printable, left, quantity, line_of, line_bytes, page_of, page_bytes, paged, page_call};
 ghost use Rattle.page.specs.Promise.{InRange};
 
-use opens::Kept;
 use prelude::{Refusal, Text};
+use rules::Kept;
 use store::Order;
 
 // A line, with its line feed.
@@ -70,7 +70,7 @@ fn put_line(s: &mut [u8], o: Order)
     s[80] = b'\n';
 }
 
-// The lines of the book's orders. A line's place by its number: `as_chunks_mut` says nothing of what the slice
+// The lines of the book's orders. A line is placed by its number: `as_chunks_mut` says nothing of what the slice
 // ends as.
 #[tactic(auto, using(crate::specs::Laws::Call::turns))]
 fn put_lines(book: &Kept<'_>, out: &mut [u8])

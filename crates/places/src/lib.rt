@@ -1,4 +1,4 @@
-// Where the fields of a record start, and what each may hold: what of this others may call. Past the
+// Where the fields of a record start, and what each may hold: the part that others may call. Past the
 // last field stands one that takes nothing and holds anything; a record that starts past 65,535 has
 // no places. Rests on `walk` and `reader`.
 #![tactic(auto)]
@@ -101,7 +101,7 @@ pub fn is_text(b: usize) -> bool
     matches!(field_of(b).size, Size::Text)
 }
 
-// The bytes of field b, or 255 for a text: its promise, which `is_text` says plainer.
+// The bytes of field b, or 255 for a text: that is what it promises, and `is_text` says it more plainly.
 pub fn size_of(b: usize) -> usize
     ensures { (result ≡ size b) × (result ≤ 255) × (result < 255 → result ≤ 16) }
 {
@@ -125,8 +125,8 @@ pub fn left_at(s: &[u8], at: usize) -> usize
     reader::left_at(s, at)
 }
 
-// Where each field of the record at o starts, and at 32 where it ends; zeros, and no Option, for one that
-// starts past 65,535: its promise.
+// Where each field of the record at o starts, and at 32 where it ends. Zeros, and no Option, for a record that
+// starts past 65,535: that is what it promises.
 pub fn starts(s: &[u8], map: u32, o: usize) -> [usize; 33]
     ensures { (k : ℕ) → k ≤ 32 → get_or result k 0 ≡ start_from s.now o map k }
 {

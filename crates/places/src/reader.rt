@@ -2,8 +2,8 @@
 // names, so it stands although the walk would do without it. Each function over it takes it apart and calls
 // the core, which has slice and number apart (`walk`). `next_at` and `left_at` stand above
 // them: their parameters are plain, so no caller sees a reader. That a position is below 131,072 stands in
-// the contracts, since no ghost field of the reader could say it: one that has read past a field may stand
-// up to 256 further on, and how far it has come is for the loop of `walk` to say.
+// the contracts, since no ghost field of the reader could say it: a reader that has read past a field may
+// stand up to 256 further on, and how far it has come is for the loop of `walk` to say.
 ghost use Rattle.std.specs.Prelude.{◌≡◌, ◌<◌, ◌+◌, ◌-◌, ◌≤◌, length};
 ghost use Rattle.format.specs.Places.{next};
 

@@ -14,7 +14,7 @@ module _ {A : Type 0} where
   if false then x otherwise y = y
 
 module _ {A B : Type 0} where
-  -- what `f` makes of the value, or `b` where there is none
+  -- what `f` makes of the value, or `b` if there is none
   unfoldable pub maybe : B → (A → B) → Option A → B
   maybe b f None = b
   maybe b f (Some a) = f a

@@ -15,7 +15,7 @@ module _ {A : Type 0} where
   list_below f zero = []
   list_below f (suc n) = list_below f n ++ (f n ∷ [])
 
-  -- every element passes; the place of the first that does; how many do. `d` stands where there is no element
+  -- every element passes; the place of the first that does; how many do. `d` is read past the end
   abbrev pub all_in : A → (A → Bool) → List A → Bool
   all_in d p xs = all_below (λ k. p (get_or xs k d)) (length xs)
 
@@ -62,7 +62,7 @@ module _ {A : Type 0} where
           (e ∙ sym (get_or-set_same (list_below f n) i x x (let l : length (list_below f n) ≡ n = length_list f n in omega arith)))
       go k j (no q) = o k q j ∙ sym (get_or-set_other (list_below f n) i k x x (λ z. q (sym z)) ∙ get_list f x n k j)
 
-  -- one value changed, or none where the place is past the end
+  -- one value changed, or none if the place is past the end
   pub list_set_any : (f g : ℕ → A) (n i : ℕ) (x : A) → (i < n → g i ≡ x) → ((k : ℕ) → (i ≡ k → ⊥) → k < n → g k ≡ f k)
       → list_below g n ≡ set (list_below f n) i x
   list_set_any f g n i x e o = go (dec_lt i n)

@@ -57,7 +57,7 @@ module _ {A : Type 0} where
   those_ext f g [] h = refl
   those_ext f g (x ∷ l) h = ap (λ (t : Bool). if t then x ∷ those f l otherwise those f l) (h x) ∙ ap (λ (y : List A). if g x then x ∷ y otherwise y) (those_ext f g l h)
 
-  -- two lists at the end, in either order where one of them is empty
+  -- two lists at the end, in either order if one of them is empty
   pub append_swap : (x s t : List A) → (s ≡ []) ⊎ (t ≡ []) → (x ++ s) ++ t ≡ (x ++ t) ++ s
   append_swap x s t (inl e) = ap (λ (y : List A). (x ++ y) ++ t) e ∙ ap (λ (y : List A). y ++ t) (append-nil x) ∙ sym (ap (λ (y : List A). (x ++ t) ++ y) e ∙ append-nil (x ++ t))
   append_swap x s t (inr e) = ap (λ (y : List A). (x ++ s) ++ y) e ∙ append-nil (x ++ s) ∙ sym (ap (λ (y : List A). (x ++ y) ++ s) e ∙ ap (λ (y : List A). y ++ s) (append-nil x))

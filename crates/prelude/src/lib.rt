@@ -13,8 +13,8 @@ pub struct Text {
 }
 
 // What is ordered. A limit order has a price; a market order's is 0. A time in force that is not
-// given is 0. In a replace event a type that is not given is 0. Bytes as records and books hold them, in
-// which any may stand: numbers, no enum.
+// given is 0. In a replace event a type that is not given is 0. The fields are bytes as records and books
+// hold them: any byte may stand in them, so they are numbers and no enum.
 #[derive(Clone, Copy, Debug, PartialEq, Eq)]
 pub struct Terms {
     pub side: u8,

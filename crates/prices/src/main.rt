@@ -62,7 +62,7 @@ impl Vector {
     }
 }
 
-// What was counted; a count stays at the most that it can be.
+// What was counted; a count that has reached the most it can be stays there.
 #[derive(Clone, Copy, Default)]
 struct Tally {
     vectors: u64,

@@ -12,7 +12,7 @@ use Rattle.records.specs.declared.Record.{Record}
 
 -- ---- written
 
--- the number of each bit, of a text its length, of the fill price its low word; 0 where a bit has no field
+-- the number of each bit, of a text its length, of the fill price its low word; 0 if a bit has no field
 abbrev pub numbers_of : Record → List ℕ
 numbers_of r =
     r.client

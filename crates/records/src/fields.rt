@@ -1,5 +1,5 @@
 // Numbers and texts as bytes: a number and a text written. Slice and position come one by one, here and in `put`,
-// as in decimal: a struct of both would be made anew for each field, which goes on where the last one ended.
+// as in decimal: a struct of both would be made anew for each field, which starts where the last one ended.
 // Rests on the kit's library.
 ghost use Rattle.std.specs.Prelude.{◌≡◌, ◌∷◌, ◌<◌, ◌+◌, ◌≤◌, length};
 ghost use Rattle.prelude.specs.Span.{splice};

@@ -33,9 +33,9 @@ const ALARM: usize = 3;
 
 const ALARM2: usize = 4;
 
-// A text of at most 64 bytes: the bytes, zeros after the text, and its length. A type of its own beside
-// `Text`, which is a form that docs/SCOPE.md names and of 32 bytes: one type of both would be another for
-// everything that names it.
+// A text of at most 64 bytes: the bytes, zeros after the text, and its length. It is a type of its own beside
+// `Text`, which docs/SCOPE.md names and which has 32 bytes: one type for both would change everything that
+// names `Text`.
 #[derive(Clone, Copy)]
 pub struct LongText {
     pub bytes: [u8; 64],
@@ -214,8 +214,9 @@ fn put_messages(dst: &mut [u8], messages: &Messages) -> usize
     }
 }
 
-// Writes an answer, and returns its length; nothing, and 0, where the buffer has not 1,024 bytes. 0 and no
-// Result: `write_answer`, which C's answers go through, promises 0, and would turn the Result back.
+// Writes an answer, and returns its length; writes nothing, and returns 0, if the buffer is shorter than 1,024
+// bytes. 0 and no Result: `write_answer`, which C's answers go through, promises 0, and would turn the Result
+// back.
 pub fn write(answer: &mut [u8], read: &Answer) -> u32
     ensures { (result ≡ (if leb 1024 (length answer.old) then length (answer_bytes read.now.alarm read.now.alarm2 (messages_of read.now.messages)) otherwise 0)) × (answer.new ≡ (if leb 1024 (length answer.old) then splice answer.old 0 (answer_bytes read.now.alarm read.now.alarm2 (messages_of read.now.messages)) otherwise answer.old)) }
 {
@@ -228,8 +229,8 @@ pub fn write(answer: &mut [u8], read: &Answer) -> u32
     end as u32
 }
 
-// Writes an answer of at most two messages, as `write` does. A count with two records, as the first version
-// had it: any byte may stand in the count.
+// Writes an answer of at most two messages, as `write` does. It takes a count with two records, as the first
+// version did: any byte may stand in the count.
 pub fn write_answer(
     answer: &mut [u8],
     alarm: u8,

@@ -64,7 +64,7 @@ fn text_of(ids: &Ids, b: u32) -> &Text
     }
 }
 
-// Writes the text that stands at the front of these bytes, at most as many as they are.
+// Writes the text that stands at the front of these bytes, and no more than all of them.
 fn put_front(dst: &mut [u8], at: usize, bytes: &[u8], len: u8) -> usize
     requires { at + 1 + length (take len bytes.now) ≤ length dst.old }
     ensures { (result ≡ at + 1 + length (take len bytes.now)) × (dst.new ≡ splice dst.old at (length (take len bytes.now) ∷ take len bytes.now)) }

@@ -21,7 +21,7 @@ fn value_of(b: u8, field: &[u8]) -> u64
     words::get64(field)
 }
 
-// The number in field b, 0 where its bit does not stand, if it is in range. A Result and no Option, of one
+// The number in field b, if it is in range; 0 if its bit does not stand. A Result and no Option, of one
 // refusal, here and for those above: each hands it on by `?`, and would have to name it instead.
 fn checked(map: u32, b: u8, field: &[u8]) -> Result<u64, Refusal>
     ensures ok { IfOk result (λ v. (right_field map b field.now ≡ true) × (v ≡ held_field map b field.now)) }

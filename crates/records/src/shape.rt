@@ -78,7 +78,7 @@ impl<'a> Shape<'a> {
         self.at[32]
     }
 
-    // The bytes of field b, none where its bit does not stand. By `as`: std has no `From<u32>` for usize.
+    // The bytes of field b, none if its bit does not stand. By `as`: std has no `From<u32>` for usize.
     pub(crate) fn field(&self, b: u32) -> &'a [u8]
         requires { b < 32 }
         ensures { result.now ≡ between self.now.bytes.now self.now.at b }

@@ -1,5 +1,5 @@
-// Replays stored days from standard input (tests/replay/README.md has the format) and holds every
-// refusal and every byte of every answer buffer to what is stored. Rests on gateway, store and input.
+// Replays stored days from standard input (tests/replay/README.md has the format) and compares every
+// refusal and every byte of every answer buffer with what is stored. Rests on gateway, store and input.
 #![tactic(auto)]
 
 ghost use Rattle.std.specs.Prelude.{◌≤◌, IfOk, length};

@@ -20,7 +20,7 @@ use machine::{Change, Note, Refused};
 use orders::alarm::Alarm;
 use orders::{Known, change, message, order, reasons};
 use records::Record;
-use store::{Order, Request};
+use store::{Order, Request, outcomes};
 use wide::Priced;
 
 // OrdRejReason(103): unknown order. A constant, since a venue may give any number.
@@ -267,18 +267,18 @@ fn client_report(known: &Known, rise: u64, price: Priced, left: Order, e: Record
     message::report(left, clordid, origclordid, exectype, rise, price, n)
 }
 
-// The requests that the report answers: an accepted replace and the one that it supersedes, or a
-// cancel that was Canceled.
+// The requests that the report answers, which are accepted: a replace and the one that it supersedes,
+// or a cancel that was Canceled.
 #[tactic(auto, unfolding(machine::specs::Report::settles), using(orders::specs::Laws::Choices::choices))]
 fn settles(accepted: bool, s: u8, known: &Known, c: Change) -> Change
     ensures { result ≡ settles accepted s known.now.link known.now.request known.now.order c }
 {
     if accepted {
-        let answered = change::answering(known.link, c);
+        let answered = change::answering(known.link, outcomes::ACCEPTED, c);
         return change::superseding(known.order.links.current, answered);
     }
     if change::is_cancel(known.request) && s == codes::CANCELED {
-        return change::answering(known.link, c);
+        return change::answering(known.link, outcomes::ACCEPTED, c);
     }
     c
 }
@@ -331,6 +331,7 @@ fn rejection(e: Record) -> Refused
         },
         venueorderid: e.ids.venueorderid,
         note,
+        outcome: outcomes::REFUSED,
     }
 }
 

@@ -1,4 +1,4 @@
--- Proof text: the rules on bytes, as they are decided, and that they are the rules of the book.
+-- Proof text: the rules on bytes, as they are decided, that they are the rules of the book, and what a caller has.
 pub mod Places
 pub mod Beside
 pub mod Here
@@ -7,3 +7,4 @@ pub mod Spread
 pub mod Suffix
 pub mod Things
 pub mod Ruled
+pub mod Keeps

@@ -1,2 +1,2 @@
-pub mod Ruled
+pub mod Keeps
 pub mod Laws

@@ -1,29 +1,15 @@
-// What stands beside one request, in place: its outcome beside its mark, and its OrigClOrdID
-// with the link beside it. A struct of request and order would be made and taken apart again for each
-// request, as in `numbers`. Rests on outcomes and cells.
-ghost use Rattle.std.specs.Prelude.{◌≡◌, ℕ, ◌<◌, true, ◌&&◌};
+// One request's OrigClOrdID, in place, with the link that stands beside it. A struct of request and order
+// would be made and taken apart again for each request, as in `numbers`. Rests on cells.
+ghost use Rattle.std.specs.Prelude.{◌≡◌, ℕ, ◌<◌, true};
 ghost use Rattle.prelude.specs.Texts.{is_text};
 ghost use Rattle.store.specs.Layout.{most_requests};
-ghost use Rattle.store.specs.Book.{request_at, outcome_at};
-ghost use Rattle.outcomes.specs.Outcomes.{outcome_rule};
+ghost use Rattle.store.specs.Book.{request_at};
 ghost use Rattle.rules.specs.Laws.Beside.{link_at};
 ghost use Rattle.rules.specs.Laws.Origin.{origin_here};
 
 use crate::cells::{filled, same_at, u16_at};
 use store::kinds;
 use store::layout::{self, Bytes};
-
-// Outcome 0 exactly where request k is unanswered, and at most 3.
-#[tactic(auto, using(crate::proofs::Fields::request_fields, crate::specs::Laws::Beside::outcome_mark), unfolding(machine::specs::Changes::is_answered, outcomes::specs::Outcomes::outcome_rule))]
-fn outcome_ok(book: &Bytes, k: usize) -> bool
-    requires { k < most_requests }
-    ensures { result ≡ outcome_rule (request_at book.now k) (outcome_at book.now k) }
-{
-    let at = layout::REQUESTS + k * layout::REQUEST;
-    let outcome = book[at + layout::REQUEST_OUTCOME];
-    let open = book[at + layout::REQUEST_ANSWERED] == 0;
-    ((outcome == 0) == open) & (outcome <= outcomes::FAILED_TO_SEND)
-}
 
 // The link of request k of order o, which has an OrigClOrdID.
 #[tactic(auto, using(crate::proofs::Fields::request_fields), unfolding(crate::specs::Laws::Beside::link_at))]
@@ -51,7 +37,7 @@ fn link_ok(book: &Bytes, k: usize, o: usize, link: u16) -> bool
 // The OrigClOrdID of request k of order o. One that is there is the same as a ClOrdID before it, which is
 // in range, and so needs no look at its own zeros.
 #[tactic(auto, using(crate::proofs::Fields::request_fields, crate::specs::Laws::Origin::origin_empty, crate::specs::Laws::Origin::origin_absent, crate::specs::Laws::Origin::origin_linked, crate::specs::Laws::Origin::linked_text), unfolding(machine::specs::Changes::is_first, machine::specs::Changes::is_gateway, crate::specs::Laws::Origin::origin_here))]
-fn origin_ok(book: &Bytes, k: usize, o: usize) -> bool
+pub(crate) fn origin_ok(book: &Bytes, k: usize, o: usize) -> bool
     requires { (k < most_requests) × ((request_at book.now k).order ≡ o) × ((i : ℕ) → i < k → is_text (request_at book.now i).clordid ≡ true) }
     ensures { result ≡ origin_here book.now k }
 {
@@ -62,12 +48,4 @@ fn origin_ok(book: &Bytes, k: usize, o: usize) -> bool
         return filled(book, at + layout::REQUEST_ORIGCLORDID) & absent;
     }
     !absent && link_ok(book, k, o, u16_at(book, at + layout::REQUEST_ORIGIN))
-}
-
-// What stands beside request k of order o is right, and its OrigClOrdID in range.
-pub(crate) fn beside_ok(book: &Bytes, k: usize, o: usize) -> bool
-    requires { (k < most_requests) × ((request_at book.now k).order ≡ o) × ((i : ℕ) → i < k → is_text (request_at book.now i).clordid ≡ true) }
-    ensures { result ≡ outcome_rule (request_at book.now k) (outcome_at book.now k) && origin_here book.now k }
-{
-    outcome_ok(book, k) && origin_ok(book, k, o)
 }

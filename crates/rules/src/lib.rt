@@ -1,24 +1,25 @@
-// The rules of the book that a buffer is and what stands beside its requests, decided in place: one
-// function, which is total and writes nothing. With the open quantities behind the tables, `opens::keeps`
-// has all the book's rules. Rests on machine's and outcomes' definitions of the rules, on store's layout,
-// and on text, words, bits and format. Its cost grows with the records in use. A test of a few fields joins
-// its parts by `&` and `|`, which no branch goes with; `&&` and `||` stand where a part costs more than a branch.
-// That an index is of a record, or a number below 1,000, stands in the contracts: a type for it would be
-// made at each turn of a loop and taken apart for each byte.
+// The rules of the book that a buffer is, decided in place: `keeps`, and a book that is known to keep
+// them, `Kept`. Rests on machine's definitions of the rules and on index's of what is stored to be found
+// quickly, on store's layout, and on text, words, bits and format. Its cost grows with the records in use. A
+// test of a few fields joins its parts by `&` and `|`, which no branch goes with; `&&` and `||` stand where a
+// part costs more than a branch. That an index is of a record, or a number below 1,000, stands in the
+// contracts: a type for it would be made at each turn of a loop and taken apart for each byte.
 #![tactic(auto)]
 
 ghost use Rattle.std.specs.Prelude.{◌≡◌, ◌&&◌};
-ghost use Rattle.outcomes.specs.Outcomes.{outcomes_right};
-ghost use Rattle.rules.specs.Ruled.{ruled_of};
+ghost use Rattle.index.specs.Index.{links_right};
+ghost use Rattle.rules.specs.Keeps.{ruled_of, keeps_of};
 ghost use Rattle.rules.specs.Laws.Ruled.{decided};
 
 use book::Book;
 use cells::u16_at;
 use distinct::{Keys, Names};
+use index::Ruled;
 use store::layout;
 
-mod beside; // what stands beside a request
+mod beside; // an OrigClOrdID and its link
 mod book; // the bytes, and the counts of what is in use
+mod checked; // a book that is known to keep its rules
 mod distinct; // names and ClOrdIDs are distinct
 mod links; // an order's links and counts
 mod numbered; // a name with a number
@@ -26,6 +27,8 @@ mod numbers; // requests
 mod cells; // words and texts at an index
 mod ranges; // fields in their ranges
 mod status; // a done status
+
+pub use checked::Kept;
 
 // The rules of the orders and requests in use, one after the other.
 #[tactic(auto, using(crate::specs::Laws::Things::names_placed, crate::specs::Laws::Things::keys_placed), unfolding(crate::specs::Laws::Ruled::decided))]
@@ -43,10 +46,10 @@ fn decide(book: &Book<'_>) -> bool
         && distinct::distinct::<Keys>(book.bytes, book.requests)
 }
 
-// Whether the book that the bytes are keeps its rules, the length and the counts included, and what
-// stands beside its requests is right.
-pub fn ruled(book: &[u8]) -> bool
-    ensures { result ≡ ruled_of book.now && outcomes_right book.now }
+// Whether the book that the bytes are keeps machine's rules, the length and the counts included, and its
+// OrigClOrdIDs' links are right.
+fn ruled(book: &[u8]) -> bool
+    ensures { result ≡ ruled_of book.now && links_right book.now }
 {
     let Some(bytes) = book.as_array::<{ layout::BOOK }>() else {
         return false;
@@ -61,4 +64,15 @@ pub fn ruled(book: &[u8]) -> bool
         orders,
         requests,
     })
+}
+
+// Whether the book keeps its rules: machine's and the OrigClOrdIDs' links, then the open quantities.
+#[tactic(auto, using(crate::specs::Laws::Keeps::decides))]
+pub fn keeps(book: &[u8]) -> bool
+    ensures { result ≡ keeps_of book.now }
+{
+    let Some(bytes) = book.as_array() else {
+        return false;
+    };
+    ruled(book) && Ruled { bytes }.opens_right()
 }

@@ -1,5 +1,5 @@
-// One request: its fields' ranges, its order, its number among its order's, a gateway cancel in
-// flight, and what stands beside it. Rests on store's marks, beside, numbered, status and cells.
+// One request: its fields' ranges, its outcome, its order, its number among its order's, a gateway cancel
+// in flight, and its OrigClOrdID's link. Rests on store's marks, beside, numbered, status and cells.
 // A struct of book, request, order and number would be made and taken apart again for each request.
 ghost use Rattle.std.specs.Prelude.{◌≡◌, ℕ, ◌+◌, ◌<◌, ◌≤◌, true, false, ◌&&◌, MatchOption};
 ghost use Rattle.prelude.specs.Below.{all_below};
@@ -8,18 +8,18 @@ ghost use Rattle.prelude.specs.Texts.{text_at, is_text, same_text};
 ghost use Rattle.store.specs.Layout.{book_size, most_orders, most_requests};
 ghost use Rattle.store.specs.Book.{order_at, request_at};
 ghost use Rattle.machine.specs.Ranges.{text_within, name_range};
-ghost use Rattle.machine.specs.Rules.{name_number, number_rule, in_flight_rule};
+ghost use Rattle.machine.specs.Rules.{outcome_rule, name_number, number_rule, in_flight_rule};
 ghost use Rattle.rules.specs.Laws.Beside.{beside_at};
 ghost use Rattle.rules.specs.Laws.Here.{range_at, sent_rule, request_here, pass_at, IsPass};
 ghost use Rattle.rules.specs.Laws.Origin.{fields_range};
 
-use crate::beside::beside_ok;
+use crate::beside::origin_ok;
 use crate::book::Book;
 use crate::cells::{filled, same_at, u16_at};
 use crate::numbered::numbered;
 use crate::status::is_done;
 use store::layout::{self, Bytes};
-use store::{kinds, stuck_of, unsent_of};
+use store::{kinds, outcomes, stuck_of, unsent_of};
 
 // A text that is there exactly where it is not absent, zeros after it.
 fn optional(book: &Bytes, at: usize, absent: bool) -> bool
@@ -29,7 +29,7 @@ fn optional(book: &Bytes, at: usize, absent: bool) -> bool
     filled(book, at) && (book[at + layout::TEXT_LEN] == 0) == absent
 }
 
-// Every field but the OrigClOrdID, which goes with its link, is in its range.
+// Every field is in its range but the OrigClOrdID, which goes with its link, and the outcome.
 #[tactic(auto, using(crate::proofs::Fields::request_fields), unfolding(machine::specs::Changes::is_gateway, crate::specs::Laws::Origin::fields_range))]
 fn fields_ok(book: &Bytes, j: usize) -> bool
     requires { j < most_requests }
@@ -40,6 +40,18 @@ fn fields_ok(book: &Bytes, j: usize) -> bool
     (kind <= kinds::GATEWAY)
         & (book[at + layout::REQUEST_ANSWERED] <= 1)
         & optional(book, at + layout::REQUEST_CLORDID, kind == kinds::GATEWAY)
+}
+
+// Outcome 0 exactly where request j is unanswered, and at most 3.
+#[tactic(auto, using(crate::proofs::Fields::request_fields, crate::specs::Laws::Here::outcome_mark), unfolding(machine::specs::Changes::is_answered, machine::specs::Rules::outcome_rule))]
+fn outcome_ok(book: &Bytes, j: usize) -> bool
+    requires { j < most_requests }
+    ensures { result ≡ outcome_rule (request_at book.now j) }
+{
+    let at = layout::REQUESTS + j * layout::REQUEST;
+    let outcome = book[at + layout::REQUEST_OUTCOME];
+    let open = book[at + layout::REQUEST_ANSWERED] == 0;
+    ((outcome == 0) == open) & (outcome <= outcomes::FAILED_TO_SEND)
 }
 
 // Whether the downstream ClOrdID is the name with the number k.
@@ -95,13 +107,17 @@ fn flight_ok(book: &Bytes, j: usize, o: usize) -> bool
         || sent_ok(book, j, o)
 }
 
-// Request j, the k-th of order o, and what stands beside it. The ClOrdIDs before it are in range.
+// Request j, the k-th of order o, and its OrigClOrdID's link. The ClOrdIDs before it are in range.
 #[tactic(auto, using(crate::specs::Laws::Origin::request_parts))]
 fn request_ok(book: &Bytes, j: usize, o: usize, k: u16) -> bool
     requires { (j < most_requests) × (o < most_orders) × (k < 1000) × (name_range (order_at book.now o).names.name ≡ true) × ((request_at book.now j).order ≡ o) × ((i : ℕ) → i < j → is_text (request_at book.now i).clordid ≡ true) }
     ensures { result ≡ request_here book.now j o k && beside_at book.now j }
 {
-    fields_ok(book, j) && number_ok(book, j, o, k) && flight_ok(book, j, o) && beside_ok(book, j, o)
+    fields_ok(book, j)
+        && outcome_ok(book, j)
+        && number_ok(book, j, o, k)
+        && flight_ok(book, j, o)
+        && origin_ok(book, j, o)
 }
 
 // How many requests each order has, if each request in use keeps its rules and is of an order in use.

@@ -1,5 +1,5 @@
 -- What the entries `start`, `event` and `check` of gateway do, on bytes: what each returns and what it leaves in each buffer that it is lent.
--- Rests on opens (`keeps_of`), outcomes (`outcome_by`, `origin_of`), records (`event_in`, `answer_bytes`), machine (`step_of`) and store (the book in its bytes).
+-- Rests on rules (`keeps_of`), index (`origin_of`), records (`event_in`, `answer_bytes`), machine (`step_of`) and store (the book in its bytes).
 use Rattle.std.specs.Prelude.{ℕ, ◌-◌, not, List, eqb, leb, ltb, length}
 use Rattle.prelude.specs.Cases.{if◌then◌otherwise◌, maybe}
 use Rattle.prelude.specs.Span.{splice}
@@ -10,12 +10,12 @@ use Rattle.store.specs.Book.{Book, is_book, order_count, book_of, store_order, a
 use Rattle.store.specs.Finds.{find_client}
 use Rattle.machine.specs.declared.Requests.{Requests}
 use Rattle.machine.specs.declared.Change.{Change}
-use Rattle.machine.specs.Changes.{Event, refusing}
+use Rattle.machine.specs.Changes.{refusing}
 use Rattle.machine.specs.Machine.{after, step_of}
 use Rattle.machine.specs.Exchange.{open_of}
 use Rattle.machine.specs.History.{messages_of}
-use Rattle.outcomes.specs.Outcomes.{outcome_by, origin_of}
-use Rattle.opens.specs.Keeps.{keeps_of}
+use Rattle.index.specs.Index.{origin_of}
+use Rattle.rules.specs.Keeps.{keeps_of}
 use Rattle.format.specs.Refusal.{event_refusal}
 
 -- ---- a change written into the bytes of a book
@@ -31,10 +31,10 @@ place_order b place o =
 unfoldable pub mark_link : List ℕ → (link outcome : ℕ) → List ℕ
 mark_link b link outcome = if eqb link 0 then b otherwise mark_answered b (link - 1) outcome
 
--- the requests settled have the outcome, and the one added has the origin beside it
-unfoldable pub place_requests : List ℕ → (outcome origin : ℕ) → Requests → List ℕ
-place_requests b outcome origin r =
-    let marked : List ℕ = mark_link (mark_link b r.answered outcome) r.superseded outcome in
+-- the requests settled have their outcome, and the one added has the origin beside it
+unfoldable pub place_requests : List ℕ → (origin : ℕ) → Requests → List ℕ
+place_requests b origin r =
+    let marked : List ℕ = mark_link (mark_link b r.answered r.outcome) r.superseded r.outcome in
     if eqb r.added 0 then marked otherwise add_request marked origin r.request
 
 -- the order's client has its open quantity, in the book as it is left, in the word of its first order there; no other word is written
@@ -43,13 +43,12 @@ place_open b left place client =
     if eqb place 0 then b
     otherwise maybe b (λ i. store_open b i (open_of left client)) (find_client left client)
 
--- the change that an event makes, in the tables. What it settles comes to `outcome_by`, and what it adds has the link of the request that its OrigClOrdID names.
-unfoldable pub tables_with : List ℕ → Event → Change → List ℕ
-tables_with b e c =
-    place_requests (place_order b c.place c.order) (outcome_by e) (origin_of b c.order.client c.requests.request.origclordid) c.requests
+-- the change that an event makes, in the tables. What it adds has the link of the request that its OrigClOrdID names.
+unfoldable pub tables_with : List ℕ → Change → List ℕ
+tables_with b c = place_requests (place_order b c.place c.order) (origin_of (book_of b) c.order.client c.requests.request.origclordid) c.requests
 
-unfoldable pub book_with : List ℕ → Event → Change → List ℕ
-book_with b e c = place_open (tables_with b e c) (after (book_of b) c) c.place c.order.client
+unfoldable pub book_with : List ℕ → Change → List ℕ
+book_with b c = place_open (tables_with b c) (after (book_of b) c) c.place c.order.client
 
 -- ---- the entries
 
@@ -74,7 +73,7 @@ call_of b r room =
 unfoldable pub event_of : (book event answer : List ℕ) → Outcome
 event_of b r a =
     let c = call_of b r (length a) in
-    if eqb c.refusal 0 then outcome 0 (book_with b (event_in r) c) (splice a 0 (answer_bytes c.output.alarm c.output.alarm2 (messages_of c)))
+    if eqb c.refusal 0 then outcome 0 (book_with b c) (splice a 0 (answer_bytes c.output.alarm c.output.alarm2 (messages_of c)))
     otherwise outcome c.refusal b a
 
 -- `start`: zeros but for the setting, or nothing where the length is another

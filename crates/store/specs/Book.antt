@@ -87,25 +87,19 @@ unfoldable pub add_request : List ℕ → (origin : ℕ) → Request → List �
 add_request b origin r =
     if is_book b && ltb (request_count b) most_requests then set_count (put_request b (request_count b) origin r) header·requests (request_count b + 1) otherwise b
 
--- beside the request's fields, no part of the book that the bytes are: what came of it, and its origin
-abbrev pub outcome_at : List ℕ → ℕ → ℕ
-outcome_at b i = get_or b (request_base i + request·outcome) 0
-
+-- beside the request's fields, no part of the book that the bytes are: its origin
 abbrev pub origin_at : List ℕ → ℕ → ℕ
 origin_at b i = word16 b (request_base i + request·origin)
-
-unfoldable pub load_outcome : List ℕ → ℕ → ℕ
-load_outcome b i = if is_book b && ltb i most_requests then outcome_at b i otherwise 0
 
 unfoldable pub load_origin : List ℕ → ℕ → ℕ
 load_origin b i = if is_book b && ltb i most_requests then origin_at b i otherwise 0
 
 -- an outcome is set once, for good: a request that is answered keeps the one that it has
-unfoldable pub settled_as : List ℕ → ℕ → (outcome : ℕ) → ℕ
-settled_as b i outcome = if eqb (request_at b i).answered 0 then outcome otherwise outcome_at b i
+abbrev pub settled_as : (outcome : ℕ) → Request → ℕ
+settled_as outcome r = if eqb r.answered 0 then outcome otherwise r.outcome
 
 abbrev pub settle : List ℕ → ℕ → (outcome : ℕ) → List ℕ
-settle b i outcome = splice (splice b (request_base i + request·answered) (1 ∷ [])) (request_base i + request·outcome) (settled_as b i outcome ∷ [])
+settle b i outcome = splice (splice b (request_base i + request·answered) (1 ∷ [])) (request_base i + request·outcome) (settled_as outcome (request_at b i) ∷ [])
 
 unfoldable pub mark_answered : List ℕ → ℕ → (outcome : ℕ) → List ℕ
 mark_answered b i outcome = if is_book b && ltb i most_requests then settle b i outcome otherwise b
@@ -141,11 +135,11 @@ plus_order b o = record { setting = b.setting; orders = b.orders ++ (o ∷ []); 
 abbrev pub plus_request : Book → Request → Book
 plus_request b r = record { setting = b.setting; orders = b.orders; requests = b.requests ++ (r ∷ []) }
 
-abbrev pub answered : Request → Request
-answered r = record { order = r.order; kind = r.kind; answered = 1; clordid = r.clordid; origclordid = r.origclordid; downstream = r.downstream }
+abbrev pub answered : (outcome : ℕ) → Request → Request
+answered outcome r = record { order = r.order; kind = r.kind; answered = 1; clordid = r.clordid; origclordid = r.origclordid; downstream = r.downstream; outcome = settled_as outcome r }
 
-abbrev pub with_answered : Book → ℕ → Book
-with_answered b i = with_request b i (answered (request_in b i))
+abbrev pub with_answered : Book → ℕ → (outcome : ℕ) → Book
+with_answered b i outcome = with_request b i (answered outcome (request_in b i))
 
 abbrev pub empty_book : ℕ → Book
 empty_book setting = record { setting = setting; orders = []; requests = [] }

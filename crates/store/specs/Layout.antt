@@ -164,9 +164,9 @@ request·origclordid = 37
 abbrev pub request·downstream : ℕ
 request·downstream = 70
 
--- beside the fields, and no part of the book that the bytes are: what came of the request, and the link of the one that its OrigClOrdID names
 abbrev pub request·outcome : ℕ
 request·outcome = 103
 
+-- beside the fields, and no part of the book that the bytes are: the link of the request that the OrigClOrdID names
 abbrev pub request·origin : ℕ
 request·origin = 104

@@ -5,7 +5,7 @@ use Rattle.prelude.specs.Number.{word16, bytes_of}
 use Rattle.prelude.specs.Texts.{text_at, WholeText}
 use Rattle.text.specs.Words.{no_text}
 use Rattle.store.specs.declared.Request.{Request}
-use Rattle.store.specs.Layout.{request·order, request·kind, request·answered, request·clordid, request·origclordid, request·downstream}
+use Rattle.store.specs.Layout.{request·order, request·kind, request·answered, request·clordid, request·origclordid, request·downstream, request·outcome}
 use Rattle.store.specs.Cells.{text_bytes}
 
 unfoldable pub decode_request : List ℕ → Request
@@ -16,6 +16,7 @@ decode_request s = record {
   clordid = text_at s request·clordid;
   origclordid = text_at s request·origclordid;
   downstream = text_at s request·downstream;
+  outcome = get_or s request·outcome 0;
 }
 
 -- the same, field by field, as the code gives it
@@ -26,14 +27,15 @@ pub record IsRequest (s : List ℕ) (r : Request) : Type 0 where
   pub clordid : r.clordid ≡ text_at s request·clordid
   pub origclordid : r.origclordid ≡ text_at s request·origclordid
   pub downstream : r.downstream ≡ text_at s request·downstream
+  pub outcome : r.outcome ≡ get_or s request·outcome 0
 
--- behind the fields: an outcome of 0, the origin, and 22 bytes that are written as zeros and never read
+-- behind the fields: the origin, and 22 bytes that are written as zeros and never read
 abbrev pub beside_bytes : (origin : ℕ) → List ℕ
-beside_bytes origin = 0 ∷ (bytes_of 2 origin ++ replicate 22 0)
+beside_bytes origin = bytes_of 2 origin ++ replicate 22 0
 
 -- the widths of a record's pieces, 128 bytes in all, and the pieces
 abbrev pub widths_request : List ℕ
-widths_request = 2 ∷ 1 ∷ 1 ∷ 33 ∷ 33 ∷ 33 ∷ 25 ∷ []
+widths_request = 2 ∷ 1 ∷ 1 ∷ 33 ∷ 33 ∷ 33 ∷ 1 ∷ 24 ∷ []
 
 abbrev pub pieces_request : (origin : ℕ) → Request → List (List ℕ)
 pieces_request origin r =
@@ -43,6 +45,7 @@ pieces_request origin r =
     ∷ text_bytes r.clordid
     ∷ text_bytes r.origclordid
     ∷ text_bytes r.downstream
+    ∷ (r.outcome ∷ [])
     ∷ beside_bytes origin
     ∷ []
 
@@ -51,7 +54,7 @@ encode_request origin r = concat (pieces_request origin r)
 
 -- the record of zeros
 abbrev pub no_request : Request
-no_request = record { order = 0; kind = 0; answered = 0; clordid = no_text; origclordid = no_text; downstream = no_text }
+no_request = record { order = 0; kind = 0; answered = 0; clordid = no_text; origclordid = no_text; downstream = no_text; outcome = 0 }
 
 -- numbers fit their widths and texts have 32 bytes: so every value of the type, and every record that is written is read back
 pub record WholeRequest (r : Request) : Type 0 where
@@ -61,3 +64,4 @@ pub record WholeRequest (r : Request) : Type 0 where
   pub clordid : WholeText r.clordid
   pub origclordid : WholeText r.origclordid
   pub downstream : WholeText r.downstream
+  pub outcome : r.outcome < 256

@@ -111,7 +111,7 @@ pub const REQUEST_ORIGCLORDID: usize = 37;
 
 pub const REQUEST_DOWNSTREAM: usize = 70;
 
-// Beside the fields: what came of the request, and the link of the one that its OrigClOrdID names.
 pub const REQUEST_OUTCOME: usize = 103;
 
+// Beside the fields: the link of the request that the OrigClOrdID names.
 pub const REQUEST_ORIGIN: usize = 104;

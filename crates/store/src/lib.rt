@@ -8,7 +8,7 @@ ghost use Rattle.prelude.specs.Span.{span};
 ghost use Rattle.store.specs.Layout.{book_size, orders_at, most_orders, most_requests, request_size, request_base};
 ghost use Rattle.store.specs.Orders.{no_gateway, no_pending, no_order};
 ghost use Rattle.store.specs.Requests.{no_request};
-ghost use Rattle.store.specs.Book.{is_book, put_order, count_at, order_count, request_count, setting_of, load_order, store_order, add_order, load_request, add_request, mark_answered, load_outcome, load_origin, load_open, store_open, clear_book};
+ghost use Rattle.store.specs.Book.{is_book, put_order, count_at, order_count, request_count, setting_of, load_order, store_order, add_order, load_request, add_request, mark_answered, load_origin, load_open, store_open, clear_book};
 
 use cells::{u16_at, u32_at};
 use prelude::{Terms, Text};
@@ -18,6 +18,7 @@ mod finds; // lookups
 pub mod kinds; // the kinds of requests
 pub mod layout; // where everything stands
 mod orders; // the record of an order
+pub mod outcomes; // what requests come to
 mod requests; // the record of a request
 
 pub use finds::{count_clordids, find_client, find_clordid, find_downstream, find_name};
@@ -91,7 +92,8 @@ pub struct Order {
 
 // A request sent to a venue (the Rust's `Sent`), by the index of its order. `kind` is one of `kinds`:
 // a gateway's cancel has no ClOrdID, a client's cancel or replace has an OrigClOrdID. `answered` is 0
-// or 1 in a book that keeps its rules. Any byte may stand in both: numbers, no enum and no bool.
+// or 1 in a book that keeps its rules, and `outcome` is what came of it, 0 while it is open, else one of
+// `outcomes`. Any byte may stand in the three: numbers, no enum and no bool.
 #[derive(Clone, Copy, Debug, PartialEq, Eq)]
 pub struct Request {
     pub order: u16,
@@ -100,6 +102,7 @@ pub struct Request {
     pub clordid: Text,
     pub origclordid: Text,
     pub downstream: Text,
+    pub outcome: u8,
 }
 
 // The zeros are constants, with every field, and no derived `Default`: of an array std says that each item is a
@@ -171,6 +174,7 @@ pub const NO_REQUEST: Request = Request {
     clordid: NO_TEXT,
     origclordid: NO_TEXT,
     downstream: NO_TEXT,
+    outcome: 0,
 };
 
 pub fn no_pending() -> Pending
@@ -316,13 +320,6 @@ pub fn add_request(book: &mut [u8], origin: u16, r: Request)
         // At most 256: by `as`, which is proved to lose nothing.
         cells::put16(book, layout::REQUEST_COUNT, (n + 1) as u16);
     }
-}
-
-// What came of request i, or 0 where there is no such record.
-pub fn load_outcome(book: &[u8], i: usize) -> u8
-    ensures { result ≡ load_outcome book.now i }
-{
-    request_record(book, i).map_or(0, |bytes| bytes[layout::REQUEST_OUTCOME])
 }
 
 // The origin of request i, or 0 where there is no such record.

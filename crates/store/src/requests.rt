@@ -1,4 +1,4 @@
-// A request's record: 128 bytes, of which 103 are its fields and 3 stand beside them. Rests on cells.
+// A request's record: 128 bytes, of which 104 are its fields and 2 stand beside them. Rests on cells.
 ghost use Rattle.std.specs.Prelude.{◌≡◌, eqb, get_or};
 ghost use Rattle.prelude.specs.Cases.{if◌then◌otherwise◌};
 ghost use Rattle.store.specs.Layout.{request·answered, request·outcome};
@@ -19,21 +19,22 @@ pub(crate) fn decode(s: &[u8; REQUEST]) -> Request
         clordid: get_text(s, layout::REQUEST_CLORDID),
         origclordid: get_text(s, layout::REQUEST_ORIGCLORDID),
         downstream: get_text(s, layout::REQUEST_DOWNSTREAM),
+        outcome: s[layout::REQUEST_OUTCOME],
     }
 }
 
 // The bytes behind the fields.
 #[tactic(auto, unfolding(prelude::specs::Span::splice))]
-fn beside(origin: u16) -> [u8; 25]
+fn beside(origin: u16) -> [u8; 24]
     ensures { result ≡ beside_bytes origin }
 {
-    let mut bytes = [0u8; 25];
-    put16(&mut bytes, 1, origin);
+    let mut bytes = [0u8; 24];
+    put16(&mut bytes, 0, origin);
     bytes
 }
 
-// The bytes of a request's record: nothing has come of it, and this is its origin. Numbers fit their
-// widths, and texts have 32 bytes.
+// The bytes of a request's record, whose origin is this. Numbers fit their widths, and texts have 32
+// bytes.
 #[tactic(auto, using(crate::specs::Laws::Requests::write_request))]
 pub(crate) fn encode(origin: u16, r: Request) -> [u8; REQUEST]
     ensures { (result ≡ encode_request origin r) × WholeRequest r }
@@ -45,7 +46,8 @@ pub(crate) fn encode(origin: u16, r: Request) -> [u8; REQUEST]
     put_text(&mut s, layout::REQUEST_CLORDID, r.clordid);
     put_text(&mut s, layout::REQUEST_ORIGCLORDID, r.origclordid);
     put_text(&mut s, layout::REQUEST_DOWNSTREAM, r.downstream);
-    put(&mut s, layout::REQUEST_OUTCOME, &beside(origin));
+    put(&mut s, layout::REQUEST_OUTCOME, &[r.outcome]);
+    put(&mut s, layout::REQUEST_ORIGIN, &beside(origin));
     s
 }
 

@@ -4,6 +4,7 @@
 
 use samples::{client, clordid, downstream, name, order, request};
 use std::io;
+use store::outcomes::REFUSED;
 
 mod samples; // what is stored
 
@@ -31,7 +32,7 @@ fn add_requests(book: &mut [u8]) {
 
 fn mark_requests(book: &mut [u8]) {
     for j in 0..REQUESTS {
-        store::mark_answered(book, usize::from(j), 2);
+        store::mark_answered(book, usize::from(j), REFUSED);
     }
 }
 
@@ -49,9 +50,9 @@ fn orders_right(book: &[u8], turn: u16) -> usize {
     })
 }
 
-fn requests_right(book: &[u8], answered: u8) -> usize {
+fn requests_right(book: &[u8], outcome: u8) -> usize {
     count(REQUESTS, |j| {
-        store::load_request(book, usize::from(j)) == request(j, answered)
+        store::load_request(book, usize::from(j)) == request(j, outcome)
     })
 }
 
@@ -84,13 +85,13 @@ fn changed(rt: &impl Print, book: &mut [u8]) -> io::Result<()> {
     store_orders(book);
     mark_requests(book);
     println!(rt; "orders right again {}", orders_right(book, 2))?;
-    println!(rt; "requests right again {}", requests_right(book, 1))
+    println!(rt; "requests right again {}", requests_right(book, REFUSED))
 }
 
 // A full table takes no more.
 fn full(rt: &impl Print, book: &mut [u8]) -> io::Result<()> {
     store::add_order(book, order(ORDERS, 2));
-    store::add_request(book, 0, request(REQUESTS, 1));
+    store::add_request(book, 0, request(REQUESTS, REFUSED));
     println!(rt; "orders when full {}", store::order_count(book))?;
     println!(rt; "requests when full {}", store::request_count(book))
 }

@@ -106,14 +106,15 @@ pub(crate) fn downstream(j: u16) -> Text {
     label(b'R', j)
 }
 
-// Four requests for each order.
-pub(crate) fn request(j: u16, answered: u8) -> Request {
+// Four requests for each order: one is answered where it came to something.
+pub(crate) fn request(j: u16, outcome: u8) -> Request {
     Request {
         order: j / 4,
         kind: (j % 4) as u8,
-        answered,
+        answered: u8::from(outcome != 0),
         clordid: clordid(j),
         origclordid: label(b'O', j / 2),
         downstream: downstream(j),
+        outcome,
     }
 }

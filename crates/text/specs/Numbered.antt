@@ -15,7 +15,7 @@ digits_of (suc f) k = if ltb k 10 then (48 + k) ∷ [] otherwise digits_of f (k 
 unfoldable pub decimal : ℕ → List ℕ
 decimal k = digits_of k k
 
--- ---- THE NUMBERED NAME, or the empty text where it does not fit
+-- ---- THE NUMBERED NAME, or the empty text if it does not fit
 
 abbrev pub numbered_bytes : Text → ℕ → List ℕ
 numbered_bytes t k = contents t ++ (45 ∷ decimal k)

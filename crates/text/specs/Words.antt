@@ -20,7 +20,7 @@ text_is s at t = holds s at && same_text (text_at s at) t
 unfoldable pub text_fine : List ℕ → ℕ → Bool
 text_fine s at = holds s at && is_text (text_at s at)
 
--- one byte more, or the text as it is where it is full
+-- one byte more, or the text as it is if it is full
 unfoldable pub push_text : Text → ℕ → Text
 push_text t x = if ltb t.len 32 then record { bytes = set t.bytes t.len x; len = t.len + 1 } otherwise t
 

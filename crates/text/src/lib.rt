@@ -59,7 +59,7 @@ fn same_here(s: &[u8], at: usize, t: Text) -> bool
     (s[at + 32] == t.len) & (w0 & w1 & w2 & w3)
 }
 
-// Whether the text at an index is t; false where the slice ends before it.
+// Whether the text at an index is t; false if the slice ends before it.
 #[tactic(auto, unfolding(crate::specs::Words::text_is))]
 pub fn text_is(s: &[u8], at: usize, t: Text) -> bool
     ensures { result ≡ text_is s.now at t }
@@ -84,7 +84,7 @@ pub fn text_ok(t: Text) -> bool
     stored(&t.bytes, t.len)
 }
 
-// Whether a text as it is stored stands at an index; false where the slice ends before it.
+// Whether a text as it is stored stands at an index; false if the slice ends before it.
 #[tactic(auto, using(prelude::specs::Span::part_span), unfolding(crate::specs::Words::text_fine))]
 pub fn text_fine(s: &[u8], at: usize) -> bool
     ensures { result ≡ text_fine s.now at }
@@ -92,7 +92,7 @@ pub fn text_fine(s: &[u8], at: usize) -> bool
     holds(s, at) && stored(&s[at..at + 32], s[at + 32])
 }
 
-// The name, a dash and k in decimal, or the empty text where that does not fit: no Option, since the
+// The name, a dash and k in decimal, or the empty text if that does not fit: no Option, since the
 // function could not fail before, and its definition gives a text.
 pub fn numbered(name: Text, k: u16) -> Text
     ensures { result ≡ numbered_text name k }

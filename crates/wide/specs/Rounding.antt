@@ -25,7 +25,7 @@ pub up_low : (q k r d : ℕ) → up (k * 2 ^ 64 + q) r d ≡ up q r d
 unfolding up
 up_low q k r d = rw (half_low q k)
 
--- it adds 0 where the rest is at most a half, and 1 where it is at least a half
+-- it adds 0 if the rest is at most a half, and 1 if it is at least a half
 abbrev pub Near : (r d u : ℕ) → Type 0
 Near r d u = ((u ≡ 0) × (2 * r ≤ d)) ⊎ ((u ≡ 1) × (d ≤ 2 * r))
 
@@ -136,7 +136,7 @@ nearest_le n d = by (dec_lt 0 d)
 
 -- ---- the two divisions
 
--- where the high word is 0, what the single word gives and a high word of 0 are the words that the two-word division gives: for every divisor, 0 too
+-- if the high word is 0, the two-word division gives what the single word's gives, and a high word of 0: for every divisor, 0 too
 pub plain_long : (n : List ℕ) (d : ℕ) → get_or n 0 0 < 2 ^ 64 → get_or n 1 0 ≡ 0 → nearest (get_or n 0 0) d ∷ (0 ∷ []) ≡ words (nearest (value n) d)
 plain_long n d fits none =
     let e : get_or n 0 0 ≡ value n = omega arith in

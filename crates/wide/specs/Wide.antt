@@ -25,7 +25,7 @@ up quotient rest d =
     otherwise if eqb (2 * rest) d then at_half quotient
     otherwise 0
 
--- the fraction n / d rounded to the nearest whole number; 0 where d is 0
+-- the fraction n / d rounded to the nearest whole number; 0 if d is 0
 unfoldable pub nearest : (n d : ℕ) → ℕ
 nearest n d = if eqb d 0 then 0 otherwise n / d + up (n / d) (n % d) d
 
@@ -35,7 +35,7 @@ nearest n d = if eqb d 0 then 0 otherwise n / d + up (n / d) (n % d) d
 unfoldable pub by_last_px : (lastqty lastpx rise : ℕ) → Bool
 by_last_px lastqty lastpx rise = ltb 0 lastpx && (eqb rise 0 || eqb rise lastqty)
 
--- the price that the change of the average implies for the rise: what was paid since, by the rise. It is 0 where less was paid, and with no rise.
+-- the price that the change of the average implies for the rise: what was paid since, by the rise. It is 0 if less was paid, and with no rise.
 unfoldable pub implied : (cumqty avgpx oldcum oldavg rise : ℕ) → ℕ
 implied cumqty avgpx oldcum oldavg rise = nearest (cumqty * avgpx - oldcum * oldavg) rise
 
@@ -52,7 +52,7 @@ from_average = 3
 abbrev pub priced : (price source : ℕ) → Priced
 priced price source = record { price = words price; source = source }
 
--- the price and its source: LastPx where it tells the price, else the implied price where it is above 0, else AvgPx
+-- the price and its source: LastPx if it tells the price, else the implied price if that is above 0, else AvgPx
 unfoldable pub fill_price : (lastqty lastpx cumqty avgpx oldcum oldavg rise : ℕ) → Priced
 fill_price lastqty lastpx cumqty avgpx oldcum oldavg rise =
     if by_last_px lastqty lastpx rise then priced lastpx from_last_px

@@ -1,7 +1,8 @@
 // The exact division of two words by one: two digits of 32 bits, each guessed from the divisor's
-// upper half and put right by at most two. By hand by a rule of the project, that tests keep what they ask:
-// `/` of u128 was tried, proves, and is faster. But tests/divisions tells by time which division a price takes,
-// and asks at least twice the single word's time (`plain`) of this one, where `/` takes 0.9 to 1.2 times it.
+// upper half and put right by at most two. It is written by hand for a rule of the project, that tests keep
+// what they ask: `/` of u128 was tried, proves, and is faster. But tests/divisions tells by time which division
+// a price takes, and asks at least twice the single word's time (`plain`) of this one, while `/` takes 0.9 to
+// 1.2 times it.
 // Rests on specs/Division.antt.
 ghost use Rattle.std.specs.Prelude.{◌+◌, ◌*◌, ◌^◌, ◌≤◌, ◌<◌};
 ghost use Rattle.wide.specs.Division.{Divides, Scales};

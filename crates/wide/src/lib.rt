@@ -19,7 +19,7 @@ pub struct Priced {
 }
 
 // The sources of a price: the venue's LastPx, the implied quotient, the average. Numbers, no enum: the
-// definitions, their laws and a message's field have this number, and 0 where there is no price.
+// definitions, their laws and a message's field have this number, and 0 if there is no price.
 pub const FROM_LAST_PX: u8 = 1;
 
 pub const FROM_QUOTIENT: u8 = 2;
@@ -58,16 +58,16 @@ pub fn less(a: [u64; 2], b: [u64; 2]) -> bool
     joined(a) < joined(b)
 }
 
-// `a` less `b`, and 0 where `b` is above `a`.
+// `a` less `b`, or 0 if `b` is above `a`.
 pub fn minus(a: [u64; 2], b: [u64; 2]) -> [u64; 2]
     ensures { result ≡ words (value a - value b) }
 {
     split(joined(a).saturating_sub(joined(b)))
 }
 
-// What rounding adds to a quotient, 0 or 1, where `rest` is left of the division by `d`: the rest is
-// compared with what lacks to `d`, as its double may pass a word. A half stands by itself and the quotient is
-// told, which a half that goes up does not ask, so that another rule for it is one line (docs/DECISIONS.md).
+// What rounding adds to a quotient, 0 or 1, if the division by `d` leaves `rest`: the rest is compared with
+// `d` less the rest, as its double may pass a word. A half has an arm of its own, and the quotient is given
+// though a half that goes up does not ask it, so that another rule for a half is one line (docs/DECISIONS.md).
 #[tactic(auto, using(std::proofs::lemmas::Bool::Decides::nat_tests, prelude::specs::Cases::if_true, prelude::specs::Cases::if_false), unfolding(crate::specs::Wide::up, crate::specs::Wide::at_half))]
 fn round(quotient: u64, rest: u64, d: u64) -> u64
     requires { rest < d }
@@ -80,7 +80,7 @@ fn round(quotient: u64, rest: u64, d: u64) -> u64
     }
 }
 
-// `n / d` rounded to the nearest, and 0 where `d` is 0, so that it is total (docs/DECISIONS.md): long
+// `n / d` rounded to the nearest, or 0 if `d` is 0, so that it is total (docs/DECISIONS.md): long
 // division, a word at a time.
 #[tactic(auto, using(crate::proofs::Carried::by_words, crate::specs::Rounding::nearest_none, crate::specs::Rounding::nearest_le, crate::specs::Words::value_fits))]
 pub fn long(n: [u64; 2], d: u64) -> [u64; 2]
@@ -107,8 +107,8 @@ pub fn plain(n: u64, d: u64) -> u64
     whole + round(whole, n % d, d)
 }
 
-// The same of two words: by the single word where that is all of it. There `long` gives the same
-// words for every `d`, 0 too: `plain_long` in specs/Rounding.antt.
+// The same of two words: by the single word if that is all of it. `long` then gives the same words for
+// every `d`, 0 too: `plain_long` in specs/Rounding.antt.
 pub fn quotient(n: [u64; 2], d: u64) -> [u64; 2]
     ensures { result ≡ words (nearest (value n) d) }
 {
@@ -159,7 +159,7 @@ impl Fill {
         0 < self.lastpx && (self.rise == 0 || self.rise == self.lastqty)
     }
 
-    // The price that the change of the average implies for the rise; 0 where it is not positive.
+    // The price that the change of the average implies for the rise; 0 if it is not positive.
     #[tactic(auto, using(crate::specs::Words::value_of), unfolding(crate::specs::Wide::implied))]
     pub fn implied(self) -> [u64; 2]
         ensures { result ≡ words (implied self.cumqty self.avgpx self.oldcum self.oldavg self.rise) }

@@ -6,7 +6,7 @@
 ghost use Rattle.std.specs.Prelude.{ℕ, ◌≡◌, ◌<◌, ◌++◌, take, replicate, get_or};
 ghost use Rattle.prelude.specs.Number.{word16, word32, word64};
 
-// The first N bytes, zeros in place of those behind the end. Where the length is known, as in
+// The first N bytes, zeros in place of those behind the end. If the length is known, as in
 // `get64(&s[at..at + 8])`, this and the number become one load.
 pub fn padded<const N: usize>(s: &[u8]) -> [u8; N]
     ensures all { result ≡ take N (s.now ++ replicate N 0) }

@@ -89,7 +89,7 @@ pub(super) fn read(message: &[u8]) -> Result<impl Iterator<Item = (u32, Option<&
     Ok(places.take(count).map(|(tag, (at, length))| (tag, part(message, at, length))))
 }
 
-/// The record of message `n` of an answer; nothing where the answer has no such message.
+/// The record of message `n` of an answer; nothing if the answer has no such message.
 #[allow(unsafe_code)]
 pub(super) fn message_at(answer: &[u8], n: u32) -> Result<Option<&[u8]>, Refusal> {
     // SAFETY: the pointer and the length are those of one slice, which the function only reads.
@@ -98,7 +98,7 @@ pub(super) fn message_at(answer: &[u8], n: u32) -> Result<Option<&[u8]>, Refusal
     Ok(part(answer, place.at.into(), place.length.into()).filter(|record| !record.is_empty()))
 }
 
-/// So many bytes from there on, where they are there.
+/// So many bytes from there on, if they are there.
 fn part(bytes: &[u8], at: u64, length: u64) -> Option<&[u8]> {
     let (at, length) = (usize::try_from(at).ok()?, usize::try_from(length).ok()?);
     bytes.get(at..)?.get(..length)

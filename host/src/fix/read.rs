@@ -134,7 +134,7 @@ pub struct Report<'a> {
 #[derive(Debug, Clone, PartialEq, Eq)]
 #[non_exhaustive]
 pub struct CancelReject<'a> {
-    /// OrderID(37): the order's name; none where FIX has `NONE`, the reject being about no order.
+    /// OrderID(37): the order's name; none if FIX has `NONE`, since the reject is about no order.
     pub order_id: Option<&'a [u8]>,
     /// ClOrdID(11).
     pub cl_ord_id: &'a [u8],
@@ -203,7 +203,7 @@ pub struct Cancel<'a> {
     pub side: Side,
     /// OrderQty(38): the whole quantity, not what is left.
     pub qty: Qty,
-    /// OrderID(37): the venue's, where it is known.
+    /// OrderID(37): the venue's, if it is known.
     pub order_id: Option<&'a [u8]>,
     /// OrigClOrdID(41).
     pub orig_cl_ord_id: &'a [u8],
@@ -226,7 +226,7 @@ pub struct Cancel<'a> {
 pub struct Replace<'a> {
     /// The new terms, under the request's ClOrdID(11).
     pub order: NewOrder<'a>,
-    /// OrderID(37): the venue's, where it is known.
+    /// OrderID(37): the venue's, if it is known.
     pub order_id: Option<&'a [u8]>,
     /// OrigClOrdID(41).
     pub orig_cl_ord_id: &'a [u8],
@@ -248,7 +248,7 @@ pub struct Replace<'a> {
 pub struct Fields<'a>(Vec<(u32, &'a [u8])>);
 
 impl<'a> Fields<'a> {
-    /// The value of a tag, where it stands.
+    /// The value of a tag, if it stands there.
     /// ```
     /// use jubafiye::fix;
     ///
@@ -284,7 +284,7 @@ impl<'a> Fields<'a> {
         self.get(tag).ok_or(Error::Unreadable { tag })
     }
 
-    /// A value of another type than bytes, where the tag stands.
+    /// A value of another type than bytes, if the tag stands there.
     fn maybe<T>(&self, tag: u32, of: impl Fn(&'a [u8]) -> Option<T>) -> Result<Option<T>, Error> {
         let read = |value| of(value).ok_or(Error::Unreadable { tag });
         self.get(tag).map(read).transpose()

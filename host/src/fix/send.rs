@@ -99,7 +99,7 @@ impl Outgoing<'_> {
 /// The messages of an answer, in the order in which they are to be sent. They may be for different peers: the client of a
 /// refused cancel, and the venue to which the gateway's own cancel goes.
 ///
-/// [`crate::Error::Refused`] where the bytes are no answer by [`records`]; [`crate::Error::Unreadable`] where this crate does
+/// [`crate::Error::Refused`] if the bytes are no answer by [`records`]; [`crate::Error::Unreadable`] if this crate does
 /// not read a message that the library cut out, which the proved library never gives.
 ///
 /// ```
@@ -165,7 +165,7 @@ pub fn clean(text: &[u8]) -> Vec<u8> {
     text.iter().map(|&byte| if byte < 32 { BLANK } else { byte }).collect()
 }
 
-/// A message's record with its text (bit 20, FIX's Text) cleaned as by [`clean`], and nothing else changed: what to write where
+/// A message's record with its text (bit 20, FIX's Text) cleaned as by [`clean`], and nothing else changed: what to write if
 /// [`write`](super::write) refuses a message with [`Refusal::Text`] that the book has put out. A record without a text, and
 /// bytes that are no record, are copied as they are.
 /// ```

@@ -4,7 +4,7 @@
 use crate::records::{FIXED, Form, NAME, ORIGIN, REASON, Record, SEQUENCE, TEXT, form};
 use crate::writer::{Header, WORDS, write};
 
-/// A record and a header that write the message, where there are such.
+/// A record and a header that write the message, if there are such.
 pub fn unwrite(message: &[u8]) -> Option<(Record, Header)> {
     // A writing ends with its sum: most changed messages end here.
     let (before, trailer) = message.split_at_checked(message.len().checked_sub(7)?)?;

@@ -1,4 +1,4 @@
-//! What a library gives held against the plain writer and reader, every byte of it. Rests on all but
+//! What a library gives compared with the plain writer and reader, every byte of it. Rests on all but
 //! the stand-in.
 
 use crate::again::unwrite;
@@ -24,7 +24,7 @@ fn hex(bytes: &[u8]) -> String {
 }
 
 /// Writes a record into rooms of its exact length, of more, of one less and of none, and gives the
-/// message where it is one.
+/// message if it is one.
 pub fn check_write(entries: &Entries, record: &[u8], header: &Header) -> Result<Option<Vec<u8>>, Difference> {
     let message = write(record, header, usize::MAX);
     let length = message.as_ref().map_or(400, Vec::len);

@@ -1,4 +1,4 @@
-//! The C entries: a library's, where one is linked, else the stand-in's. Rests on the stand-in.
+//! The C entries: a library's, if one is linked, else the stand-in's. Rests on the stand-in.
 
 use crate::stand_in::STAND_IN;
 
@@ -97,7 +97,7 @@ fn pointer(bytes: &[u8]) -> *const u8 {
 }
 
 /// The entries that the linked library has, if one is linked; the stand-in's in place of others.
-#[allow(clippy::needless_update)] // not where one is lacking
+#[allow(clippy::needless_update)] // it is needed if an entry is lacking
 pub const ENTRIES: Entries = Entries {
     #[cfg(library = "fix_write")]
     write: c::fix_write,

@@ -101,7 +101,7 @@ const REPLACE: &[Row] = &[
     (60, true, Time),
 ];
 
-/// The fields of a message, or nothing where no record is written so.
+/// The fields of a message, or nothing if no record is written so.
 pub fn read(message: &[u8]) -> Option<Vec<Found>> {
     let mut reader = Reader { message, at: 0, found: Vec::new() };
     (reader.field(8)? == b"FIX.4.4").then_some(())?;
@@ -153,7 +153,7 @@ impl<'a> Reader<'a> {
         self.behind(tag).is_some()
     }
 
-    /// What stands behind the tag, where it is the next.
+    /// What stands behind the tag, if it is the next.
     fn behind(&self, tag: u32) -> Option<&'a [u8]> {
         let digits = [100, 10, 1].map(|unit| b'0' + (tag / unit % 10) as u8);
         let digits = &digits[digits.iter().position(|&digit| digit != b'0')?..];

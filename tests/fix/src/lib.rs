@@ -1,4 +1,4 @@
-//! What tests/fix holds a library of FIX messages against, and how.
+//! What tests/fix compares a library of FIX messages with, and how.
 
 pub mod again;
 pub mod built;

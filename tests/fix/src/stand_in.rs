@@ -292,7 +292,7 @@ fn refuses(fault: Fault, fields: &[Field]) -> bool {
     }
 }
 
-/// The message that the fields are taken for, where the fault takes them for another.
+/// The message that the fields are taken for, if the fault takes them for another.
 fn taken_for(fault: Fault, fields: &[Field]) -> Option<Vec<Field>> {
     match fault {
         Fault::ReadsWrongSum => return Some(framed(fields, false, true)),

@@ -1,7 +1,7 @@
 //! Stored answers: tests/replay/fixed.bin and what `tests/oracle/run --answers` writes, in the format
 //! of tests/oracle/compare/src/stored.rs. Rests on nothing.
 
-/// The answers of the events that were taken; nothing where the bytes are no such file.
+/// The answers of the events that were taken; nothing if the bytes are no such file.
 pub fn answers(file: &[u8]) -> Option<Vec<Vec<u8>>> {
     let mut rest = file;
     let mut answers = Vec::new();

@@ -57,7 +57,7 @@ pub fn msg_type(kind: u8) -> &'static [u8] {
     }
 }
 
-/// The tag of a bit in a message of that kind, where it is carried.
+/// The tag of a bit in a message of that kind, if it is carried.
 fn tag(kind: u8, bit: usize) -> Option<u32> {
     Some(match bit {
         2 | 18 => 37,

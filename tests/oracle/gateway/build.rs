@@ -1,6 +1,6 @@
 //! Copies the gateway's source, byte for byte, to the build folder and appends one line to
 //! book.rs: a child module, `oracle`, that sees the book's private parts. The source is the folder
-//! `ORACLE_SRC`, else `../shared/docs/src` beside this repository. Only where `ORACLE_MUTATIONS`
+//! `ORACLE_SRC`, else `../shared/docs/src` beside this repository. Only if `ORACLE_MUTATIONS`
 //! names a list is the copy altered, for the mutations: see mutate.rs.
 
 use std::collections::HashMap;

@@ -1,6 +1,6 @@
 //! Alters the copied source for the mutations: every listed place becomes a choice between the
 //! original text and its alterations, made at run time by number, so that one build holds them
-//! all. Used by build.rs where `ORACLE_MUTATIONS` names the list; see mutations.txt for its form.
+//! all. Used by build.rs if `ORACLE_MUTATIONS` names the list; see mutations.txt for its form.
 
 use std::collections::HashMap;
 
@@ -8,7 +8,7 @@ use std::collections::HashMap;
 struct Site {
     file: String,
     function: String,
-    /// Which of several equal texts it is; the only one where none is named.
+    /// Which of several equal texts it is; the only one if none is named.
     occurrence: Option<usize>,
     /// The text before the part that is altered, that part, and the text after it.
     original: [String; 3],

@@ -5,7 +5,7 @@ use Rattle.prelude.specs.Span.{splice, splice_nil}
 use Rattle.counted.specs.declared.Counted.{Counted}
 use Rattle.counted.specs.Counted.{refusing, counting}
 use Rattle.store.specs.Book.{book_of}
-use Rattle.opens.specs.Keeps.{keeps_of}
+use Rattle.rules.specs.Keeps.{keeps_of}
 use Rattle.chain.specs.Chain.{called_by, chain_of, entry_size, entries_of, chained, chain_call}
 use Rattle.chain.specs.Laws.Walk.{walk, chain_walk, chain_empty}
 use Rattle.chain.specs.Laws.Sound.{call_bad, call_short, call_written}

@@ -9,16 +9,16 @@ use Rattle.prelude.specs.Pieces.{Sized, length_joined, writes_joined}
 use Rattle.prelude.specs.Span.{span, splice, length_span, length_splice, splice_append}
 use Rattle.prelude.specs.Texts.{text_at, contents, text_of, is_text, text_contents}
 use Rattle.prelude.specs.declared.Text.{Text}
-use Rattle.store.specs.Layout.{book_size, most_requests, request_base, request·clordid, request·clordidLen}
+use Rattle.store.specs.Layout.{book_size, most_requests, request_base, request·clordid, request·clordidLen, request·outcome}
 use Rattle.store.specs.declared.Request.{Request}
-use Rattle.store.specs.Book.{book_of, request_in, request_count, outcome_at}
-use Rattle.store.specs.Laws.Fields.{request_clordid, request_clordid_len}
+use Rattle.store.specs.Book.{book_of, request_in, request_count}
+use Rattle.store.specs.Laws.Fields.{request_clordid, request_clordid_len, request_outcome}
 use Rattle.store.specs.Laws.Stored.{length_requests, request_in_lem}
 use Rattle.machine.specs.Changes.{is_gateway}
 use Rattle.machine.specs.Ranges.{text_within}
 use Rattle.machine.proofs.Kept.Lift.{book_kept, range_kept}
-use Rattle.opens.specs.Keeps.{keeps_of}
-use Rattle.opens.specs.Laws.Keeps.{keeps_held}
+use Rattle.rules.specs.Keeps.{keeps_of}
+use Rattle.rules.specs.Laws.Keeps.{keeps_held}
 use Rattle.chain.specs.Laws.Walk.{earlier, walk, walk_some, walk_end, walk_more}
 use Rattle.chain.specs.Chain.{entry_size, entry_fields, entry_of, entries_of}
 
@@ -31,7 +31,9 @@ sized name outcome = (refl, (simp (length-take, length-append, length-replicate)
 module _ (b : List ℕ) where
   pub length_entry : (k : ℕ) → length (entry_of b k) ≡ entry_size
   unfolding entry_of
-  length_entry k = length_joined widths (entry_fields (contents (request_in (book_of b) k).clordid) (outcome_at b k)) (sized (contents (request_in (book_of b) k).clordid) (outcome_at b k))
+  length_entry k =
+      let q : Request = request_in (book_of b) k in
+      length_joined widths (entry_fields (contents q.clordid) q.outcome) (sized (contents q.clordid) q.outcome)
 
   pub length_entries : (ks : List ℕ) → length (entries_of b ks) ≡ entry_size * length ks
   unfolding entries_of
@@ -53,14 +55,15 @@ module _ (b : List ℕ) where
 -- ---- an entry as it is stored: the length, the 32 bytes of the ClOrdID, and the outcome
 
 abbrev stored : List ℕ → ℕ → List (List ℕ)
-stored b k = (get_or b (request_base k + request·clordidLen) 0 ∷ []) ∷ span b (request_base k + request·clordid) 32 ∷ (outcome_at b k ∷ []) ∷ []
+stored b k = (get_or b (request_base k + request·clordidLen) 0 ∷ []) ∷ span b (request_base k + request·clordid) 32 ∷ (get_or b (request_base k + request·outcome) 0 ∷ []) ∷ []
 
 unfoldable pub stored_entry : List ℕ → ℕ → List ℕ
 stored_entry b k = concat (stored b k)
 
 -- its three parts written
 pub entry_written : (b : List ℕ) (k : ℕ) (s : List ℕ) (at : ℕ) → length b ≡ book_size → k < most_requests → at + entry_size ≤ length s
-    → splice (splice (splice s at (get_or b (request_base k + request·clordidLen) 0 ∷ [])) (at + 1) (span b (request_base k + request·clordid) 32)) (at + 1 + 32) (outcome_at b k ∷ [])
+    → splice (splice (splice s at (get_or b (request_base k + request·clordidLen) 0 ∷ [])) (at + 1) (span b (request_base k + request·clordid) 32)) (at + 1 + 32)
+    (get_or b (request_base k + request·outcome) 0 ∷ [])
     ≡ splice s at (stored_entry b k)
 unfolding stored_entry
 entry_written b k s at l h r = writes_joined widths (stored b k) s at (refl, (length_span b (request_base k + request·clordid) 32 (omega arith), (refl, tt))) (omega arith)
@@ -74,6 +77,9 @@ module _ (b : List ℕ) (keeps : keeps_of b ≡ true) (k : ℕ) (h : k < request
 
   len_at : name.len ≡ get_or b (request_base k + request·clordidLen) 0
   len_at = ap (λ (q : Request). q.clordid.len) (request_in_lem b k h) ∙ request_clordid_len b k
+
+  outcome_is : (request_in (book_of b) k).outcome ≡ get_or b (request_base k + request·outcome) 0
+  outcome_is = ap (λ (q : Request). q.outcome) (request_in_lem b k h) ∙ request_outcome b k
 
   name_long : length name.bytes ≡ 32
   name_long =
@@ -100,8 +106,8 @@ module _ (b : List ℕ) (keeps : keeps_of b ≡ true) (k : ℕ) (h : k < request
   unfolding stored_entry entry_of text_of
   entry_stored =
       sym
-      (ap (λ (t : Text). concat ((t.len ∷ []) ∷ t.bytes ∷ (outcome_at b k ∷ []) ∷ [])) name_whole
-      ∙ ap₂ (λ (n : ℕ) (l : List ℕ). concat ((n ∷ []) ∷ l ∷ (outcome_at b k ∷ []) ∷ [])) len_at (ap (λ (t : Text). t.bytes) name_at))
+      (ap₂ (λ (t : Text) (n : ℕ). concat ((t.len ∷ []) ∷ t.bytes ∷ (n ∷ []) ∷ [])) name_whole outcome_is
+      ∙ ap₂ (λ (n : ℕ) (l : List ℕ). concat ((n ∷ []) ∷ l ∷ (get_or b (request_base k + request·outcome) 0 ∷ []) ∷ [])) len_at (ap (λ (t : Text). t.bytes) name_at))
 
 -- ---- the entries of a walk: written as far as its first, then the rest behind it
 

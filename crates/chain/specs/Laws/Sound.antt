@@ -8,13 +8,13 @@ use Rattle.std.proofs.lemmas.Bool.{eqb-false, and_parts, and_from, or_from, not-
 use Rattle.std.proofs.lemmas.List.{length-replicate, get_or-replicate}
 use Rattle.std.specs.List.{concat}
 use Rattle.prelude.specs.Below.{count_below, count_hit}
-use Rattle.prelude.specs.Cases.{if◌then◌otherwise◌, maybe, clash, if_true, if_false, maybe_none, maybe_some, none_some}
+use Rattle.prelude.specs.Cases.{if◌then◌otherwise◌, maybe, if_true, if_false, maybe_none, maybe_some, none_some}
 use Rattle.prelude.specs.Span.{span, splice, length_span, length_splice, span_splice_same, span_splice_after, span_span, get_span}
 use Rattle.prelude.specs.Texts.{contents, text_of, same_text, is_text, same_text_lem, same_self, long_text, contents_text}
 use Rattle.prelude.specs.declared.Text.{Text}
 use Rattle.store.specs.Layout.{request_base, request·clordid, request·origclordid}
 use Rattle.store.specs.declared.Request.{Request}
-use Rattle.store.specs.Book.{Book, book_of, order_in, request_in, request_count, origin_at, outcome_at}
+use Rattle.store.specs.Book.{Book, book_of, order_in, request_in, request_count, origin_at}
 use Rattle.store.specs.Finds.{has_clordid}
 use Rattle.store.specs.Laws.Fields.{request_clordid, request_origclordid}
 use Rattle.store.specs.Laws.Stored.{length_requests, request_in_lem}
@@ -25,11 +25,11 @@ use Rattle.machine.specs.Ranges.{text_within}
 use Rattle.machine.specs.Rules.{of_order, number_in, amendments_rule}
 use Rattle.machine.proofs.Kept.Lift.{BookKept, RangeKept, book_kept, range_kept}
 use Rattle.machine.proofs.Kept.Consequences.{numbers_rise}
-use Rattle.opens.specs.Keeps.{keeps_of}
-use Rattle.opens.specs.Laws.Keeps.{keeps_held}
+use Rattle.rules.specs.Keeps.{keeps_of}
+use Rattle.rules.specs.Laws.Keeps.{keeps_held}
 use Rattle.chain.specs.Chain.{chain_of, called_by, entry_size, entry_of, entries_of, chained, chain_call}
 use Rattle.chain.specs.Promise.{IsStep, Uses, IsChain, SoundChain, IsEntry, IsWritten, SoundCall}
-use Rattle.chain.specs.Laws.Named.{Bears, found_bears, bears_found}
+use Rattle.index.specs.Laws.Named.{Bears, found_bears, bears_found}
 use Rattle.chain.specs.Laws.Walk.{earlier, back, walk, Step, step_back, walk_end, walk_more, chain_walk, chain_empty, called_found}
 use Rattle.chain.specs.Laws.Entries.{length_entry, length_entries, name_whole}
 
@@ -229,7 +229,7 @@ module _ (b : List ℕ) (keeps : keeps_of b ≡ true) where
   unfolding called_by
   called_at client name k l u =
       if_true _ _ _ (and_from _ _ (le-leb 1 (length name) (omega arith)) (le-leb (length name) 32 (short_name client name k u)))
-      ∙ bears_found x client (text_of name) good k (uses_bears client name k l u)
+      ∙ bears_found x client (text_of name) good.keys k (uses_bears client name k l u)
 
   called_uses : (client : ℕ) (name : List ℕ) (k : ℕ) → called_by x client name ≡ Some k → Uses x client name k
   called_uses client name k e =
@@ -343,13 +343,14 @@ is_entry : (b : List ℕ) (k : ℕ) → IsEntry b k (entry_of b k)
 unfolding entry_of
 is_entry b k =
     let name : List ℕ = contents (request_in (book_of b) k).clordid in
+    let outcome : ℕ = (request_in (book_of b) k).outcome in
     let text : List ℕ = take 32 (name ++ replicate 32 0) in
     let l : length text ≡ 32 = simp (length-take, length-append, length-replicate) (omega arith) in
     record {
       size = length_entry b k;
       long = refl;
-      name = λ i h. get_or-append text (outcome_at b k ∷ []) 0 i (omega arith) ∙ get_or-take 32 (name ++ replicate 32 0) i 0 h ∙ filled name i h;
-      outcome = ap (λ (n : ℕ). get_or (text ++ (outcome_at b k ∷ [])) n 0) (sym l) ∙ get_or-append_seam text (outcome_at b k) [] 0;
+      name = λ i h. get_or-append text (outcome ∷ []) 0 i (omega arith) ∙ get_or-take 32 (name ++ replicate 32 0) i 0 h ∙ filled name i h;
+      outcome = ap (λ (n : ℕ). get_or (text ++ (outcome ∷ [])) n 0) (sym l) ∙ get_or-append_seam text (outcome) [] 0;
     }
 
 -- what the call comes to, written

@@ -1,6 +1,6 @@
 -- The chain by links: the request of a link is the one that the OrigClOrdID names, so that a walk by links is the chain, and each step goes to a request
--- numbered lower. Rests on Named and outcomes' rule.
-use Rattle.std.specs.Prelude.{ℕ, zero, suc, ◌+◌, ◌-◌, ◌≤◌, ◌<◌, ◌≡◌, refl, Bool, ◌&&◌, get_or, Option, None, Some, true, false, not, List, [], ◌∷◌, eqb, leb, ltb, length}
+-- numbered lower. Rests on index's laws of names and of links.
+use Rattle.std.specs.Prelude.{ℕ, zero, suc, ◌+◌, ◌-◌, ◌≤◌, ◌<◌, ◌≡◌, refl, Bool, ◌&&◌, get_or, Option, None, Some, true, false, not, List, [], ◌∷◌, eqb, leb, length}
 use Rattle.std.proofs.Common.{not-suc-le-zero, ◌∙◌, arith, sym, ap, subst, eqb-true, ltb-true, leb-true, eq-eqb, ne_eqb, le-leb}
 use Rattle.std.proofs.lemmas.Bool.{lt-leb, eqb-false, and_parts}
 use Rattle.prelude.specs.Below.{all_elim}
@@ -15,11 +15,12 @@ use Rattle.store.specs.Laws.Stored.{length_requests, request_in_lem}
 use Rattle.machine.specs.Orders.{is_empty}
 use Rattle.machine.specs.Rules.{client_of}
 use Rattle.machine.proofs.Kept.Lift.{BookKept, book_kept}
-use Rattle.outcomes.specs.Outcomes.{outcome_rule, beside_right, origin_rule, outcomes_right}
-use Rattle.opens.specs.Keeps.{keeps_of}
-use Rattle.opens.specs.Laws.Keeps.{keeps_held, keeps_outcomes}
+use Rattle.index.specs.Index.{link_right, links_right}
+use Rattle.rules.specs.Keeps.{keeps_of}
+use Rattle.rules.specs.Laws.Keeps.{keeps_held, keeps_links}
 use Rattle.chain.specs.Chain.{chain_from, called_by, chain_of}
-use Rattle.chain.specs.Laws.Named.{Bears, found_bears, empty_none, bears_found}
+use Rattle.index.specs.Laws.Named.{Bears, found_bears, empty_none, bears_found}
+use Rattle.index.specs.Laws.Links.{Lower, link_lower}
 
 -- the request that the OrigClOrdID of request k names, by its link
 unfoldable pub earlier : List ℕ → ℕ → Option ℕ
@@ -51,29 +52,21 @@ module _ (b : List ℕ) (keeps : keeps_of b ≡ true) where
   good : BookKept x
   good = book_kept x (keeps_held b keeps).rules
 
+  lower_step : (k j : ℕ) → is_empty (request_in x k).origclordid ≡ false → Lower x k j → Step x k j
+  lower_step k j e l = record {
+    lower = l.below;
+    order = l.order;
+    same = l.text;
+    named = ap not (ap (λ (n : ℕ). eqb n 0) (same_length (request_in x j).clordid (request_in x k).origclordid l.text) ∙ e);
+  }
+
   -- the link of a request with an OrigClOrdID
   link_rule : (k : ℕ) → k < request_count b → is_empty (request_in x k).origclordid ≡ false → (0 < origin_at b k) × Step x k (origin_at b k - 1)
-  unfolding beside_right origin_rule outcomes_right
   link_rule k h e =
-      let beside : beside_right b k ≡ true = all_elim (beside_right b) (request_count b) (keeps_outcomes b keeps) k h in
-      let rule : origin_rule x.requests k (origin_at b k) ≡ true = (and_parts (outcome_rule (request_in x k) _) (origin_rule x.requests k (origin_at b k)) beside).1 in
-      go (origin_at b k) (rw e at rule)
-    where
-      go : (link : ℕ)
-          → ltb 0 link && leb link k && eqb (request_in x (link - 1)).order (request_in x k).order && same_text (request_in x (link - 1)).clordid (request_in x k).origclordid ≡ true
-          → (0 < link) × Step x k (link - 1)
-      go link r =
-          let p = and_parts (ltb 0 link && leb link k && eqb (request_in x (link - 1)).order (request_in x k).order) (same_text (request_in x (link - 1)).clordid (request_in x k).origclordid) r in
-          let q = and_parts (ltb 0 link && leb link k) (eqb (request_in x (link - 1)).order (request_in x k).order) p.0 in
-          let s = and_parts (ltb 0 link) (leb link k) q.0 in (
-            ltb-true 0 link s.0,
-            record {
-              lower = omega (arith, ltb-true 0 link s.0, leb-true link k s.1);
-              order = eqb-true _ _ q.1;
-              same = p.1;
-              named = ap not (ap (λ (n : ℕ). eqb n 0) (same_length (request_in x (link - 1)).clordid (request_in x k).origclordid p.1) ∙ e);
-            },
-          )
+      let used : k < length x.requests = omega (arith, length_requests b) in
+      let (above, l) =
+      link_lower b (λ j z. (good.request j z).order) good.keys k used e (good.request k used).origin (all_elim (link_right b) (request_count b) (unfold links_right in keeps_links b keeps) k h) in
+      (above, lower_step k (origin_at b k - 1) e l)
 
   link_step : (k : ℕ) → k < request_count b → is_empty (request_in x k).origclordid ≡ false → Step x k (origin_at b k - 1)
   link_step k h e = (link_rule k h e).1
@@ -107,7 +100,7 @@ module _ (b : List ℕ) (keeps : keeps_of b ≡ true) where
       go false e =
           let s : Step x k (origin_at b k - 1) = link_step k h e in
           let l : origin_at b k - 1 < length x.requests = omega (arith, s.lower, length_requests b) in
-          bears_found x client (request_in x k).origclordid good (origin_at b k - 1)
+          bears_found x client (request_in x k).origclordid good.keys (origin_at b k - 1)
           (record {
             used = l;
             named = s.named;

@@ -1,4 +1,4 @@
--- `decimal::put_decimal` meets its contract: written where the decimal has room. Assumes nothing.
+-- `decimal::put_decimal` meets its contract: written if the decimal has room. Assumes nothing.
 use Rattle.std.proofs.Common.{sym, ◌∙◌, arith}
 use Rattle.decimal.specs.Decimal.{decimal}
 use Rattle.decimal.specs.Laws.Columns.{written_room, written_none}

@@ -15,7 +15,7 @@ first : (g : Over) (c : After-put_low g)
     → c.put_low.new.out ≡ splice c.args.out.now c.args.at (low_digits c.width-width.result (down c.args.places (g.N.Digits.number c.args.n)))
 first g c = c.put_low.ensures ∙ ap (λ (m : ℕ). splice c.args.out.now c.args.at (low_digits c.width-width.result m)) c.down-whole.ensures
 
--- so much room has all of it, where it has a point
+-- all of it has so much room, if it has a point
 room : (g : Over) (c : After-width-width g) → 0 < c.args.places → c.args.at + c.width-width.result + 1 + c.args.places ≤ length c.args.out.now
 room g c h = omega (arith, at_width g c, decimal_long c.args.places (g.N.Digits.number c.args.n) h)
 

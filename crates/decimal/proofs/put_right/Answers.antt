@@ -1,4 +1,4 @@
--- `decimal::put_right` meets its contract: blanks, then the decimal, where they have room. Assumes nothing.
+-- `decimal::put_right` meets its contract: blanks, then the decimal, if they have room. Assumes nothing.
 use Rattle.std.proofs.Common.{◌≡◌, List, ℕ, ◌+◌, replicate, sym, ap, ◌∙◌, rules, arith, length-take, length-drop}
 use Rattle.prelude.specs.Span.{splice, part_splice}
 use Rattle.decimal.specs.Decimal.{blank, decimal, right}

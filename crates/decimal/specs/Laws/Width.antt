@@ -159,7 +159,7 @@ pub low_all : (n : ℕ) → low_digits (length (digits n)) n ≡ digits n
 unfolding digits
 low_all n = low_by n n (omega arith)
 
--- no leading zero: of a number above 0 the first digit is none
+-- no leading zero: the first digit of a number above 0 is not 0
 first_digit : (f n : ℕ) → n ≤ f → 0 < n → 48 < get_or (digits_by f n) 0 0
 first_digit zero n h p = absurd (omega arith)
 first_digit (suc f) n h p = go (dec_lt n 10) (first_digit f (n / 10))

@@ -85,6 +85,13 @@ module _ (fs : List Field) where
   pub sum_tag : (i : ℕ) → suc i ≡ length fs → (tag_of fs i ≢ 10) → same_fields (drop i fs) last ≡ false
   sum_tag i h t = sum_last i h ∙ ap (λ (b : Bool). b && same (value_at fs i) (sum_field fs).value) (ne_eqb (tag_of fs i) 10 t)
 
+  pub sum_elsewhere : (i : ℕ) → (suc i ≢ length fs) → same_fields (drop i fs) last ≡ false
+  sum_elsewhere i h = go (dec_lt i (length fs))
+    where
+      go : Dec (i < length fs) → same_fields (drop i fs) last ≡ false
+      go (yes l) = sum_early i (omega arith)
+      go (no l) = sum_past i (omega arith)
+
   -- ---- 60
 
   module _ (k : ℕ) (time : List ℕ) where

@@ -1,6 +1,6 @@
 -- The first field of bytes, as code finds it: a tag of at most three digits, '=', printing bytes, SOH; and that there is no other way to read it.
 -- Rests on Spelling.
-use Rattle.std.specs.Prelude.{◌≡◌, ℕ, suc, ◌+◌, ◌-◌, ◌/◌, ◌%◌, ◌<◌, ◌≤◌, true, ◌⊎◌, List, [], ◌∷◌, ◌++◌, length, drop, ◌≢◌, slice_index, slice_index_or, Option, None, Some}
+use Rattle.std.specs.Prelude.{◌≡◌, ℕ, suc, ◌+◌, ◌-◌, ◌*◌, ◌/◌, ◌%◌, ◌<◌, ◌≤◌, true, ◌⊎◌, List, [], ◌∷◌, ◌++◌, length, drop, ◌≢◌, slice_index, slice_index_or, Option, None, Some}
 use Rattle.std.proofs.Common.{sym, ap, ◌∙◌, append_assoc, inl, inr, ⊎_elim, arith, add-one, leb-true, le-leb, lit<, length-append, length-drop, take-append-drop, drop-cons, get_or-drop, get_or-append-add, drop-drop}
 use Rattle.std.proofs.Math.Decide.{dec_lt}
 use Rattle.std.proofs.Math.ListN.{get_or-eq_default, get_or-append}
@@ -149,6 +149,27 @@ with_tag t r h = h
 
 pub no_tag : (t : List ℕ) → (One t → ⊥) → (Two t → ⊥) → (Three t → ⊥) → Tagged t None
 no_tag t a b c n p h u w = ⊎_elim a (λ y. ⊎_elim b c y) (tag_cases t n p h u w)
+
+-- no '=' stands where one would
+pub no_equals : (t : List ℕ) → (1 < length t → slice_index t 1 ≢ equals) → (2 < length t → slice_index t 2 ≢ equals)
+    → (3 < length t → slice_index t 3 ≢ equals) → Tagged t None
+no_equals t a b c =
+    no_tag t (λ o. a (stands_at t 1 equals (omega arith) o.end) o.end) (λ o. b (stands_at t 2 equals (omega arith) o.end) o.end)
+    (λ o. c (stands_at t 3 equals (omega arith) o.end) o.end)
+
+-- a tag from its digits, the first of which is not 0
+module _ (t : List ℕ) (a : ℕ) (lead : slice_index t 0 ≢ 48) (p : Digit (slice_index t 0) (Some a)) where
+  pub one_digit : slice_index t 1 ≡ equals → TagAt t a 2
+  one_digit e = tag_one t a (omega (arith, p.0)) p.1 p.0 e
+
+  module _ (b : ℕ) (q : Digit (slice_index t 1) (Some b)) where
+    pub two_digits : slice_index t 2 ≡ equals → TagAt t (a * 10 + b) 3
+    two_digits e = tag_two t (a * 10 + b) (omega (arith, p.0)) (omega (arith, p.1, q.1)) (omega (arith, p.0, q.1)) (omega (arith, q.0, q.1)) e
+
+    pub three_digits : (c : ℕ) → Digit (slice_index t 2) (Some c) → slice_index t 3 ≡ equals → TagAt t ((a * 10 + b) * 10 + c) 4
+    three_digits c r e =
+        tag_three t ((a * 10 + b) * 10 + c) (omega (arith, p.0)) (omega (arith, p.1, q.1, r.1)) (omega (arith, p.0, q.1, r.1)) (omega (arith, q.0, q.1, r.1))
+        (omega (arith, r.0, r.1)) e
 
 -- ---- where the printing bytes end
 

@@ -33,7 +33,7 @@ rows_next rs k i d e h =
     ∙ ap (λ (r : Row). r ∷ drop (suc i) (rows k)) (get_or-map as_row rs i d no_row h)
     ∙ ap (λ (n : ℕ). as_row (get_or rs i d) ∷ drop n (rows k)) (sym (add-one i))
 
--- row j of a kind where j is i
+-- row j of a kind, if j is i
 pub row_here : (k i j : ℕ) {r : code.Row} → j ≡ i → IsRow r (row_at k i) → IsRow r (row_at k j)
 row_here k i j {r} e w = subst (λ (x : ℕ). IsRow r (row_at k x)) (sym e) w
 
@@ -92,7 +92,7 @@ bit_small k j = go (dec_lt 20 k) (dec_lt j 20)
     go (no h) (yes l) = ltb-true _ _ (all_elim (small (k - 16)) 20 (all_elim (λ p. all_below (small p) 20) 5 all_small (k - 16) (omega arith)) j l)
     go (no h) (no l) = omega (arith, ap (λ (r : Row). r.bit) (get_or-eq_default (rows k) no_row {n = j} (omega (arith, rows_short k))))
 
--- so is each bit of a kind's rows, and a kind that is none has none
+-- so is each bit of a kind's rows, and what is no kind has no rows
 pub bit_in_rows : (k b : ℕ) → in_rows (rows k) b ≡ true → b < 32
 bit_in_rows k b e = go (dec_lt 20 k) (dec_lt k 16)
   where

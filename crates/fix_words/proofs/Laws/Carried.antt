@@ -31,7 +31,7 @@ pub rows_carry : (k : ℕ) → within 16 20 k ≡ true → rows k ≡ rows_from 
 unfolding rows tables tag_for left_out is_told must_stand required required_bits allowed allowed_bits if◌then◌otherwise◌
 rows_carry = by_kind_lem (λ k. rows k ≡ rows_from k 0 32) refl refl refl refl refl
 
--- of each bit that is told it is said what its value holds
+-- each bit that is told is one of those for which it is said what the value holds
 abbrev formed : ℕ → Bool
 formed b =
     listed b texts || (listed b codes || (listed b quantities || (listed b prices || (listed b numbers || (eqb b 25 || eqb b 27)))))
@@ -260,7 +260,7 @@ module _ (s : List ℕ) (n : Session) (room : ℕ) (w : Bytes s) (t : session_ty
       part_name (k s) (vs s) none_word q
       (value_name (k s) (field_at s) ∙ if_true (eqb (k s) 17) _ _ (eq-eqb (k s) 17 q) ∙ ap (λ (o : Option (List ℕ)). Some (or_else none_word o)) (at_none s 2 z))
 
-  -- where a reject has no text it has a fixed one
+  -- a reject that has no text has a fixed one
   fixed_stands : k s ≡ 17 → stands s 20 ≡ false → stands s 27 ≡ true
   unfolding if◌then◌otherwise◌
   fixed_stands q z = go (stands s 27) refl

@@ -11,7 +11,7 @@ use Rattle.fix_words.specs.Rows.{Row, Values, field_of, body, leads, first, rest
 
 -- ---- what is written is found
 
--- the tag t is none that can follow: of no row up to the first that must stand, and of no field behind them
+-- the tag t cannot follow: it is of no row up to the first that must stand, and of no field behind them
 abbrev pub apart : ℕ → List Row → ℕ → Bool
 apart t [] last = not (eqb t last)
 apart t (r ∷ rows) last = not (eqb t r.tag) && (r.must || apart t rows last)

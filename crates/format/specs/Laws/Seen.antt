@@ -18,7 +18,7 @@ pub record Rising (s at : List ℕ) : Type 0 where
   pub up : (b : ℕ) → b < 32 → get_or at b 0 ≤ get_or at (b + 1) 0
   pub inside : (b : ℕ) → b < 32 → get_or at (b + 1) 0 ≤ length s
 
--- what field b holds between its places, 0 where its bit does not stand, and whether it is in its range
+-- what field b holds between its places, 0 if its bit does not stand, and whether it is in its range
 unfoldable pub held_at : List ℕ → ℕ → List ℕ → ℕ → ℕ
 held_at s m at b = if bit m b then value b (strip b (between s at b)) otherwise 0
 

@@ -1,5 +1,5 @@
 -- The entries case by case, as the code comes to them. Rests on step's Entries.
-use Rattle.std.specs.Prelude.{ℕ, ◌≡◌, Bool, ◌&&◌, leb, length, refl, true, false, List, eqb}
+use Rattle.std.specs.Prelude.{ℕ, ◌≡◌, Bool, leb, length, refl, true, false, List, eqb}
 use Rattle.std.proofs.Common.{sym, ap, ap₂, subst, ◌∙◌, eqb-true, eq-eqb, ne_eqb}
 use Rattle.std.proofs.lemmas.Bool.{eqb-false}
 use Rattle.prelude.specs.Cases.{if◌then◌otherwise◌, if_true, if_false}
@@ -10,37 +10,22 @@ use Rattle.records.specs.Record.{event_in}
 use Rattle.records.specs.Answer.{answer_bytes, chosen}
 use Rattle.store.specs.Layout.{book_size}
 use Rattle.store.specs.Book.{book_of, store_open, clear_book}
-use Rattle.machine.specs.declared.Requests.{Requests}
 use Rattle.machine.specs.declared.Change.{Change}
 use Rattle.machine.specs.Changes.{refusing}
 use Rattle.machine.specs.Orders.{leaves_qty}
 use Rattle.machine.specs.Machine.{after, step_of}
 use Rattle.machine.specs.History.{messages_of}
-use Rattle.outcomes.specs.Outcomes.{outcome_in, origin_of}
-use Rattle.opens.specs.declared.Word.{Word}
-use Rattle.opens.specs.Opens.{opening_of}
-use Rattle.opens.specs.Keeps.{keeps_of}
-use Rattle.opens.specs.Laws.Keeps.{keeps_held}
-use Rattle.opens.specs.Laws.Moved.{SameClients, step_clients, opening_is}
-use Rattle.step.specs.Entries.{place_order, mark_link, place_requests, place_open, tables_with, book_with, call_of, outcome, event_of, start_of, start_refusal}
+use Rattle.index.specs.Index.{origin_of}
+use Rattle.index.specs.declared.Word.{Word}
+use Rattle.index.specs.Index.{opening_of}
+use Rattle.rules.specs.Keeps.{keeps_of}
+use Rattle.rules.specs.Laws.Keeps.{keeps_held, keeps_opens}
+use Rattle.index.specs.Laws.Moved.{SameClients, step_clients, opening_is}
+use Rattle.step.specs.Entries.{place_order, place_requests, place_open, tables_with, book_with, call_of, outcome, event_of, start_of, start_refusal}
 use Rattle.step.specs.Laws.Asked.{room_enough, taken_step}
 use Rattle.step.specs.Laws.Taken.{numbered}
 
 -- ---- event
-
--- an outcome is written where a request is settled, and an origin where one is added
-placed_by : (b : List ℕ) (outcome origin m n : ℕ) (r : Requests) → m ≡ (if eqb r.answered 0 && eqb r.superseded 0 then 0 otherwise outcome)
-    → n ≡ (if eqb r.added 0 then 0 otherwise origin) → place_requests b m n r ≡ place_requests b outcome origin r
-unfolding place_requests mark_link if◌then◌otherwise◌
-placed_by b outcome origin m n r e f = go (eqb r.answered 0) (eqb r.superseded 0) (eqb r.added 0) refl refl refl
-  where
-    go : (s t u : Bool) → eqb r.answered 0 ≡ s → eqb r.superseded 0 ≡ t → eqb r.added 0 ≡ u → place_requests b m n r ≡ place_requests b outcome origin r
-    go true true true x y z = rw (x, y, z)
-    go true true false x y z = rw (e, f, x, y, z)
-    go true false true x y z = rw (e, x, y, z)
-    go true false false x y z = rw (e, f, x, y, z)
-    go false t true x y z = rw (e, x, z)
-    go false t false x y z = rw (e, f, x, z)
 
 module _ (b r a : List ℕ) where
   -- this is what the event returns and leaves
@@ -56,7 +41,7 @@ module _ (b r a : List ℕ) where
     unfolding event_of if◌then◌otherwise◌
     left_refused e = rw (← h, e) refl
 
-    left_taken : eqb c.refusal 0 ≡ true → Leaves 0 (book_with b (event_in r) c) (said c)
+    left_taken : eqb c.refusal 0 ≡ true → Leaves 0 (book_with b c) (said c)
     unfolding event_of messages_of if◌then◌otherwise◌
     left_taken e = rw (← h, e) refl
 
@@ -83,22 +68,21 @@ module _ (b r a : List ℕ) where
         go false z =
             if_false _ _ _ z
             ∙ ap (λ (x : Word). store_open t x.at x.quantity) v
-            ∙ opening_is b (stepped e).0 c (eqb-false c.place 0 z) (stepped e).1 t
+            ∙ opening_is b (keeps_opens b (stepped e).0) c (eqb-false c.place 0 z) (stepped e).1 t
             ∙ sym (if_false _ _ _ z)
 
-    pub left_0 : eqb c.refusal 0 ≡ true → (leaves : ℕ) (w : Word) (settles from : ℕ) (placed tables book answer : List ℕ) → leaves ≡ leaves_qty c.order
+    pub left_0 : eqb c.refusal 0 ≡ true → (from leaves : ℕ) (w : Word) (placed tables book answer : List ℕ)
+        → from ≡ origin_of (book_of b) c.order.client c.requests.request.origclordid → leaves ≡ leaves_qty c.order
         → w ≡ opening_of b c.place c.order.client leaves
-        → settles ≡ (if eqb c.requests.answered 0 && eqb c.requests.superseded 0 then 0 otherwise outcome_in r)
-        → from ≡ (if eqb c.requests.added 0 then 0 otherwise origin_of b c.order.client c.requests.request.origclordid)
-        → placed ≡ place_order b c.place c.order → tables ≡ place_requests placed settles from c.requests
+        → placed ≡ place_order b c.place c.order → tables ≡ place_requests placed from c.requests
         → book ≡ (if eqb c.place 0 then tables otherwise store_open tables w.at w.quantity)
         → answer ≡ (if leb 1024 (length a) then said c otherwise a) → Leaves 0 book answer
     unfolding book_with tables_with
-    left_0 e leaves w settles from placed tables book answer n v s f p q o u =
+    left_0 e from leaves w placed tables book answer f n v p q o u =
         let is : w ≡ opening_of b c.place c.order.client (leaves_qty c.order) = v ∙ ap (opening_of b c.place c.order.client) n in
-        let origin : ℕ = origin_of b c.order.client c.requests.request.origclordid in
-        let placing : tables ≡ place_requests (place_order b c.place c.order) (outcome_in r) origin c.requests =
-        q ∙ placed_by placed (outcome_in r) origin settles from c.requests s f ∙ ap (λ (y : List ℕ). place_requests y (outcome_in r) origin c.requests) p in
+        let origin : ℕ = origin_of (book_of b) c.order.client c.requests.request.origclordid in
+        let placing : tables ≡ place_requests (place_order b c.place c.order) origin c.requests =
+        q ∙ ap₂ (λ (y : List ℕ) (n : ℕ). place_requests y n c.requests) p f in
         let whole : book ≡ place_open tables (after (book_of b) c) c.place c.order.client = o ∙ opened_is e w is tables in
         ap₂ (outcome 0) (whole ∙ ap (λ (y : List ℕ). place_open y (after (book_of b) c) c.place c.order.client) placing) (u ∙ if_true _ _ _ (long e)) ∙ left_taken e
 

@@ -74,7 +74,7 @@ module _ (b : Book) (r : Ruled b) (e : Event) (above : 0 < e.kind) (below : e.ki
   -- an event that names a request
   module _ (n₂ : eqb e.kind 2 ≡ false) (n₉ : eqb e.kind 9 ≡ false) (k : ℕ) (w : find_downstream b e.ids.downstream ≡ Some k) where
     -- nothing is answered
-    still_shaped : {y : Order} {out : Output} → Near (order_in b (request_in b k).order) y × Mute out → {p : ℕ} → Shaped b e (request_in b k).order (left p y 0 0 out)
+    still_shaped : {y : Order} {out : Output} → Near (order_in b (request_in b k).order) y × Mute out → {p : ℕ} → Shaped b e (request_in b k).order (left p y 0 0 0 out)
     still_shaped n = record {
       alone = λ j n. asks_none b e n₉ j;
       spares = λ y. (refl, λ x p. absurd (omega arith));
@@ -82,9 +82,9 @@ module _ (b : Book) (r : Ruled b) (e : Event) (above : 0 < e.kind) (below : e.ki
     }
 
     -- a failed send, told by event 7: the tries stay, and no gateway request of a standing gateway cancel is answered
-    stays_shaped : eqb e.kind 7 ≡ true → {y : Order} {j s : ℕ} {out : Output} → Near (order_in b (request_in b k).order) y × Mute out → (s ≡ 0) × ((j ≡ 0) ⊎ (j ≡ k + 1))
-        → (is_gateway (request_in b k) ≡ true → (j ≡ 0) ⊎ (has_gateway y ≡ false)) → {p : ℕ} → Shaped b e (request_in b k).order (left p y j s out)
-    stays_shaped z {y} {j} {s} n (s₀, a) g = record {
+    stays_shaped : eqb e.kind 7 ≡ true → {y : Order} {j s v : ℕ} {out : Output} → Near (order_in b (request_in b k).order) y × Mute out → (s ≡ 0) × ((j ≡ 0) ⊎ (j ≡ k + 1))
+        → (is_gateway (request_in b k) ≡ true → (j ≡ 0) ⊎ (has_gateway y ≡ false)) → {p : ℕ} → Shaped b e (request_in b k).order (left p y j s v out)
+    stays_shaped z {y} {j} n (s₀, a) g = record {
       alone = λ j n. asks_none b e n₉ j;
       spares = λ y. (s₀, λ x p. ap (λ (n : ℕ). (request_in b n).order) (sym (only x p a)));
       shape = idle (asks_none b e n₉ _) n.1.silent (inl refl) (λ hg. let (x, t, u) = n.0.gate hg in (x, t, λ y x p. calm_one x p hg (cases_Bool (is_gateway (request_in b k)))));
@@ -102,11 +102,11 @@ module _ (b : Book) (r : Ruled b) (e : Event) (above : 0 < e.kind) (below : e.ki
             none (inl y) = absurd (omega arith)
             none (inr y) = clash _ hg y
 
-    failed_shaped : eqb e.kind 7 ≡ true → {y : Order} {j s : ℕ} {out : Output} → Fails (k + 1) (request_in b k) (requests_order b k) e y j s out → {p : ℕ} → Shaped b e (request_in b k).order (left p y j s out)
+    failed_shaped : eqb e.kind 7 ≡ true → {y : Order} {j s v : ℕ} {out : Output} → Fails (k + 1) (request_in b k) (requests_order b k) e y j s v out → {p : ℕ} → Shaped b e (request_in b k).order (left p y j s v out)
     failed_shaped z unfailed = stays_shaped z (near_self _, calm_mute 0) (refl, inl refl) (λ y. inl refl)
     failed_shaped z (refused r g) = stays_shaped z (refuses_near r) (refuses_links r) (λ y. clash _ y g)
-    failed_shaped z (freed g h) = stays_shaped z (near_self _, calm_mute 0) (refl, inr refl) (λ y. inr h)
-    failed_shaped z (fell t g u h) = record {
+    failed_shaped z (freed v g h) = stays_shaped z (near_self _, calm_mute 0) (refl, inr refl) (λ y. inr h)
+    failed_shaped z (fell v t g u h) = record {
       alone = λ j n. asks_none b e n₉ j;
       spares = λ y. (refl, λ x p. let q : k ≡ x = omega arith in ap (λ (n : ℕ). (request_in b n).order) (sym q));
       shape = fails! (asks_none b e n₉ _) z e.ids.downstream k w refl g u refl refl (calm_mute 0).silent refl h (unfold send_refused in refl);
@@ -114,7 +114,7 @@ module _ (b : Book) (r : Ruled b) (e : Event) (above : 0 < e.kind) (below : e.ki
     failed_shaped z (ended v t g h) = stays_shaped z (near_trans _ _ _ (status_near rejected _) (told_near _), says_mute (plain_report _ _ _ _ _ _ _)) (refl, inr refl) (λ y. clash _ y g)
 
     -- sent again, by event 8; what cannot be sent again is of a done order
-    resent_shaped : eqb e.kind 7 ≡ false → {y : Order} {j s : ℕ} {out : Output} → Resends (k + 1) (request_in b k) (requests_order b k) e y j s out → {p : ℕ} → Shaped b e (request_in b k).order (left p y j s out)
+    resent_shaped : eqb e.kind 7 ≡ false → {y : Order} {j s v : ℕ} {out : Output} → Resends (k + 1) (request_in b k) (requests_order b k) e y j s v out → {p : ℕ} → Shaped b e (request_in b k).order (left p y j s v out)
     resent_shaped n₇ new_again = idle_shaped b e _ _ n₉ n₇ (left_idle (near_self _, says_mute (plain_new _ _)))
     resent_shaped n₇ (cancel_again t) =
         plainly b e _ _ n₉ n₇
@@ -122,9 +122,9 @@ module _ (b : Book) (r : Ruled b) (e : Event) (above : 0 < e.kind) (below : e.ki
     resent_shaped n₇ (replace_again t) = idle_shaped b e _ _ n₉ n₇ (left_idle (near_self _, says_mute (plain_replace _ _ _)))
     resent_shaped n₇ (failing t unfailed) = idle_shaped b e _ _ n₉ n₇ (left_idle (near_self _, calm_mute 0))
     resent_shaped n₇ (failing t (refused r g)) = idle_shaped b e _ _ n₉ n₇ (left_idle (refuses_near r))
-    resent_shaped n₇ (failing t (freed g h)) = idle_shaped b e _ _ n₉ n₇ (left_idle (near_self _, calm_mute 0))
+    resent_shaped n₇ (failing t (freed v g h)) = idle_shaped b e _ _ n₉ n₇ (left_idle (near_self _, calm_mute 0))
     resent_shaped n₇ (failing t (ended v u g h)) = idle_shaped b e _ _ n₉ n₇ (left_idle (near_trans _ _ _ (status_near rejected _) (told_near _), says_mute (plain_report _ _ _ _ _ _ _)))
-    resent_shaped n₇ (failing t (fell v g u h)) =
+    resent_shaped n₇ (failing t (fell x v g u h)) =
         let y : is_done (requests_order b k).state.status ≡ true =
         (unfold resendable in done! (is_answered (request_in b k)) (is_done (requests_order b k).state.status) (eqb (requests_order b k).venue e.venue) u v
         (ap (λ (t : Bool). resendable (request_in b k) e.venue (requests_order b k) && t) (sym (gateway_cancels _ g)) ∙ t)) in
@@ -141,8 +141,8 @@ module _ (b : Book) (r : Ruled b) (e : Event) (above : 0 < e.kind) (below : e.ki
     made_shaped (stays (applies a u s)) = idle_shaped b e _ _ n₉ (not_kind e 4 7 a.kind refl) (left_idle (reported_near _ _ _ _ e, calm_mute _))
     made_shaped (stays (informs a s)) = idle_shaped b e _ _ n₉ (not_kind e 4 7 a.kind refl) (left_idle (near_trans _ _ _ (reported_near _ _ _ _ e) (told_near _), says_mute (plain_client _ _ _ _ _ e)))
     made_shaped (refusing! n₇ (quietly r)) = idle_shaped b e _ _ n₉ n₇ (left_idle (refuses_near r))
-    made_shaped (refusing! n₇ (retries {r} v u g h t)) = sent_shaped b e _ _ n₉ n₇ n₂ (retried_sent _ _ (rule_of k w) _ _ _ (refused_near (k + 1) r _, calm_mute (refused_alarm r (requests_order b k))) h t)
-    made_shaped (resumes n₇ r h t) = sent_shaped b e _ _ n₉ n₇ n₂ (resumed_sent _ _ (rule_of k w) _ _ _ (refuses_near r) h t)
+    made_shaped (refusing! n₇ (retries {r} v u g h t)) = sent_shaped b e _ _ n₉ n₇ n₂ (retried_sent _ _ (rule_of k w) _ _ _ _ (refused_near (k + 1) r _, calm_mute (refused_alarm r (requests_order b k))) h t)
+    made_shaped (resumes n₇ r h t) = sent_shaped b e _ _ n₉ n₇ n₂ (resumed_sent _ _ (rule_of k w) _ _ _ _ (refuses_near r) h t)
 
   -- event 9
   asks_at_lem : (i j : ℕ) → find_name b e.ids.name ≡ Some i → e.kind ≡ 9 → asks_at j b (read_as e) ≡ eqb i j && starts b i

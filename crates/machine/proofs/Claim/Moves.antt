@@ -165,7 +165,7 @@ says_hush : {m : Message} {a : ℕ} → ((t : Whose → Bool) → last_qty_by t 
 says_hush {m} {a} q = record { few = omega arith; silent = λ t. says_total m a t ∙ q t }
 
 module _ {o y : Order} {out : Output} (k : Keeps o y) (h : Hush out) where
-  left_moves : {p j s : ℕ} → Moves 2 p o (left p y j s out)
+  left_moves : {p j s v : ℕ} → Moves 2 p o (left p y j s v out)
   left_moves = record {
     taken = refl;
     there = refl;
@@ -177,12 +177,12 @@ module _ {o y : Order} {out : Output} (k : Keeps o y) (h : Hush out) where
   }
 
   -- the gateway's cancel goes out
-  send_moves : (f : Findings) (p j s : ℕ) → Moves 2 p o (send_gateway_cancel f (left p y j s out))
+  send_moves : (f : Findings) (p j s v : ℕ) → Moves 2 p o (send_gateway_cancel f (left p y j s v out))
   unfolding send_gateway_cancel telling adding
-  send_moves f p j s =
+  send_moves f p j s v =
       let x : Order = with_gateway (try_sent y) (numbered_order f true y) in
       let m : Message = cancel_request x (next_downstream y) in
-      let c : Change = adding (next_request f y gateway_kind no_text no_text) (left p x j s out) in
+      let c : Change = adding (next_request f y gateway_kind no_text no_text) (left p x j s v out) in
       let l : Keeps o x = keeps_trans o y x k (keeps_trans y _ x (numbered_keeps f true y) (gateway_keeps (try_sent y) _)) in
       record {
         taken = refl;
@@ -217,9 +217,9 @@ says_report : (answers : Bool) (rise : ℕ) (q : Request) (price : Priced) (x : 
 unfolding client_report report
 says_report answers rise q price x e t = refl
 
-grown_moves : {o y : Order} {out : Output} {p j s cum qty : ℕ} → Grown o y cum qty → cum ≤ qty → is_done o.state.status ≡ false → out.count ≤ 2
-    → ((t : Whose → Bool) → total_of (last_qty_by t) (chosen out.count out.first out.second) + filled_by t o ≡ (if t (whose o) then cum otherwise 0)) → Moves 2 p o (left p y j s out)
-grown_moves {o} {y} {out} {p} {j} {s} {cum} {qty} g fits live l h = record {
+grown_moves : {o y : Order} {out : Output} {p j s v cum qty : ℕ} → Grown o y cum qty → cum ≤ qty → is_done o.state.status ≡ false → out.count ≤ 2
+    → ((t : Whose → Bool) → total_of (last_qty_by t) (chosen out.count out.first out.second) + filled_by t o ≡ (if t (whose o) then cum otherwise 0)) → Moves 2 p o (left p y j s v out)
+grown_moves {o} {y} {out} {cum = cum} {qty = qty} g fits live l h = record {
   taken = refl;
   there = refl;
   within = l;
@@ -237,21 +237,21 @@ rise_of false rise old cum u e = omega arith
 -- ---- the ways
 
 module _ {k : ℕ} {q : Request} {o : Order} {e : Event} where
-  refuses_keeps : {y : Order} {j s : ℕ} {out : Output} → Refuses k q o e y j s out → Keeps o y × Hush out
+  refuses_keeps : {y : Order} {j s v : ℕ} {out : Output} → Refuses k q o e y j s v out → Keeps o y × Hush out
   refuses_keeps still = (same_keeps o, calm_hush 0)
   refuses_keeps (gone {r} w u g) = (refused_keeps k r o, calm_hush _)
   refuses_keeps (given_up_lem {r} w u g h) = (keeps_trans o _ _ (refused_keeps k r o) (gateway_keeps _ _), behind_hush (refused_alarm r o))
   refuses_keeps (told {r} w u g) = (refused_keeps k r o, says_hush (quiet_reject _ _ _ _ _ _ _))
 
-  fails_keeps : {y : Order} {j s : ℕ} {out : Output} → Fails k q o e y j s out → Keeps o y × Hush out
+  fails_keeps : {y : Order} {j s v : ℕ} {out : Output} → Fails k q o e y j s v out → Keeps o y × Hush out
   fails_keeps unfailed = (same_keeps o, calm_hush 0)
   fails_keeps (refused r g) = refuses_keeps r
-  fails_keeps (freed g h) = (same_keeps o, calm_hush 0)
-  fails_keeps (fell t g u h) = (gateway_keeps _ o, calm_hush 0)
+  fails_keeps (freed w g h) = (same_keeps o, calm_hush 0)
+  fails_keeps (fell w t g u h) = (gateway_keeps _ o, calm_hush 0)
   fails_keeps (ended w t g h) =
       (keeps_trans o _ _ (live_keeps o rejected (pending_live o.state.status (eqb-true _ _ h))) (told_keeps _), says_hush (quiet_report _ _ _ _ _ _))
 
-  made_left : {y : Order} {p j s : ℕ} {out : Output} → Left k q o e y j s out → Moves 2 p o (left p y j s out)
+  made_left : {y : Order} {p j s v : ℕ} {out : Output} → Left k q o e y j s v out → Moves 2 p o (left p y j s v out)
   made_left (fails z l) = let (y, h) = fails_keeps l in left_moves y h
   made_left (resends z new_again) = left_moves (same_keeps o) (says_hush (quiet_new _ _))
   made_left (resends z (cancel_again t)) = left_moves (same_keeps o) (says_hush (quiet_cancel _ _))
@@ -272,19 +272,19 @@ module _ {k : ℕ} {q : Request} {o : Order} {e : Event} where
 pub made_moves : {f : Findings} {k : ℕ} {q : Request} {o : Order} {e : Event} {c c' : Change} → MadeBy f k q o e c c' → Moves 2 f.place o c
 made_moves (stays l) = made_left l
 made_moves (refusing! z (quietly r)) = let (y, h) = refuses_keeps r in left_moves y h
-made_moves {f} {k} {q} {o} (refusing! z (retries {r} w u g h t)) = send_moves (refused_keeps k r o) (calm_hush _) f _ _ _
-made_moves {f} (resumes z r h t) = let (y, h) = refuses_keeps r in send_moves y h f _ _ _
+made_moves {f} {k} {q} {o} (refusing! z (retries {r} w u g h t)) = send_moves (refused_keeps k r o) (calm_hush _) f _ _ _ _
+made_moves {f} (resumes z r h t) = let (y, h) = refuses_keeps r in send_moves y h f _ _ _ _
 
 pub asked_moves : {f : Findings} {o : Order} {c c' : Change} → AskedBy f o c c' → Moves 2 f.place o c
 asked_moves {f} {o} (declined z) = left_moves (same_keeps o) (calm_hush 0)
 asked_moves {f} {o} (waits d g) = left_moves (gateway_keeps _ o) (calm_hush 0)
-asked_moves {f} {o} (goes d g) = send_moves (gateway_keeps _ o) (calm_hush 0) f _ _ _
+asked_moves {f} {o} (goes d g) = send_moves (gateway_keeps _ o) (calm_hush 0) f _ _ _ _
 
 -- the client's request goes out
 goes_moves : (p : ℕ) (o y : Order) (q : Request) (m : Message) → Keeps o y → ((t : Whose → Bool) → last_qty_by t m ≡ 0) → Moves 2 p o (telling m (adding q (unchanged p y)))
 unfolding telling adding unchanged
 goes_moves p o y q m k h =
-    let g : Moves 2 p o (left p y 0 0 (says m 0)) = left_moves k (says_hush h) in
+    let g : Moves 2 p o (left p y 0 0 0 (says m 0)) = left_moves k (says_hush h) in
     unfold if◌then◌otherwise◌ in record { taken = refl; there = refl; within = g.within; same = g.same; told = g.told; ordered = g.ordered; done = g.done }
 
 module _ (f : Findings) (o : Order) (e : Event) where

@@ -30,67 +30,70 @@ like_self q = record { kind = refl; order = refl; text = refl; answered = λ a. 
 like_trans : (p q r : Request) → Like p q → Like q r → Like p r
 like_trans p q r k l = record { kind = l.kind ∙ k.kind; order = l.order ∙ k.order; text = l.text ∙ k.text; answered = λ a. l.answered (k.answered a) }
 
-like_answered : (q : Request) → Like q (answered q)
+like_answered : (v : ℕ) (q : Request) → Like q (answered v q)
 unfolding is_answered
-like_answered q = record { kind = refl; order = refl; text = refl; answered = λ a. refl }
+like_answered v q = record { kind = refl; order = refl; text = refl; answered = λ a. refl }
 
-now_answered : (q : Request) → is_answered (answered q) ≡ true
+now_answered : (v : ℕ) (q : Request) → is_answered (answered v q) ≡ true
 unfolding is_answered
-now_answered q = refl
+now_answered v q = refl
 
 -- ---- one link answered
 
-module _ (k : ℕ) (qs : List Request) where
-  link_length : length (answer_link k qs) ≡ length qs
+module _ (k v : ℕ) (qs : List Request) where
+  link_length : length (answer_link k v qs) ≡ length qs
   unfolding answer_link
   link_length = split_if (λ (l : List Request). length l ≡ length qs) (eqb k 0) (λ e. refl) (λ e. length-set qs (k - 1) _)
 
-  link_other : (j : ℕ) → (k ≡ j + 1 → ⊥) → get_or (answer_link k qs) j no_request ≡ get_or qs j no_request
+  link_other : (j : ℕ) → (k ≡ j + 1 → ⊥) → get_or (answer_link k v qs) j no_request ≡ get_or qs j no_request
   unfolding answer_link
   link_other j n =
       split_if (λ (l : List Request). get_or l j no_request ≡ get_or qs j no_request) (eqb k 0) (λ e. refl)
       (λ e. get_or-set_other qs (k - 1) j _ no_request (λ z. let w : (k ≡ 0 → ⊥) = eqb-false k 0 e in n (omega arith)))
 
-  link_at : (j : ℕ) → j < length qs → k ≡ j + 1 → get_or (answer_link k qs) j no_request ≡ answered (get_or qs j no_request)
+  link_at : (j : ℕ) → j < length qs → k ≡ j + 1 → get_or (answer_link k v qs) j no_request ≡ answered v (get_or qs j no_request)
   unfolding answer_link
   link_at j l e =
       let z : k - 1 ≡ j = omega arith in
       ap (λ (x : List Request). get_or x j no_request) (if_false (eqb k 0) qs _ (ne_eqb k 0 (λ w. omega arith)))
-      ∙ ap (λ (i : ℕ). get_or (set qs i (answered (get_or qs i no_request))) j no_request) z
+      ∙ ap (λ (i : ℕ). get_or (set qs i (answered v (get_or qs i no_request))) j no_request) z
       ∙ get_or-set_same qs j _ no_request l
 
-  link_like : (j : ℕ) → j < length qs → Like (get_or qs j no_request) (get_or (answer_link k qs) j no_request)
+  link_like : (j : ℕ) → j < length qs → Like (get_or qs j no_request) (get_or (answer_link k v qs) j no_request)
   link_like j l = go (ℕ_discrete k (j + 1))
     where
-      go : Dec (k ≡ j + 1) → Like (get_or qs j no_request) (get_or (answer_link k qs) j no_request)
-      go (yes e) = subst (Like (get_or qs j no_request)) (sym (link_at j l e)) (like_answered (get_or qs j no_request))
+      go : Dec (k ≡ j + 1) → Like (get_or qs j no_request) (get_or (answer_link k v qs) j no_request)
+      go (yes e) = subst (Like (get_or qs j no_request)) (sym (link_at j l e)) (like_answered v (get_or qs j no_request))
       go (no n) = subst (Like (get_or qs j no_request)) (sym (link_other j n)) (like_self (get_or qs j no_request))
 
 -- ---- the table
 
 module _ (b : Book) (c : Change) where
+  abbrev v : ℕ
+  v = c.requests.outcome
+
   settled : List Request
-  settled = answer_link c.requests.superseded (answer_link c.requests.answered b.requests)
+  settled = answer_link c.requests.superseded v (answer_link c.requests.answered v b.requests)
 
   settled_length : length settled ≡ length b.requests
   unfolding settled
-  settled_length = link_length c.requests.superseded _ ∙ link_length c.requests.answered b.requests
+  settled_length = link_length c.requests.superseded v _ ∙ link_length c.requests.answered v b.requests
 
   settled_like : (k : ℕ) → k < length b.requests → Like (request_in b k) (get_or settled k no_request)
   unfolding settled
   settled_like k l =
-      like_trans _ _ _ (link_like c.requests.answered b.requests k l)
-      (link_like c.requests.superseded (answer_link c.requests.answered b.requests) k (omega (arith, link_length c.requests.answered b.requests)))
+      like_trans _ _ _ (link_like c.requests.answered v b.requests k l)
+      (link_like c.requests.superseded v (answer_link c.requests.answered v b.requests) k (omega (arith, link_length c.requests.answered v b.requests)))
 
   settled_other : (k : ℕ) → (c.requests.answered ≡ k + 1 → ⊥) → (c.requests.superseded ≡ k + 1 → ⊥) → get_or settled k no_request ≡ request_in b k
   unfolding settled
-  settled_other k n m = link_other c.requests.superseded _ k m ∙ link_other c.requests.answered b.requests k n
+  settled_other k n m = link_other c.requests.superseded v _ k m ∙ link_other c.requests.answered v b.requests k n
 
   settled_at : (k : ℕ) → k < length b.requests → c.requests.answered ≡ k + 1 → is_answered (get_or settled k no_request) ≡ true
   unfolding settled
   settled_at k l e =
-      (link_like c.requests.superseded (answer_link c.requests.answered b.requests) k (omega (arith, link_length c.requests.answered b.requests))).answered
-      (ap is_answered (link_at c.requests.answered b.requests k l e) ∙ now_answered (request_in b k))
+      (link_like c.requests.superseded v (answer_link c.requests.answered v b.requests) k (omega (arith, link_length c.requests.answered v b.requests))).answered
+      (ap is_answered (link_at c.requests.answered v b.requests k l e) ∙ now_answered v (request_in b k))
 
   none_added : c.requests.added ≡ 0 → (after b c).requests ≡ settled
   unfolding after requests_after settled

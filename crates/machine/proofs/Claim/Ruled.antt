@@ -14,7 +14,7 @@ use Rattle.store.specs.Requests.{no_request}
 use Rattle.machine.specs.Orders.{is_done, has_gateway, has_pending}
 use Rattle.machine.specs.Changes.{is_gateway, is_answered}
 use Rattle.machine.specs.Ranges.{name_range}
-use Rattle.machine.specs.Rules.{rules, linked, order_rule, request_rule, name_rule, names_apart, key_rule, names_range, order_range, request_range, current_rule, cancel_rule, pending_rule, amendments_rule, filled_rule, status_rule, done_rule, tries_rule, number_rule, number_in, name_number, in_flight_rule}
+use Rattle.machine.specs.Rules.{rules, linked, order_rule, request_rule, name_rule, names_apart, key_rule, names_range, order_range, request_range, outcome_rule, current_rule, cancel_rule, pending_rule, amendments_rule, filled_rule, status_rule, done_rule, tries_rule, number_rule, number_in, name_number, in_flight_rule, origin_rule}
 
 -- of a chain of tests that hold
 front : (a b : Bool) → a && b ≡ true → a ≡ true
@@ -128,6 +128,7 @@ pub record RequestRules (b : Book) (k : ℕ) : Type 0 where
   pub placed : (request_in b k).order < length b.orders
   pub numbered : same_text (request_in b k).downstream (name_number (order_in b (request_in b k).order).names.name (number_in b.requests k)) ≡ true
   pub in_flight : in_flight_rule (k + 1) (request_in b k) (order_in b (request_in b k).order) ≡ true
+  pub origin : origin_rule b.requests k ≡ true
 
 number_text : (name : Text) (n : ℕ) (q : Request) → number_rule name n q ≡ true → same_text q.downstream (name_number name n) ≡ true
 unfolding number_rule
@@ -138,15 +139,18 @@ unfolding request_rule
 request_rules b k e =
     let q = request_in b k in
     let o = order_in b q.order in
-    let x : Bool = request_range q in
+    let x : Bool = request_range q && outcome_rule q in
     let y : Bool = ltb q.order (length b.orders) in
     let z : Bool = number_rule o.names.name (number_in b.requests k) q in
-    let e₃ = and_parts (x && y && z) (in_flight_rule (k + 1) q o) e in
+    let w : Bool = in_flight_rule (k + 1) q o in
+    let e₄ = and_parts (x && y && z && w) (origin_rule b.requests k) e in
+    let e₃ = and_parts (x && y && z) w e₄.0 in
     let e₂ = and_parts (x && y) z e₃.0 in
     record {
       placed = ltb-true q.order (length b.orders) (back x y e₂.0);
       numbered = number_text o.names.name (number_in b.requests k) q e₂.1;
       in_flight = e₃.1;
+      origin = e₄.1;
     }
 
 module _ (b : Book) (r : Ruled b) where

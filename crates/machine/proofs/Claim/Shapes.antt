@@ -186,7 +186,7 @@ pub record Idle (o : Order) (c : Change) : Type 0 where
   pub silent : cancels_in (tells c) ≡ []
   pub adds : c.requests.added ≡ 0
 
-pub left_idle : {o y : Order} {out : Output} {p j s : ℕ} → Near o y × Mute out → Idle o (left p y j s out)
+pub left_idle : {o y : Order} {out : Output} {p j s v : ℕ} → Near o y × Mute out → Idle o (left p y j s v out)
 left_idle (n, m) = record { near = n; within = m.few; silent = m.silent; adds = refl }
 
 -- ---- the gateway's cancel goes out
@@ -232,24 +232,24 @@ send_sent f o c d h r =
 -- ---- the ways
 
 module _ {k : ℕ} {q : Request} {o : Order} {e : Event} where
-  pub refuses_near : {y : Order} {j s : ℕ} {out : Output} → Refuses k q o e y j s out → Near o y × Mute out
+  pub refuses_near : {y : Order} {j s v : ℕ} {out : Output} → Refuses k q o e y j s v out → Near o y × Mute out
   refuses_near still = (near_self o, calm_mute 0)
   refuses_near (gone {r} w u g) = (refused_near k r o, calm_mute _)
   refuses_near (given_up_lem {r} w u g h) = (near_trans o _ _ (refused_near k r o) (given_up_near _), behind_mute (refused_alarm r o))
   refuses_near (told {r} w u g) = (refused_near k r o, says_mute (plain_reject _ _ _ _ _ _ _))
 
-  pub refuses_links : {y : Order} {j s : ℕ} {out : Output} → Refuses k q o e y j s out → (s ≡ 0) × ((j ≡ 0) ⊎ (j ≡ k))
+  pub refuses_links : {y : Order} {j s v : ℕ} {out : Output} → Refuses k q o e y j s v out → (s ≡ 0) × ((j ≡ 0) ⊎ (j ≡ k))
   refuses_links still = (refl, inl refl)
   refuses_links (gone w u g) = (refl, inr refl)
   refuses_links (given_up_lem w u g h) = (refl, inr refl)
   refuses_links (told w u g) = (refl, inr refl)
 
-module _ (f : Findings) (o : Order) (rule : tries_rule o.gateway ≡ true) (p j s : ℕ) {y : Order} {out : Output} (n : Near o y × Mute out) (h : has_gateway y ≡ true) where
+module _ (f : Findings) (o : Order) (rule : tries_rule o.gateway ≡ true) (p j s v : ℕ) {y : Order} {out : Output} (n : Near o y × Mute out) (h : has_gateway y ≡ true) where
   -- it is tried again, or it waited
-  pub retried_sent : y.gateway.tries < 3 → Sent f o (send_gateway_cancel f (left p y j s out))
+  pub retried_sent : y.gateway.tries < 3 → Sent f o (send_gateway_cancel f (left p y j s v out))
   retried_sent l = let (a, t, u) = n.0.gate h in send_sent f o _ (left_idle n) h (omega arith)
 
-  pub resumed_sent : y.gateway.unsent ≡ true → Sent f o (send_gateway_cancel f (left p y j s out))
+  pub resumed_sent : y.gateway.unsent ≡ true → Sent f o (send_gateway_cancel f (left p y j s v out))
   resumed_sent l = let (a, t, u) = n.0.gate h in send_sent f o _ (left_idle n) h (tries_unsent o.gateway (sym u ∙ l) rule)
 
 -- ---- the client's requests
@@ -281,20 +281,20 @@ module _ (f : Findings) (o : Order) where
 -- ---- event 9
 
 module _ (f : Findings) (o : Order) where
-  pub begun_out : Out f o (send_gateway_cancel f (left f.place (with_gateway (begun o) o) 0 0 (calm 0)))
+  pub begun_out : Out f o (send_gateway_cancel f (left f.place (with_gateway (begun o) o) 0 0 0 (calm 0)))
   unfolding send_gateway_cancel adding telling next_request is_answered next_downstream next_number
   begun_out = record {
-    says = says_send f (left f.place (with_gateway (begun o) o) 0 0 (calm 0)) (omega arith) (calm_mute 0).silent;
+    says = says_send f (left f.place (with_gateway (begun o) o) 0 0 0 (calm 0)) (omega arith) (calm_mute 0).silent;
     adds = refl;
     of_order = refl;
     unanswered = refl;
     text = refl;
   }
 
-  pub begun_once : (send_gateway_cancel f (left f.place (with_gateway (begun o) o) 0 0 (calm 0))).order.gateway.tries ≡ 1
+  pub begun_once : (send_gateway_cancel f (left f.place (with_gateway (begun o) o) 0 0 0 (calm 0))).order.gateway.tries ≡ 1
   unfolding begun
-  begun_once = (send_fields f (left f.place (with_gateway (begun o) o) 0 0 (calm 0))).1 ∙ one_more_lem 255 0 (omega arith)
+  begun_once = (send_fields f (left f.place (with_gateway (begun o) o) 0 0 0 (calm 0))).1 ∙ one_more_lem 255 0 (omega arith)
 
-  pub begun_none : (left f.place (with_gateway (begun o) o) 0 0 (calm 0)).order.gateway.tries ≡ 0
+  pub begun_none : (left f.place (with_gateway (begun o) o) 0 0 0 (calm 0)).order.gateway.tries ≡ 0
   unfolding begun
   begun_none = refl

@@ -76,8 +76,8 @@ made_leaves {f} {k} {q} {o} {e} h c c' = closed_made z
       reports = set_sound _ _;
       gives_up = λ y l. record { sound = l.sound };
       counts = exec_sound;
-      leaves = λ l u v. record { leaves = l };
-      sends = λ out l u v. record { leaves = record { sound = l.sound } };
+      leaves = λ l u v s. record { leaves = l };
+      sends = λ out l u v s. record { leaves = record { sound = l.sound } };
     }
 
 asked_leaves : {f : Findings} {o : Order} → Sound o → (c c' : Change) → AskedBy f o c c' → Leaves c

@@ -30,8 +30,8 @@ made_touches {f} {k} {q} {o} {e} = closed_made z
       reports = refl;
       gives_up = λ y t. refl;
       counts = λ y t. refl;
-      leaves = λ t u v. record { answers = u; supersedes = v; adds = inl refl };
-      sends = λ out t u v. record { answers = u; supersedes = v; adds = inr refl };
+      leaves = λ t u v s. record { answers = u; supersedes = v; adds = inl refl };
+      sends = λ out t u v s. record { answers = u; supersedes = v; adds = inr refl };
     }
 
 pub asked_touches : {f : Findings} {o : Order} {c c' : Change} → AskedBy f o c c' → Touches f 0 o c

@@ -90,16 +90,16 @@ refused_round b i c h =
     (still_round b i c.refusal [] (unfold cancels_in in refl) (λ j. unfold begins_at in ap (λ (x : Bool). x && asks_at j b i) h))
 
 -- a change of nothing leaves the book as it was
-none_answered : (qs : List Request) → answer_link 0 qs ≡ qs
+none_answered : (v : ℕ) (qs : List Request) → answer_link 0 v qs ≡ qs
 unfolding answer_link if◌then◌otherwise◌
-none_answered qs = refl
+none_answered v qs = refl
 
 requests_same : (qs : List Request) (c : Change) → c.requests.answered ≡ 0 → c.requests.superseded ≡ 0 → c.requests.added ≡ 0 → requests_after qs c ≡ qs
 unfolding requests_after
 requests_same qs c a s d =
     if_true _ _ _ (eq-eqb c.requests.added 0 d)
-    ∙ ap (λ (k : ℕ). answer_link k (answer_link c.requests.answered qs)) s ∙ none_answered _
-    ∙ ap (λ (k : ℕ). answer_link k qs) a ∙ none_answered qs
+    ∙ ap (λ (k : ℕ). answer_link k c.requests.outcome (answer_link c.requests.answered c.requests.outcome qs)) s ∙ none_answered _ _
+    ∙ ap (λ (k : ℕ). answer_link k c.requests.outcome qs) a ∙ none_answered _ qs
 
 pub after_same : (b : Book) (c : Change) → Bystands c → after b c ≡ b
 unfolding after

@@ -1,5 +1,5 @@
 -- Two changes of different orders, one after the other and the other way round: the tables that they leave. Rests on Links and Frame.
-use Rattle.std.proofs.Common.{ℕ, ◌+◌, ◌-◌, ◌≤◌, ◌<◌, arith, ◌≡◌, refl, sym, ap, ◌∙◌, ◌⊎◌, inl, inr, ⊎_elim, Bool, true, false, List, [], ◌∷◌, ◌++◌, append_assoc, append-nil, eqb, length, get_or, set, length-append, length-set, get_or-set_same, get_or-set_other, eq-eqb, ne_eqb}
+use Rattle.std.proofs.Common.{ℕ, zero, suc, ◌+◌, ◌-◌, ◌≤◌, ◌<◌, arith, ◌≡◌, refl, sym, ap, ◌∙◌, ◌⊎◌, inl, inr, ⊎_elim, Bool, true, false, List, [], ◌∷◌, ◌++◌, append_assoc, append-nil, eqb, length, get_or, set, length-append, length-set, get_or-set_same, get_or-set_other, eq-eqb, ne_eqb}
 use Rattle.std.proofs.Math.Decide.{ℕ_discrete}
 use Rattle.std.proofs.Math.ListN.{get_or-append}
 use Rattle.std.proofs.Math.Seq.{set-append_left, set_comm, get_or_at}
@@ -27,46 +27,46 @@ own_of k = those (own_by k)
 -- ---- requests answered
 
 -- in front of what is added behind them
-answer_front : (k : ℕ) (s t : List Request) → k ≤ length s → answer_link k (s ++ t) ≡ answer_link k s ++ t
+answer_front : (k a : ℕ) (s t : List Request) → k ≤ length s → answer_link k a (s ++ t) ≡ answer_link k a s ++ t
 unfolding answer_link
-answer_front k s t l = go (ℕ_discrete k 0)
+answer_front k a s t l = go (ℕ_discrete k 0)
   where
-    go : Dec (k ≡ 0) → (if eqb k 0 then s ++ t otherwise set (s ++ t) (k - 1) (answered (at (s ++ t) (k - 1)))) ≡ (if eqb k 0 then s otherwise set s (k - 1) (answered (at s (k - 1)))) ++ t
+    go : Dec (k ≡ 0) → (if eqb k 0 then s ++ t otherwise set (s ++ t) (k - 1) (answered a (at (s ++ t) (k - 1)))) ≡ (if eqb k 0 then s otherwise set s (k - 1) (answered a (at s (k - 1)))) ++ t
     go (yes z) = if_true _ _ _ (eq-eqb k 0 z) ∙ ap (λ (x : List Request). x ++ t) (sym (if_true (eqb k 0) s _ (eq-eqb k 0 z)))
     go (no z) =
         let h : k - 1 < length s = omega arith in
         if_false _ _ _ (ne_eqb k 0 z)
-        ∙ ap (λ (q : Request). set (s ++ t) (k - 1) (answered q)) (get_or-append s t no_request (k - 1) h)
+        ∙ ap (λ (q : Request). set (s ++ t) (k - 1) (answered a q)) (get_or-append s t no_request (k - 1) h)
         ∙ set-append_left s t (k - 1) _ h
         ∙ ap (λ (x : List Request). x ++ t) (sym (if_false (eqb k 0) s _ (ne_eqb k 0 z)))
 
--- in either order
-answer_comm : (k l : ℕ) (qs : List Request) → answer_link k (answer_link l qs) ≡ answer_link l (answer_link k qs)
-answer_comm k l qs = go (ℕ_discrete k l) (ℕ_discrete k 0) (ℕ_discrete l 0)
+-- of two requests in either order
+answer_comm : (k l x y : ℕ) (qs : List Request) → (k ≡ l → k ≡ 0) → answer_link k x (answer_link l y qs) ≡ answer_link l y (answer_link k x qs)
+answer_comm k l x y qs apart = go (ℕ_discrete k 0) (ℕ_discrete l 0)
   where
-    none : (x : ℕ) (s : List Request) → x ≡ 0 → answer_link x s ≡ s
-    none x s z = unfold answer_link in if_true _ _ _ (eq-eqb x 0 z)
+    none : (k x : ℕ) (s : List Request) → k ≡ 0 → answer_link k x s ≡ s
+    none k x s z = unfold answer_link in if_true _ _ _ (eq-eqb k 0 z)
 
-    one : (x : ℕ) (s : List Request) → (x ≡ 0 → ⊥) → answer_link x s ≡ set s (x - 1) (answered (at s (x - 1)))
-    one x s z = unfold answer_link in if_false _ _ _ (ne_eqb x 0 z)
+    one : (k x : ℕ) (s : List Request) → (k ≡ 0 → ⊥) → answer_link k x s ≡ set s (k - 1) (answered x (at s (k - 1)))
+    one k x s z = unfold answer_link in if_false _ _ _ (ne_eqb k 0 z)
 
-    both : (x y : ℕ) → (x ≡ 0 → ⊥) → (y ≡ 0 → ⊥) → (x - 1 ≡ y - 1 → ⊥)
-        → answer_link x (answer_link y qs) ≡ set (set qs (y - 1) (answered (at qs (y - 1)))) (x - 1) (answered (at qs (x - 1)))
-    both x y nx ny d =
-        ap (answer_link x) (one y qs ny) ∙ one x _ nx
-        ∙ ap (λ (q : Request). set (set qs (y - 1) (answered (at qs (y - 1)))) (x - 1) (answered q)) (get_or-set_other qs (y - 1) (x - 1) _ no_request d)
+    both : (k l x y : ℕ) → (k ≡ 0 → ⊥) → (l ≡ 0 → ⊥) → (k - 1 ≡ l - 1 → ⊥)
+        → answer_link k x (answer_link l y qs) ≡ set (set qs (l - 1) (answered y (at qs (l - 1)))) (k - 1) (answered x (at qs (k - 1)))
+    both k l x y nk nl d =
+        ap (answer_link k x) (one l y qs nl) ∙ one k x _ nk
+        ∙ ap (λ (q : Request). set (set qs (l - 1) (answered y (at qs (l - 1)))) (k - 1) (answered x q)) (get_or-set_other qs (l - 1) (k - 1) _ no_request d)
 
-    go : Dec (k ≡ l) → Dec (k ≡ 0) → Dec (l ≡ 0) → answer_link k (answer_link l qs) ≡ answer_link l (answer_link k qs)
-    go (yes e) p q = ap (λ (x : ℕ). answer_link x (answer_link l qs)) e ∙ ap (λ (x : ℕ). answer_link l (answer_link x qs)) (sym e)
-    go (no e) (yes p) q = none k (answer_link l qs) p ∙ ap (answer_link l) (sym (none k qs p))
-    go (no e) (no p) (yes q) = ap (answer_link k) (none l qs q) ∙ sym (none l (answer_link k qs) q)
-    go (no e) (no p) (no q) =
-        both k l p q (λ z. e (omega arith)) ∙ set_comm qs (l - 1) (k - 1) _ _ (λ z. e (omega arith)) ∙ sym (both l k q p (λ z. e (omega arith)))
+    go : Dec (k ≡ 0) → Dec (l ≡ 0) → answer_link k x (answer_link l y qs) ≡ answer_link l y (answer_link k x qs)
+    go (yes p) q = none k x (answer_link l y qs) p ∙ ap (answer_link l y) (sym (none k x qs p))
+    go (no p) (yes q) = ap (answer_link k x) (none l y qs q) ∙ sym (none l y (answer_link k x qs) q)
+    go (no p) (no q) =
+        let e : k - 1 ≡ l - 1 → ⊥ = λ z. p (apart (omega arith)) in
+        both k l x y p q e ∙ set_comm qs (l - 1) (k - 1) _ _ (λ z. e (sym z)) ∙ sym (both l k y x q p (λ z. e (sym z)))
 
 -- ---- the requests that a change leaves: those settled, and what is added
 
 abbrev pub settle : Requests → List Request → List Request
-settle r qs = answer_link r.superseded (answer_link r.answered qs)
+settle r qs = answer_link r.superseded r.outcome (answer_link r.answered r.outcome qs)
 
 unfoldable pub more : Requests → List Request
 more r = if eqb r.added 0 then [] otherwise r.request ∷ []
@@ -89,17 +89,28 @@ requests_after_lem b c = go (eqb c.requests.added 0)
     go false = unfold if◌then◌otherwise◌ in refl
 
 pub length_settle : (r : Requests) (qs : List Request) → length (settle r qs) ≡ length qs
-length_settle r qs = length_answer r.superseded _ ∙ length_answer r.answered qs
+length_settle r qs = length_answer r.superseded r.outcome _ ∙ length_answer r.answered r.outcome qs
 
 settle_front : (r : Requests) (s t : List Request) → r.answered ≤ length s → r.superseded ≤ length s → settle r (s ++ t) ≡ settle r s ++ t
 settle_front r s t l h =
-    ap (answer_link r.superseded) (answer_front r.answered s t l)
-    ∙ answer_front r.superseded (answer_link r.answered s) t (omega (arith, length_answer r.answered s))
+    ap (answer_link r.superseded r.outcome) (answer_front r.answered r.outcome s t l)
+    ∙ answer_front r.superseded r.outcome (answer_link r.answered r.outcome s) t (omega (arith, length_answer r.answered r.outcome s))
 
-settle_comm : (r q : Requests) (qs : List Request) → settle r (settle q qs) ≡ settle q (settle r qs)
-settle_comm r q qs =
-    ap (answer_link r.superseded) (answer_comm r.answered q.superseded (answer_link q.answered qs) ∙ ap (answer_link q.superseded) (answer_comm r.answered q.answered qs))
-    ∙ answer_comm r.superseded q.superseded _ ∙ ap (answer_link q.superseded) (answer_comm r.superseded q.answered _)
+-- two changes that settle requests of different orders
+settle_comm : (b : Book) (i j : ℕ) → (i ≡ j → ⊥) → (c d : Change) → Owned b i c → Owned b j d → settle c.requests (settle d.requests b.requests) ≡ settle d.requests (settle c.requests b.requests)
+settle_comm b i j n c d w v =
+    let r : Requests = c.requests in
+    let q : Requests = d.requests in
+    let x : ℕ = r.outcome in
+    let y : ℕ = q.outcome in
+    ap (answer_link r.superseded x)
+    (answer_comm r.answered q.superseded x y _ (apart w.answers v.supersedes) ∙ ap (answer_link q.superseded y) (answer_comm r.answered q.answered x y _ (apart w.answers v.answers)))
+    ∙ answer_comm r.superseded q.superseded x y _ (apart w.supersedes v.supersedes)
+    ∙ ap (answer_link q.superseded y) (answer_comm r.superseded q.answered x y _ (apart w.supersedes v.answers))
+  where
+    apart : {k l : ℕ} → ((m : ℕ) → k ≡ m + 1 → (request_in b m).order ≡ i) → ((m : ℕ) → l ≡ m + 1 → (request_in b m).order ≡ j) → k ≡ l → k ≡ 0
+    apart {k = zero} f g e = refl
+    apart {k = suc m} f g e = absurd (n (sym (f m (omega arith)) ∙ g m (omega arith)))
 
 -- ---- one after the other: d' is d as it is seen after c
 
@@ -156,12 +167,12 @@ module _ (b : Book) (i j : ℕ) (n : i ≡ j → ⊥) (c d : Change) (w : Owned 
       requests =
           requests_two b i j c d d w v refl
           ∙ append_swap (settle d.requests (settle c.requests b.requests)) (more c.requests) (more d.requests) (⊎_elim (λ z. inl (none_more c.requests z)) (λ z. inr (none_more d.requests z)) a)
-          ∙ ap (λ (s : List Request). (s ++ more d.requests) ++ more c.requests) (settle_comm d.requests c.requests b.requests)
+          ∙ ap (λ (s : List Request). (s ++ more d.requests) ++ more c.requests) (settle_comm b j i (λ z. n (sym z)) d c v w)
           ∙ sym (requests_two b j i d c c v w refl)
 
 -- ---- and the other way round
 
-module _ (b : Book) (i j : ℕ) (c c' d d' : Change) (w : Owned b i c) (v : Owned b j d) (p : c'.requests ≡ c.requests) (q : d'.requests ≡ d.requests) where
+module _ (b : Book) (i j : ℕ) (n : i ≡ j → ⊥) (c c' d d' : Change) (w : Owned b i c) (v : Owned b j d) (p : c'.requests ≡ c.requests) (q : d'.requests ≡ d.requests) where
   abbrev one : Book
   one = after (after b c) d'
 
@@ -183,7 +194,7 @@ module _ (b : Book) (i j : ℕ) (c c' d d' : Change) (w : Owned b i c) (v : Owne
   unfolding both_settled
   requests_other =
       requests_two b j i d c c' v w p
-      ∙ ap (λ (s : List Request). (s ++ more d.requests) ++ more c.requests) (settle_comm c.requests d.requests b.requests)
+      ∙ ap (λ (s : List Request). (s ++ more d.requests) ++ more c.requests) (settle_comm b i j n c d w v)
 
   -- a request that was there
   pub old_same : (k : ℕ) → k < length b.requests → request_in one k ≡ request_in two k
@@ -224,8 +235,8 @@ module _ (b : Book) (i j : ℕ) (c c' d d' : Change) (w : Owned b i c) (v : Owne
       go (no e) (inr o) = ap (own_of k) (one_more_lem r e) ∙ if_false _ _ _ (ne_eqb r.request.order k (λ h. z (sym o ∙ h)))
 
   -- an order's requests, in their order
-  pub requests_same : (i ≡ j → ⊥) → (k : ℕ) → own_of k one.requests ≡ own_of k two.requests
-  requests_same n k = go (ℕ_discrete i k)
+  pub requests_same : (k : ℕ) → own_of k one.requests ≡ own_of k two.requests
+  requests_same k = go (ℕ_discrete i k)
     where
       parts : (s t : List Request) → own_of k ((both_settled ++ s) ++ t) ≡ (own_of k both_settled ++ own_of k s) ++ own_of k t
       parts s t = those_append (own_by k) (both_settled ++ s) t ∙ ap (λ (x : List Request). x ++ own_of k t) (those_append (own_by k) both_settled s)

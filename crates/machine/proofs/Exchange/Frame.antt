@@ -52,7 +52,7 @@ pub record Apart (b b' : Book) (i : ℕ) : Type 0 where
 
 after_clordid : (b : Book) (c : Change) (k : ℕ) → k < length b.requests → (request_in (after b c) k).clordid ≡ (request_in b k).clordid
 unfolding after
-after_clordid b c k l = after_case (λ (q : Request). q.clordid ≡ (request_in b k).clordid) b.requests c k l refl refl
+after_clordid b c k l = after_case (λ (q : Request). q.clordid ≡ (request_in b k).clordid) b.requests c k l refl (λ z. refl)
 
 pub after_setting : (b : Book) (c : Change) → (after b c).setting ≡ b.setting
 unfolding after
@@ -128,7 +128,7 @@ module _ (b b' : Book) (i : ℕ) (a : Apart b b' i) where
         ap (λ (x : Bool). ltb (request_in b' k).order (length b'.orders) && x) e ∙ and-false (ltb (request_in b' k).order (length b'.orders))
 
     has_same : (k : ℕ) → k < length b.requests → has_clordid (request_in b' k) ≡ has_clordid (request_in b k)
-    has_same k l = ap (λ (t : Text). has_clordid (record { order = 0; kind = 0; answered = 0; clordid = t; origclordid = t; downstream = t })) (a.clordids k l)
+    has_same k l = ap (λ (t : Text). has_clordid (record { order = 0; kind = 0; answered = 0; clordid = t; origclordid = t; downstream = t; outcome = 0 })) (a.clordids k l)
 
     pub clordid_same : (t : Text) → find_clordid b' client t ≡ find_clordid b client t
     unfolding find_clordid

@@ -13,6 +13,7 @@ use Rattle.store.specs.declared.Request.{Request}
 use Rattle.store.specs.Book.{Book, order_in, request_in}
 use Rattle.store.specs.Finds.{find_name, find_downstream, find_clordid, count_clordids, has_clordid, of_client}
 use Rattle.machine.specs.Orders.{one_more}
+use Rattle.machine.specs.Constants.{failed_to_send}
 use Rattle.machine.specs.Changes.{Event}
 use Rattle.machine.specs.GatewayCancel.{cancel_order}
 use Rattle.machine.specs.Amend.{cancel, replace, venue_cancel_reject, send_failed, unsent}
@@ -80,7 +81,7 @@ module _ (e : Event) where
   unfolding change_of if◌then◌otherwise◌
   change_6 z x = rw z
 
-  change_7 : e.kind ≡ 7 → (x : Book) → change_of x e ≡ on_request nothing (λ f k q o. send_failed f k q e.venue (text_note e) o) x e
+  change_7 : e.kind ≡ 7 → (x : Book) → change_of x e ≡ on_request nothing (λ f k q o. send_failed f k q e.venue failed_to_send (text_note e) o) x e
   unfolding change_of if◌then◌otherwise◌
   change_7 z x = rw z
 
@@ -135,14 +136,11 @@ module _ (b : Book) (e : Event) (i : ℕ) where
         (λ n₂. by_cases (ℕ_discrete e.kind 3) (λ z. clordid _ (λ order full o. replace_made order full o e) (change_3 e z) (inr z))
         (λ n₃. by_cases (ℕ_discrete e.kind 4) (λ z. request _ _ (λ k q o p x m n. on_report_made k q o e p x m n (eq-eqb e.kind 4 z)) (change_4 e z) (omega arith) (omega arith))
         (λ n₄. by_cases (ℕ_discrete e.kind 5) (λ z. request _ _ (λ k q o. unknown_made k q o e) (change_5 e z) (omega arith) (omega arith))
-        (λ n₅. by_cases (ℕ_discrete e.kind 6) (λ z. request _ _ (λ k q o p x m n. reject_made k q o e p x m n (not_failed z refl)) (change_6 e z) (omega arith) (omega arith))
+        (λ n₅. by_cases (ℕ_discrete e.kind 6) (λ z. request _ _ (λ k q o p x m n. reject_made k q o e p x m n (eq-eqb e.kind 6 z)) (change_6 e z) (omega arith) (omega arith))
         (λ n₆. by_cases (ℕ_discrete e.kind 7) (λ z. request _ _ (λ k q o p x m n. failed_made k q o e p x m n (eq-eqb e.kind 7 z)) (change_7 e z) (omega arith) (omega arith))
-        (λ n₇. by_cases (ℕ_discrete e.kind 8) (λ z. request _ _ (λ k q o p x m n. unsent_made k q o e p x m n (not_failed z refl)) (change_8 e z) (omega arith) (omega arith))
+        (λ n₇. by_cases (ℕ_discrete e.kind 8) (λ z. request _ _ (λ k q o p x m n. unsent_made k q o e p x m n (eq-eqb e.kind 8 z)) (change_8 e z) (omega arith) (omega arith))
         (λ n₈. name (let z : 8 < e.kind = past 7 n₈ (past 6 n₇ (past 5 n₆ (past 4 n₅ (past 3 n₄ (past 2 n₃ (past 1 n₂ low)))))) in omega arith))))))))
       where
-        not_failed : {n : ℕ} → e.kind ≡ n → eqb n 7 ≡ false → eqb e.kind 7 ≡ false
-        not_failed {n} z y = ap (λ (k : ℕ). eqb k 7) z ∙ y
-
         past : (n : ℕ) → (e.kind ≡ n + 1 → ⊥) → n < e.kind → n + 1 < e.kind
         past n z l = omega arith
 

@@ -141,12 +141,12 @@ abbrev pub Pair : (t m n : ℕ) → Change → Change → Type 0
 Pair t m n = Linked t (one_more 65535 m) (one_more 65535 n)
 
 module _ {t : ℕ} (p : ℕ) (x : Request) (m n : ℕ) {o : Order} (w : Within t o) where
-  rest : {y : Order} {j s : ℕ} {out : Output} → Within t y → Pair t m n (left p y j s out) (left p y j s out)
+  rest : {y : Order} {j s v : ℕ} {out : Output} → Within t y → Pair t m n (left p y j s v out) (left p y j s v out)
   rest v = same (record { adds = refl; within = v }) refl
 
-  send : (y : Order) (j s : ℕ) (out : Output) → Within t y → Pair t m n (send_gateway_cancel (findings p x m) (left p y j s out)) (send_gateway_cancel (findings p x n) (left p y j s out))
+  send : (y : Order) (j s v : ℕ) (out : Output) → Within t y → Pair t m n (send_gateway_cancel (findings p x m) (left p y j s v out)) (send_gateway_cancel (findings p x n) (left p y j s v out))
   unfolding send_gateway_cancel numbered_order next_link telling adding try_sent cancel_request to_venue next_request if◌then◌otherwise◌
-  send y j s out v = cancels refl refl (record { current = v.current; cancel = omega arith; pending = v.pending; named = v.current }) refl
+  send y j s g out v = cancels refl refl (record { current = v.current; cancel = omega arith; pending = v.pending; named = v.current }) refl
 
   cancel_goes_lem : (e : Event) → Pair t m n (cancel_goes (findings p x m) o e) (cancel_goes (findings p x n) o e)
   unfolding cancel_goes numbered_order next_link telling adding unchanged cancel_request to_venue next_request if◌then◌otherwise◌
@@ -169,14 +169,14 @@ module _ {t : ℕ} (p : ℕ) (x : Request) (m n : ℕ) {o : Order} (w : Within t
         reports = reported_within t _ _ q o e w;
         gives_up = given_up_within t;
         counts = next_within t;
-        leaves = λ v u s. rest v;
-        sends = λ out v u s. send _ _ _ out v;
+        leaves = λ v u s g. rest v;
+        sends = λ out v u s g. send _ _ _ _ out v;
       }
 
   pub asked_pair : {c c' : Change} → Asked o p x m n c c' → Pair t m n c c'
   asked_pair (declined z) = rest w
   asked_pair (waits d g) = rest (begun_within t o w)
-  asked_pair (goes d g) = send _ _ _ _ (begun_within t o w)
+  asked_pair (goes d g) = send _ _ _ _ _ (begun_within t o w)
 
   pub amended_pair : {order : ℕ} {full : Bool} {e : Event} {c c' : Change} → Amended order full o e p x m n c c' → Pair t m n c c'
   amended_pair (repeated z) = rest (next_within t o w)

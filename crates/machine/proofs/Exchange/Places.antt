@@ -115,11 +115,11 @@ module _ (b : Book) (good : BookKept b) (i j : ℕ) (c c' d d' : Change) (x : Cr
         requests = (long d d' c v q p, long c c' d u p q);
         older = λ k l. sym (old_at b good i j c c' d d' x k l);
         first =
-            ap (λ (k : ℕ). request_in (after (after b d) c') k) (sym (added_long b d q)) ∙ added_two b i j c c' d d' x.first x.second u v p
-            ∙ sym (added_one b i j c c' d d' x.first x.second u v p);
+            ap (λ (k : ℕ). request_in (after (after b d) c') k) (sym (added_long b d q)) ∙ added_two b i j x.apart c c' d d' x.first x.second u v p
+            ∙ sym (added_one b i j x.apart c c' d d' x.first x.second u v p);
         second =
-            added_one b j i d d' c c' x.second x.first v u q
-            ∙ sym (ap (λ (k : ℕ). request_in (after (after b c) d') k) (sym (added_long b c p)) ∙ added_two b j i d d' c c' x.second x.first v u q);
+            added_one b j i (λ z. x.apart (sym z)) d d' c c' x.second x.first v u q
+            ∙ sym (ap (λ (k : ℕ). request_in (after (after b c) d') k) (sym (added_long b c p)) ∙ added_two b j i (λ z. x.apart (sym z)) d d' c c' x.second x.first v u q);
       }
 
 pub turned_book : TurnedBook

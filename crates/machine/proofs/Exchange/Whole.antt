@@ -139,7 +139,7 @@ module _ (b : Book) (good : BookKept b) (i j : ℕ) (c c' d d' : Change) (x : Cr
   two = after (after b d) c'
 
   pub old_at : (k : ℕ) → k < length b.requests → request_in one k ≡ request_in two k
-  old_at = old_same b i j c c' d d' x.first x.second (same_requests x.first_linked) (same_requests x.second_linked)
+  old_at = old_same b i j x.apart c c' d d' x.first x.second (same_requests x.first_linked) (same_requests x.second_linked)
 
   link_old : (l : ℕ) → l ≤ length b.requests → link_text one l ≡ link_text two l
   link_old l h = go (ℕ_discrete l 0)
@@ -159,9 +159,9 @@ module _ (b : Book) (good : BookKept b) (i j : ℕ) (c c' d d' : Change) (x : Cr
   link_new : (c.requests.added ≡ 0 → ⊥) → link_text one (next b) ≡ link_text two (next (after b d))
   link_new a =
       link_of one (length b.requests) (omega (arith, good.requests))
-      ∙ ap (λ (r : Request). r.downstream) (added_one b i j c c' d d' x.first x.second (same_requests x.first_linked) (same_requests x.second_linked) a)
+      ∙ ap (λ (r : Request). r.downstream) (added_one b i j x.apart c c' d d' x.first x.second (same_requests x.first_linked) (same_requests x.second_linked) a)
       ∙ sym (link_of two (length (after b d).requests) (omega (arith, after_few))
-      ∙ ap (λ (r : Request). r.downstream) (added_two b i j c c' d d' x.first x.second (same_requests x.first_linked) (same_requests x.second_linked) a))
+      ∙ ap (λ (r : Request). r.downstream) (added_two b i j x.apart c c' d d' x.first x.second (same_requests x.first_linked) (same_requests x.second_linked) a))
 
   -- the order of the first, in either book
   pub first_one : order_in one i ≡ c.order
@@ -207,7 +207,7 @@ module _ (b : Book) (good : BookKept b) (i j : ℕ) (c c' d d' : Change) (x : Cr
   same_order : (k : ℕ) → SameOrder (after (after b c) d') (after (after b d) c') k
   same_order k = record {
     order = orders_alike k;
-    requests = requests_same b i j c c' d d' x.first x.second (same_requests x.first_linked) (same_requests x.second_linked) x.apart k;
+    requests = requests_same b i j x.apart c c' d d' x.first x.second (same_requests x.first_linked) (same_requests x.second_linked) k;
   }
 
 -- what is left open goes by client, terms and state

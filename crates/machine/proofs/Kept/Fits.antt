@@ -181,9 +181,9 @@ module _ (laws : NumberedLaws) (f : Findings) where
     downstream = laws.whole o.names.name (next_number o) h.names.name h.names.short (one_more_fits 65535 o.links.amendments h.amendments);
   }
 
-  send_fits : (p : ℕ) (y : Order) (j s : ℕ) (out : Output) → OrderFits y → ChangeFits (send_gateway_cancel f (left p y j s out))
+  send_fits : (p : ℕ) (y : Order) (j s v : ℕ) (out : Output) → OrderFits y → ChangeFits (send_gateway_cancel f (left p y j s v out))
   unfolding send_gateway_cancel telling adding try_sent
-  send_fits p y j s out h = record {
+  send_fits p y j s v out h = record {
     order = gateway_fits (numbered_order f true y) (numbered_fits y h f true) (try_sent y) h.refusedsends;
     request = next_fits y _ no_text no_text h no_text_whole no_text_whole;
   }
@@ -193,8 +193,8 @@ module _ (laws : NumberedLaws) (f : Findings) where
     made_fits {k} {q} r c c' = closed_made z
       where
         from_whole : {x : Refused} → From k q o e x → WholeText x.venueorderid
-        from_whole by_report = w.venueorderid
-        from_whole by_reject = w.venueorderid
+        from_whole (by_report v) = w.venueorderid
+        from_whole (by_reject v) = w.venueorderid
         from_whole (by_failure n) = no_text_whole
 
         z : Closed k q o e f.place f.cancel f.requests f.requests OrderFits (λ c c'. ChangeFits c)
@@ -209,8 +209,8 @@ module _ (laws : NumberedLaws) (f : Findings) where
               state_fits _ (split_if OrderFits (accepts k q o e) (λ t. replaced_fits _ n q r) (λ t. n)) _ _ _ _ _ h.execseq;
           gives_up = λ y v. gateway_fits y v (given_up y) (unfold given_up in v.refusedsends);
           counts = exec_fits;
-          leaves = λ v t u. record { order = v; request = no_request_fits };
-          sends = λ out v t u. send_fits _ _ _ _ out v;
+          leaves = λ y t u v. record { order = y; request = no_request_fits };
+          sends = λ out y t u v. send_fits _ _ _ _ _ out y;
         }
 
     amended_fits : {order : ℕ} {full : Bool} (c c' : Change) → AmendedBy f order full o e c c' → ChangeFits c
@@ -224,7 +224,7 @@ module _ (laws : NumberedLaws) (f : Findings) where
   asked_fits : {o : Order} → OrderFits o → (c c' : Change) → AskedBy f o c c' → ChangeFits c
   asked_fits h c c' (declined z) = record { order = h; request = no_request_fits }
   asked_fits {o} h c c' (waits d g) = record { order = gateway_fits o h (begun o) (unfold begun in omega arith); request = no_request_fits }
-  asked_fits {o} h c c' (goes d g) = send_fits _ _ _ _ _ (gateway_fits o h (begun o) (unfold begun in omega arith))
+  asked_fits {o} h c c' (goes d g) = send_fits _ _ _ _ _ _ (gateway_fits o h (begun o) (unfold begun in omega arith))
 
 -- ---- the book
 
@@ -253,9 +253,9 @@ orders_past = past_all OrderFits no_order no_order_fits
 pub requests_past : (l : List Request) → ((k : ℕ) → k < length l → RequestFits (get_or l k no_request)) → (k : ℕ) → RequestFits (get_or l k no_request)
 requests_past = past_all RequestFits no_request no_request_fits
 
-answer_fits : (k : ℕ) (qs : List Request) → ((j : ℕ) → RequestFits (get_or qs j no_request)) → (j : ℕ) → RequestFits (get_or (answer_link k qs) j no_request)
+answer_fits : (k v : ℕ) (qs : List Request) → ((j : ℕ) → RequestFits (get_or qs j no_request)) → (j : ℕ) → RequestFits (get_or (answer_link k v qs) j no_request)
 unfolding answer_link
-answer_fits k qs h j =
+answer_fits k v qs h j =
     split_if (λ (l : List Request). RequestFits (get_or l j no_request)) _ (λ t. h j)
     (λ t. set_all RequestFits no_request no_request_fits qs (k - 1) _ h (let q = h (k - 1) in record { clordid = q.clordid; origclordid = q.origclordid; downstream = q.downstream }) j)
 
@@ -270,10 +270,10 @@ after_fits b c f h = record {
 }
   where
     settled_by : List Request
-    settled_by = answer_link c.requests.superseded (answer_link c.requests.answered b.requests)
+    settled_by = answer_link c.requests.superseded c.requests.outcome (answer_link c.requests.answered c.requests.outcome b.requests)
 
     settled : (j : ℕ) → RequestFits (get_or settled_by j no_request)
-    settled = answer_fits c.requests.superseded _ (answer_fits c.requests.answered b.requests f.request)
+    settled = answer_fits c.requests.superseded _ _ (answer_fits c.requests.answered _ b.requests f.request)
 
 module _ (laws : NumberedLaws) (b : Book) (e : Event) (f : BookFits b) (w : WholeEvent e) (short : e.kind ≡ 1 → e.ids.name.len ≤ 20) where
   ways : Ways ChangeFits b e

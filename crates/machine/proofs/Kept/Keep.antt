@@ -9,7 +9,7 @@ use Rattle.store.specs.declared.Pending.{Pending}
 use Rattle.store.specs.declared.GatewayCancel.{GatewayCancel}
 use Rattle.store.specs.declared.Order.{Order}
 use Rattle.store.specs.declared.Request.{Request}
-use Rattle.store.specs.Book.{Book, order_in}
+use Rattle.store.specs.Book.{Book, order_in, request_in}
 use Rattle.text.specs.Words.{no_text}
 use Rattle.store.specs.Requests.{no_request}
 use Rattle.text.specs.Numbered.{numbered_text}
@@ -24,7 +24,7 @@ use Rattle.machine.specs.Machine.{answer_link, requests_after, latest_cancel}
 use Rattle.machine.specs.Events.{Ranged}
 use Rattle.format.specs.Codes.{is_ordtype, is_status, statuses, is_price, pending_new, new, partially_filled, rejected, limit}
 use Rattle.machine.specs.Ranges.{text_within}
-use Rattle.machine.specs.Rules.{force_range, priced_range, pending_range, gateway_range, request_range, linked, pending_test, current_test, current_rule, pending_rule, filled_rule, tries_rule, name_number, number_rule, in_flight_rule, client_of}
+use Rattle.machine.specs.Rules.{force_range, priced_range, pending_range, gateway_range, request_range, outcome_rule, linked, pending_test, current_test, current_rule, pending_rule, filled_rule, tries_rule, name_number, number_rule, in_flight_rule, origin_rule, client_of}
 use Rattle.machine.specs.declared.Findings.{Findings}
 use Rattle.machine.specs.declared.Refused.{Refused}
 use Rattle.machine.specs.declared.Output.{Output}
@@ -32,7 +32,7 @@ use Rattle.machine.specs.declared.Change.{Change}
 use Rattle.machine.proofs.Made.{left, From, by_report, by_reject, by_failure, Open, Refuses, still, gone, given_up_lem, told, Fails, unfailed, refused, freed, fell, ended, new_again, cancel_again, replace_again, failing, Applied, reported, Settles, replaced, cancelled, neither, fails, resends, alarms, names, applies, informs, quietly, retries, stays, refusing!, resumes, declined, waits, goes}
 use Rattle.machine.proofs.Stepped.{MadeBy, AskedBy}
 use Rattle.machine.proofs.Kept.Laws.{or_else, and_else, and_tail}
-use Rattle.machine.proofs.Kept.Tables.{at, Linked, linked_at, linked_new, length_answer, owned, owned_answer, amendments_at}
+use Rattle.machine.proofs.Kept.Tables.{at, Linked, linked_at, linked_new, length_answer, owned, owned_answer, amendments_at, origin_none, origin_new}
 use Rattle.machine.proofs.Kept.Local.{OrderKept, Flights, Quiet, settled, InFlight, in_flight, flight_rule, settled_flight, quiet_flights, quiet_unsent, quiet_latest, quiet_answer, answer_kept, one_more_lem, next_link_lem, next_owned, own_kept, gateway_live, terms_kept, sequence_kept, named_kept, gateway_kept, pending_kept, cleared_kept, state_kept, pending_parts, replaced_kept}
 
 -- ---- the law of a change to order i
@@ -45,7 +45,9 @@ Owns b i k = (j : ℕ) → k ≡ j + 1 → (at b.requests j).order ≡ i
 pub record Added (b : Book) (i : ℕ) (o : Order) (x : Request) : Type 0 where
   pub order : x.order ≡ i
   pub range : request_range x ≡ true
+  pub outcome : outcome_rule x ≡ true
   pub number : number_rule o.names.name (owned i b.requests) x ≡ true
+  pub origin : origin_rule (b.requests ++ (x ∷ [])) (length b.requests) ≡ true
   pub fresh : (j : ℕ) → j < length b.requests → not (is_empty x.clordid) && eqb o.client (client_of b j) && same_text x.clordid (at b.requests j).clordid ≡ false
 
 pub record Kept (b : Book) (i : ℕ) (c : Change) : Type 0 where
@@ -59,6 +61,13 @@ pub record Kept (b : Book) (i : ℕ) (c : Change) : Type 0 where
 
 no_link : (b : Book) (i : ℕ) → Owns b i 0
 no_link b i j e = absurd (omega arith)
+
+-- a request of order i has this ClOrdID
+pub record Named (b : Book) (i : ℕ) (t : Text) : Type 0 where
+  pub at : ℕ
+  pub below : at < length b.requests
+  pub own : (request_in b at).order ≡ i
+  pub bears : same_text (request_in b at).clordid t ≡ true
 
 -- an order of the book and the facts that go with it
 pub record Here (b : Book) (i : ℕ) (f : Findings) (o : Order) : Type 0 where
@@ -76,7 +85,7 @@ pub record Same (o p : Order) : Type 0 where
 
 module _ (b : Book) (i : ℕ) (f : Findings) (o : Order) (here : Here b i f o) where
   -- no request is added
-  left_kept : {y : Order} {k s : ℕ} {out : Output} → Same o y → Owns b i k → Owns b i s → OrderKept i y (answer_link s (answer_link k b.requests)) → Kept b i (left f.place y k s out)
+  left_kept : {y : Order} {k s v : ℕ} {out : Output} → Same o y → Owns b i k → Owns b i s → OrderKept i y (answer_link s v (answer_link k v b.requests)) → Kept b i (left f.place y k s v out)
   unfolding requests_after if◌then◌otherwise◌
   left_kept y a w l = record {
     place = here.place;
@@ -89,20 +98,20 @@ module _ (b : Book) (i : ℕ) (f : Findings) (o : Order) (here : Here b i f o) w
   }
 
   -- and none is answered
-  pub still_kept : {y : Order} {out : Output} → Same o y → OrderKept i y b.requests → Kept b i (left f.place y 0 0 out)
+  pub still_kept : {y : Order} {out : Output} → Same o y → OrderKept i y b.requests → Kept b i (left f.place y 0 0 0 out)
   unfolding answer_link if◌then◌otherwise◌
   still_kept y l = left_kept y (no_link b i) (no_link b i) l
 
-  pub own_still : {out : Output} → Kept b i (left f.place o 0 0 out)
+  pub own_still : {out : Output} → Kept b i (left f.place o 0 0 0 out)
   own_still = still_kept (record { name = refl; client = refl }) here.kept
 
   -- or one
-  once_kept : {y : Order} {k : ℕ} {out : Output} → Same o y → Owns b i k → OrderKept i y (answer_link k b.requests) → Kept b i (left f.place y k 0 out)
+  once_kept : {y : Order} {k v : ℕ} {out : Output} → Same o y → Owns b i k → OrderKept i y (answer_link k v b.requests) → Kept b i (left f.place y k 0 v out)
   unfolding answer_link if◌then◌otherwise◌
   once_kept m w l = left_kept m w (no_link b i) l
 
-  answered_kept : {y : Order} {k : ℕ} {out : Output} → Same o y → Owns b i k → (k ≡ y.pending.request → k ≡ 0) → OrderKept i y b.requests → Kept b i (left f.place y k 0 out)
-  answered_kept {y} {k} m w free l = once_kept m w (answer_kept i k y b.requests free l)
+  answered_kept : {y : Order} {k v : ℕ} {out : Output} → Same o y → Owns b i k → (k ≡ y.pending.request → k ≡ 0) → OrderKept i y b.requests → Kept b i (left f.place y k 0 v out)
+  answered_kept {y} {k} {v} m w free l = once_kept m w (answer_kept i k v y b.requests free l)
 
   -- the client's request goes out
   goes_kept : (x : Request) (p : Order) (m : Message) → Same o p → Added b i p x → OrderKept i p (b.requests ++ (x ∷ [])) → Kept b i (telling m (adding x (unchanged f.place p)))
@@ -129,9 +138,14 @@ next_right f o kind n clordid origclordid e h first =
     (same_self (numbered_text o.names.name (next_number o))))
     (if_false (is_first _) (eqb n 0) (ltb 0 n) first ∙ lt-ltb 0 n h)
 
+-- nothing has come of it
+next_outcome : (f : Findings) (o : Order) (kind : ℕ) (clordid origclordid : Text) → outcome_rule (next_request f o kind clordid origclordid) ≡ true
+unfolding outcome_rule is_answered next_request if◌then◌otherwise◌
+next_outcome f o kind clordid origclordid = refl
+
 -- the requests once a change has answered its own
 abbrev pub settled_by : List Request → Change → List Request
-settled_by qs c = answer_link c.requests.superseded (answer_link c.requests.answered qs)
+settled_by qs c = answer_link c.requests.superseded c.requests.outcome (answer_link c.requests.answered c.requests.outcome qs)
 
 pub after_settled : (qs : List Request) (c : Change) → eqb c.requests.added 0 ≡ true → requests_after qs c ≡ settled_by qs c
 unfolding requests_after
@@ -142,10 +156,10 @@ unfolding requests_after
 after_more qs c e = if_false (eqb c.requests.added 0) _ _ e
 
 pub length_settled : (qs : List Request) (c : Change) → length (settled_by qs c) ≡ length qs
-length_settled qs c = length_answer c.requests.superseded _ ∙ length_answer c.requests.answered qs
+length_settled qs c = length_answer c.requests.superseded c.requests.outcome _ ∙ length_answer c.requests.answered c.requests.outcome qs
 
 pub owned_settled : (i : ℕ) (qs : List Request) (c : Change) → owned i (settled_by qs c) ≡ owned i qs
-owned_settled i qs c = owned_answer i c.requests.superseded _ ∙ owned_answer i c.requests.answered qs
+owned_settled i qs c = owned_answer i c.requests.superseded c.requests.outcome _ ∙ owned_answer i c.requests.answered c.requests.outcome qs
 
 -- ---- a gateway cancel goes out
 
@@ -232,7 +246,9 @@ module _ (b : Book) (i : ℕ) (f : Findings) (o : Order) (here : Here b i f o) (
       record {
         order = unfold next_request in let e : f.place ≡ i + 1 = here.place in omega arith;
         range = unfold next_request request_range is_gateway is_first text_within is_text all_below if◌then◌otherwise◌ in refl;
+        outcome = next_outcome f p gateway_kind no_text no_text;
         number = next_right f p gateway_kind (owned i b.requests) no_text no_text next (omega arith) (unfold is_first next_request in refl);
+        origin = origin_none b.requests (next_request f p gateway_kind no_text no_text) (unfold next_request in refl);
         fresh = λ j h. unfold next_request in refl;
       }
 
@@ -351,8 +367,8 @@ module _ (b : Book) (i : ℕ) (f : Findings) (o : Order) (here : Here b i f o) (
       (here.kept.flight j asked.below (sym (ap (λ (x : Request). x.order) asked.is) ∙ asked.own))))
 
   -- none is in flight once that one is answered
-  asked_quiet : is_gateway q ≡ true → is_answered q ≡ false → is_done o.state.status ≡ false → Quiet i (answer_link (j + 1) b.requests)
-  asked_quiet g a live = subst (λ (k : ℕ). Quiet i (answer_link k b.requests)) (asked_flight g a live).latest (quiet_answer i o b.requests live here.kept.flight)
+  asked_quiet : (v : ℕ) → is_gateway q ≡ true → is_answered q ≡ false → is_done o.state.status ≡ false → Quiet i (answer_link (j + 1) v b.requests)
+  asked_quiet v g a live = subst (λ (k : ℕ). Quiet i (answer_link k v b.requests)) (asked_flight g a live).latest (quiet_answer i v o b.requests live here.kept.flight)
 
   -- pending terms do not name it unless it is an unanswered replace
   asked_free : is_replace q ≡ false → j + 1 ≡ o.pending.request → j + 1 ≡ 0
@@ -365,24 +381,24 @@ module _ (b : Book) (i : ℕ) (f : Findings) (o : Order) (here : Here b i f o) (
   -- what refuses the request is in range
   module _ (e : Event) (ranged : Ranged e) where
     from_coded : {r : Refused} → From (j + 1) q o e r → (eqb r.status 0 ≡ false → is_status r.status ≡ true) × (text_within 0 32 r.venueorderid ≡ true)
-    from_coded by_report = (split_if (λ (n : ℕ). eqb n 0 ≡ false → is_status n ≡ true) _ (λ t h. clash true refl h) (λ t h. ranged.status h), ranged.venueorderid)
-    from_coded by_reject = (ranged.status, ranged.venueorderid)
+    from_coded (by_report v) = (split_if (λ (n : ℕ). eqb n 0 ≡ false → is_status n ≡ true) _ (λ t h. clash true refl h) (λ t h. ranged.status h), ranged.venueorderid)
+    from_coded (by_reject v) = (ranged.status, ranged.venueorderid)
     from_coded (by_failure n) = (λ z. here.kept.coded, no_text_lem)
 
     after_refusal : {r : Refused} → From (j + 1) q o e r → After i (j + 1) o (refused_order (j + 1) r o) b.requests
     after_refusal {r} w = let (s, t) = from_coded w in refused_after i o b.requests here.kept (j + 1) r s t
 
-    gone_kept : {r : Refused} {out : Output} → From (j + 1) q o e r → Kept b i (left f.place (refused_order (j + 1) r o) (j + 1) 0 out)
+    gone_kept : {r : Refused} {out : Output} → From (j + 1) q o e r → Kept b i (left f.place (refused_order (j + 1) r o) (j + 1) 0 r.outcome out)
     gone_kept w = let a = after_refusal w in answered_kept b i f o here a.same owns a.free a.kept
 
     -- a gateway cancel that was sent, and is settled now
-    record Sent (p : Order) : Type 0 where
+    record Sent (v : ℕ) (p : Order) : Type 0 where
       live : is_done p.state.status ≡ false
-      quiet : Quiet i (answer_link (j + 1) b.requests)
+      quiet : Quiet i (answer_link (j + 1) v b.requests)
       sent : p.gateway.unsent ≡ false
       free : p.gateway.stuck ≡ false
 
-    sent_after : {r : Refused} → From (j + 1) q o e r → Open (j + 1) q o e → is_gateway q ≡ true → has_gateway (refused_order (j + 1) r o) ≡ true → Sent (refused_order (j + 1) r o)
+    sent_after : {r : Refused} → From (j + 1) q o e r → Open (j + 1) q o e → is_gateway q ≡ true → has_gateway (refused_order (j + 1) r o) ≡ true → Sent r.outcome (refused_order (j + 1) r o)
     sent_after {r} w u g h =
         let p : Order = refused_order (j + 1) r o in
         let a : After i (j + 1) o p b.requests = after_refusal w in
@@ -390,61 +406,61 @@ module _ (b : Book) (i : ℕ) (f : Findings) (o : Order) (here : Here b i f o) (
         let flight : InFlight (j + 1) o = asked_flight g u.unanswered (a.live live) in
         record {
           live = live;
-          quiet = asked_quiet g u.unanswered (a.live live);
+          quiet = asked_quiet r.outcome g u.unanswered (a.live live);
           sent = ap (λ (x : GatewayCancel). x.unsent) (a.gateway h) ∙ flight.sent;
           free = ap (λ (x : GatewayCancel). x.stuck) (a.gateway h) ∙ flight.free;
         }
 
     up_kept : {r : Refused} {out : Output} → From (j + 1) q o e r → Open (j + 1) q o e → is_gateway q ≡ true → has_gateway (refused_order (j + 1) r o) ≡ true
-        → Kept b i (left f.place (with_gateway (given_up (refused_order (j + 1) r o)) (refused_order (j + 1) r o)) (j + 1) 0 out)
+        → Kept b i (left f.place (with_gateway (given_up (refused_order (j + 1) r o)) (refused_order (j + 1) r o)) (j + 1) 0 r.outcome out)
     up_kept {r} w u g h =
         let p : Order = refused_order (j + 1) r o in
         let a : After i (j + 1) o p b.requests = after_refusal w in
-        let s : Sent p = sent_after w u g h in
-        let l : OrderKept i p (answer_link (j + 1) b.requests) = answer_kept i (j + 1) p b.requests a.free a.kept in
+        let s : Sent r.outcome p = sent_after w u g h in
+        let l : OrderKept i p (answer_link (j + 1) r.outcome b.requests) = answer_kept i (j + 1) r.outcome p b.requests a.free a.kept in
         once_kept b i f o here (record { name = a.same.name; client = a.same.client }) owns
         (gateway_kept i p _ l (given_up p) s.live s.quiet (stuck_range _ p h s.sent l.gateway) (unfold given_up in three_tries (given_up p) s.sent (tries_at p.gateway l.tries)))
 
-    refuses_kept : {y : Order} {k s : ℕ} {out : Output} → Refuses (j + 1) q o e y k s out → Kept b i (left f.place y k s out)
+    refuses_kept : {y : Order} {k s v : ℕ} {out : Output} → Refuses (j + 1) q o e y k s v out → Kept b i (left f.place y k s v out)
     refuses_kept still = own_still b i f o here
     refuses_kept (gone w u g) = gone_kept w
     refuses_kept (given_up_lem w u g h) = up_kept w u g h
     refuses_kept (told w u g) = gone_kept w
 
     retried_kept : {r : Refused} (out : Output) → From (j + 1) q o e r → Open (j + 1) q o e → is_gateway q ≡ true → has_gateway (refused_order (j + 1) r o) ≡ true → (refused_order (j + 1) r o).gateway.tries < 3
-        → Kept b i (send_gateway_cancel f (left f.place (refused_order (j + 1) r o) (j + 1) 0 out))
+        → Kept b i (send_gateway_cancel f (left f.place (refused_order (j + 1) r o) (j + 1) 0 r.outcome out))
     retried_kept {r} out w u g h few =
-        let s : Sent (refused_order (j + 1) r o) = sent_after w u g h in
+        let s : Sent r.outcome (refused_order (j + 1) r o) = sent_after w u g h in
         send_kept b i f o here _
         (record { kept = gone_kept w; idle = refl; live = s.live; quiet = unfold requests_after answer_link if◌then◌otherwise◌ in s.quiet; few = omega arith; free = s.free })
 
   -- the one that waited goes
-  resumed_kept : {y : Order} {k s : ℕ} {out : Output} → Kept b i (left f.place y k s out) → has_gateway y ≡ true → y.gateway.unsent ≡ true → Kept b i (send_gateway_cancel f (left f.place y k s out))
-  resumed_kept {y} {k} {s} {out} l g u =
+  resumed_kept : {y : Order} {k s v : ℕ} {out : Output} → Kept b i (left f.place y k s v out) → has_gateway y ≡ true → y.gateway.unsent ≡ true → Kept b i (send_gateway_cancel f (left f.place y k s v out))
+  resumed_kept {y} {k} {s} {v} {out} l g u =
       let live : is_done y.state.status ≡ false = gateway_live y l.rule.done g in
       send_kept b i f o here _
       (record {
         kept = l;
         idle = refl;
         live = live;
-        quiet = quiet_unsent i y (requests_after b.requests (left f.place y k s out)) live u l.rule.flight;
+        quiet = quiet_unsent i y (requests_after b.requests (left f.place y k s v out)) live u l.rule.flight;
         few = tries_unsent y.gateway u l.rule.tries;
         free = not_stuck _ y.gateway u l.rule.gateway;
       })
 
   -- ---- a send that failed
 
-  failed_gateway : {out : Output} → is_gateway q ≡ true → is_answered q ≡ false → has_gateway o ≡ true → Kept b i (left f.place (with_gateway (send_refused o.gateway) o) (j + 1) 0 out)
-  failed_gateway g un h =
+  failed_gateway : {v : ℕ} {out : Output} → is_gateway q ≡ true → is_answered q ≡ false → has_gateway o ≡ true → Kept b i (left f.place (with_gateway (send_refused o.gateway) o) (j + 1) 0 v out)
+  failed_gateway {v} g un h =
       let live : is_done o.state.status ≡ false = gateway_live o here.kept.done h in
       let flight : InFlight (j + 1) o = asked_flight g un live in
-      let l : OrderKept i o (answer_link (j + 1) b.requests) = answer_kept i (j + 1) o b.requests (asked_free (gateway_not_replace q g)) here.kept in
+      let l : OrderKept i o (answer_link (j + 1) v b.requests) = answer_kept i (j + 1) v o b.requests (asked_free (gateway_not_replace q g)) here.kept in
       let few : o.gateway.tries ≤ 3 = tries_at o.gateway here.kept.tries in
       once_kept b i f o here (record { name = refl; client = refl }) owns
-      (gateway_kept i o _ l (send_refused o.gateway) live (asked_quiet g un live)
+      (gateway_kept i o _ l (send_refused o.gateway) live (asked_quiet v g un live)
       (refused_range _ o.gateway (unfold has_gateway in h) flight.free l.gateway) (unfold send_refused in few_tries (send_refused o.gateway) 2 (omega arith) (omega arith)))
 
-  first_failed : {out : Output} → is_first q ≡ true → eqb o.state.status pending_new ≡ true → Kept b i (left f.place (next_exec (set_status rejected o)) (j + 1) 0 out)
+  first_failed : {v : ℕ} {out : Output} → is_first q ≡ true → eqb o.state.status pending_new ≡ true → Kept b i (left f.place (next_exec (set_status rejected o)) (j + 1) 0 v out)
   unfolding next_exec
   first_failed first s =
       let live : is_done o.state.status ≡ false = subst (λ (x : ℕ). is_done x ≡ false) (sym (eqb-true o.state.status pending_new s)) (unfold is_done in refl) in
@@ -515,22 +531,22 @@ module _ (b : Book) (i : ℕ) (f : Findings) (o : Order) (here : Here b i f o) (
           left = λ a k h. set_free _ k _ h;
         }
 
-    settles_kept : {p : Order} {k s : ℕ} {out : Output} → Reported (accepts (j + 1) q o e) p → Settles (j + 1) q o e k s → Kept b i (left f.place p k s out)
-    settles_kept {p} r (replaced t) =
+    settles_kept : {p : Order} {k s v : ℕ} {out : Output} → Reported (accepts (j + 1) q o e) p → Settles (j + 1) q o e k s v → Kept b i (left f.place p k s v out)
+    settles_kept {p} {k} {s} {v} r (replaced t h) =
         left_kept b i f o here r.same owns
         (λ k z. let c = current_link i o b.requests here.kept.current in subst (λ (n : ℕ). (at b.requests n).order ≡ i) (omega arith) c.own)
-        (answer_kept i o.links.current p _ (r.none t o.links.current) (answer_kept i (j + 1) p b.requests (r.none t (j + 1)) r.kept))
-    settles_kept r (cancelled t u) = answered_kept b i f o here r.same owns (r.left t (j + 1) (asked_free (cancel_not_replace q u))) r.kept
+        (answer_kept i o.links.current v p _ (r.none t o.links.current) (answer_kept i (j + 1) v p b.requests (r.none t (j + 1)) r.kept))
+    settles_kept r (cancelled t u h) = answered_kept b i f o here r.same owns (r.left t (j + 1) (asked_free (cancel_not_replace q u))) r.kept
     settles_kept r (neither t) = still_kept b i f o here r.same r.kept
 
     applied : Applied (j + 1) q o e → Reported (accepts (j + 1) q o e) (reported (j + 1) q o e)
     applied x = reported_order_lem (accepts (j + 1) q o e) (status_taken (j + 1) q o e) refl refl x.live (let l : o.state.cumqty ≤ e.exec.cumqty = x.up in let m : e.exec.cumqty ≤ ordered_qty (accepts (j + 1) q o e) o = x.fits in omega arith)
 
-    fails_kept : {y : Order} {k s : ℕ} {out : Output} → Fails (j + 1) q o e y k s out → Kept b i (left f.place y k s out)
+    fails_kept : {y : Order} {k s v : ℕ} {out : Output} → Fails (j + 1) q o e y k s v out → Kept b i (left f.place y k s v out)
     fails_kept unfailed = own_still b i f o here
     fails_kept (refused r g) = refuses_kept e ranged r
-    fails_kept (freed g h) = answered_kept b i f o here (record { name = refl; client = refl }) owns (asked_free (gateway_not_replace q g)) here.kept
-    fails_kept (fell t g u h) = failed_gateway g u h
+    fails_kept (freed w g h) = answered_kept b i f o here (record { name = refl; client = refl }) owns (asked_free (gateway_not_replace q g)) here.kept
+    fails_kept (fell w t g u h) = failed_gateway g u h
     fails_kept (ended w t g h) = first_failed t h
 
     pub made_kept : {c c' : Change} → MadeBy f (j + 1) q o e c c' → Kept b i c
@@ -587,7 +603,7 @@ module _ (b : Book) (i : ℕ) (f : Findings) (o : Order) (here : Here b i f o) w
           here.latest ∙ if_false (eqb o.links.cancel 0) no_request (at b.requests (o.links.cancel - 1)) some ∙ ap (at b.requests) (omega arith) in
           subst (λ (x : Request). settled x ≡ true) is (settled_or (is_answered f.cancel) (is_gateway f.cancel) (not_from_false _ some) idle)
 
-  begun_kept : {out : Output} → is_done o.state.status ≡ false → gateway_cancel_in_flight f o ≡ false → Kept b i (left f.place (with_gateway (begun o) o) 0 0 out)
+  begun_kept : {out : Output} → is_done o.state.status ≡ false → gateway_cancel_in_flight f o ≡ false → Kept b i (left f.place (with_gateway (begun o) o) 0 0 0 out)
   begun_kept live idle =
       still_kept b i f o here (record { name = refl; client = refl })
       (unfold begun in gateway_kept i o b.requests here.kept (begun o) live (quiet_idle live idle) (named_range i o b.requests (begun o) refl refl here.kept) (few_tries (begun o) 0 (omega arith) (omega arith)))
@@ -600,13 +616,13 @@ module _ (b : Book) (i : ℕ) (f : Findings) (o : Order) (here : Here b i f o) w
       (unfold begun requests_after answer_link if◌then◌otherwise◌ in
       record { kept = begun_kept live idle; idle = refl; live = live; quiet = quiet_idle live idle; few = omega arith; free = refl })
 
-  pub status_kept : {out : Output} → Kept b i (left f.place (next_exec o) 0 0 out)
+  pub status_kept : {out : Output} → Kept b i (left f.place (next_exec o) 0 0 0 out)
   status_kept = still_kept b i f o here (unfold next_exec in record { name = refl; client = refl }) (sequence_kept i o b.requests here.kept)
 
-  -- the client's request, under a ClOrdID that it never used
+  -- the client's request, under a ClOrdID that it never used, with the one of a request of this order as its OrigClOrdID
   module _ (e : Event) (clordid : text_within 1 32 e.ids.clordid ≡ true) (origclordid : text_within 1 32 e.ids.origclordid ≡ true)
       (fresh : (j : ℕ) → j < length b.requests → eqb o.client (client_of b j) && same_text e.ids.clordid (at b.requests j).clordid ≡ false)
-      (live : is_done o.state.status ≡ false) where
+      (named : Named b i e.ids.origclordid) (live : is_done o.state.status ≡ false) where
     client_added : (kind : ℕ) (p : Order) → Same o p → leb kind 3 ≡ true → is_first (next_request f o kind e.ids.clordid e.ids.origclordid) ≡ false
         → is_gateway (next_request f o kind e.ids.clordid e.ids.origclordid) ≡ false → Added b i p (next_request f o kind e.ids.clordid e.ids.origclordid)
     client_added kind p s k first gateway =
@@ -615,8 +631,12 @@ module _ (b : Book) (i : ℕ) (f : Findings) (o : Order) (here : Here b i f o) w
         record {
           order = unfold next_request in let z : f.place ≡ i + 1 = here.place in omega arith;
           range = client_range f o kind e.ids.clordid e.ids.origclordid k first gateway clordid origclordid;
+          outcome = next_outcome f o kind e.ids.clordid e.ids.origclordid;
           number = subst (λ (t : Text). number_rule t (owned i b.requests) (next_request f o kind e.ids.clordid e.ids.origclordid) ≡ true) (sym s.name)
               (next_right f o kind (owned i b.requests) e.ids.clordid e.ids.origclordid next (omega arith) first);
+          origin = unfold next_request in
+              let z : f.place - 1 ≡ i = omega (arith, here.place) in
+              origin_new b.requests (next_request f o kind e.ids.clordid e.ids.origclordid) named.at named.below (named.own ∙ sym z) named.bears;
           fresh = λ j h. unfold next_request in and_tail (not (is_empty e.ids.clordid)) _ _
               (subst (λ (n : ℕ). eqb n (client_of b j) && same_text e.ids.clordid (at b.requests j).clordid ≡ false) (sym s.client) (fresh j h));
         }

@@ -5,7 +5,7 @@ use Rattle.std.proofs.Math.ListN.{get_or-append}
 use Rattle.std.proofs.Math.Seq.{get_or-append_seam}
 use Rattle.std.proofs.lemmas.Bool.{lt-leb, not-true, and_parts, and_from, not_from_false}
 use Rattle.prelude.specs.Below.{all_below, all_elim, all_intro, count_below, count_ext}
-use Rattle.prelude.specs.Cases.{if◌then◌otherwise◌, split_if}
+use Rattle.prelude.specs.Cases.{if◌then◌otherwise◌, split_if, if_true, if_false, clash}
 use Rattle.prelude.specs.Texts.{same_text}
 use Rattle.prelude.specs.declared.Text.{Text}
 use Rattle.store.specs.declared.Order.{Order}
@@ -13,13 +13,13 @@ use Rattle.store.specs.declared.Request.{Request}
 use Rattle.store.specs.Book.{Book, order_in, request_in, answered}
 use Rattle.store.specs.Orders.{no_order}
 use Rattle.machine.specs.Orders.{is_empty}
-use Rattle.machine.specs.Changes.{is_first, is_gateway}
+use Rattle.machine.specs.Changes.{is_first, is_gateway, is_answered}
 use Rattle.machine.specs.Ranges.{text_within}
 use Rattle.machine.specs.Machine.{answer_link, orders_after, requests_after, after, has_room}
-use Rattle.machine.specs.Rules.{request_range, of_order, order_rule, number_in, number_rule, in_flight_rule, request_rule, names_apart, name_rule, client_of, same_key, keys_apart, key_rule, rules}
+use Rattle.machine.specs.Rules.{request_range, outcome_rule, of_order, order_rule, number_in, number_rule, in_flight_rule, origin_rule, request_rule, names_apart, name_rule, client_of, same_key, keys_apart, key_rule, rules}
 use Rattle.machine.specs.declared.Change.{Change}
 use Rattle.machine.proofs.Kept.Laws.{or_else, decide}
-use Rattle.machine.proofs.Kept.Tables.{at, Linked, length_answer, answer_case, answer_order, length_more, more_old, more_new, owned, number_same}
+use Rattle.machine.proofs.Kept.Tables.{at, Linked, length_answer, answer_case, answer_order, length_more, more_old, more_new, owned, number_same, Same, origin_same}
 use Rattle.machine.proofs.Kept.Local.{OrderKept, order_kept, kept_rule, answer_kept, other_kept, pending_parts}
 use Rattle.machine.proofs.Kept.Keep.{Added, Kept, settled_by, after_settled, after_more, length_settled}
 
@@ -42,12 +42,34 @@ pub kept_range : (q : Request) → RangeKept q → request_range q ≡ true
 unfolding request_range
 kept_range q k = and_from _ _ (and_from _ _ (and_from _ _ (le-leb q.kind 3 k.kind) (le-leb q.answered 1 k.answered)) k.clordid) k.origclordid
 
+-- what a request's outcome says of it
+pub record OutcomeKept (q : Request) : Type 0 where
+  pub most : q.outcome ≤ 3
+  pub some : is_answered q ≡ true → 0 < q.outcome
+  pub none : is_answered q ≡ false → q.outcome ≡ 0
+
+pub outcome_kept : (q : Request) → outcome_rule q ≡ true → OutcomeKept q
+unfolding outcome_rule
+outcome_kept q e = decide (is_answered q) some none
+  where
+    some : is_answered q ≡ true → OutcomeKept q
+    some t =
+        let (u, v) = and_parts (ltb 0 q.outcome) (leb q.outcome 3) (sym (if_true (is_answered q) _ _ t) ∙ e) in
+        record { most = leb-true q.outcome 3 v; some = λ z. ltb-true 0 q.outcome u; none = λ z. clash (is_answered q) t z }
+
+    none : is_answered q ≡ false → OutcomeKept q
+    none t =
+        let z : q.outcome ≡ 0 = eqb-true q.outcome 0 (sym (if_false (is_answered q) _ _ t) ∙ e) in
+        record { most = omega arith; some = λ y. clash (is_answered q) y t; none = λ y. z }
+
 -- request j, rule by rule
 pub record RequestKept (b : Book) (j : ℕ) : Type 0 where
   pub range : request_range (request_in b j) ≡ true
+  pub outcome : outcome_rule (request_in b j) ≡ true
   pub order : (request_in b j).order < length b.orders
   pub number : number_rule (order_in b (request_in b j).order).names.name (number_in b.requests j) (request_in b j) ≡ true
   pub flight : in_flight_rule (j + 1) (request_in b j) (order_in b (request_in b j).order) ≡ true
+  pub origin : origin_rule b.requests j ≡ true
 
 pub record BookKept (b : Book) : Type 0 where
   pub orders : length b.orders ≤ 64
@@ -60,13 +82,15 @@ pub record BookKept (b : Book) : Type 0 where
 request_kept : (b : Book) (j : ℕ) → request_rule b j ≡ true → RequestKept b j
 unfolding request_rule
 request_kept b j e =
-    let (e, r4) = and_parts _ _ e in let (e, r3) = and_parts _ _ e in
-    let (r1, r2) = and_parts (request_range (request_in b j)) (ltb (request_in b j).order (length b.orders)) e in
-    record { range = r1; order = ltb-true (request_in b j).order (length b.orders) r2; number = r3; flight = r4 }
+    let (e, r6) = and_parts _ _ e in let (e, r4) = and_parts _ _ e in let (e, r3) = and_parts _ _ e in
+    let (e, r2) = and_parts _ (ltb (request_in b j).order (length b.orders)) e in
+    let (r1, r5) = and_parts (request_range (request_in b j)) (outcome_rule (request_in b j)) e in
+    record { range = r1; outcome = r5; order = ltb-true (request_in b j).order (length b.orders) r2; number = r3; flight = r4; origin = r6 }
 
 kept_request : (b : Book) (j : ℕ) → RequestKept b j → request_rule b j ≡ true
 unfolding request_rule
-kept_request b j k = and_from _ _ (and_from _ _ (and_from _ _ k.range (lt-ltb (request_in b j).order (length b.orders) k.order)) k.number) k.flight
+kept_request b j k =
+    and_from _ _ (and_from _ _ (and_from _ _ (and_from _ _ (and_from _ _ k.range k.outcome) (lt-ltb (request_in b j).order (length b.orders) k.order)) k.number) k.flight) k.origin
 
 pub book_kept : (b : Book) → rules b ≡ true → BookKept b
 unfolding rules
@@ -102,19 +126,29 @@ kept_book b k =
 
 -- ---- the requests after a change
 
-pub after_case : (P : Request → Type 0) (qs : List Request) (c : Change) (j : ℕ) → j < length qs → P (at qs j) → P (answered (at qs j)) → P (at (requests_after qs c) j)
-unfolding requests_after
+-- the change answers or supersedes request j
+abbrev pub Settled : Change → ℕ → Type 0
+Settled c j = (c.requests.answered ≡ j + 1) ⊎ (c.requests.superseded ≡ j + 1)
+
+pub after_case : (P : Request → Type 0) (qs : List Request) (c : Change) (j : ℕ) → j < length qs → P (at qs j) → (Settled c j → P (answered c.requests.outcome (at qs j)))
+    → P (at (requests_after qs c) j)
+unfolding requests_after if◌then◌otherwise◌
 after_case P qs c j h p a =
-    let h' : j < length (answer_link c.requests.answered qs) = subst (λ (n : ℕ). j < n) (sym (length_answer c.requests.answered qs)) h in
+    let v : ℕ = c.requests.outcome in
+    let h' : j < length (answer_link c.requests.answered v qs) = subst (λ (n : ℕ). j < n) (sym (length_answer c.requests.answered v qs)) h in
     let s : P (at (settled_by qs c) j) =
-    answer_case P c.requests.superseded (answer_link c.requests.answered qs) j h'
-    (λ d. answer_case P c.requests.answered qs j h (λ d. p) (λ e. a))
-    (λ e. answer_case (λ (q : Request). P (answered q)) c.requests.answered qs j h (λ d. a) (λ e. a)) in
+    answer_case P c.requests.superseded v (answer_link c.requests.answered v qs) j h'
+    (λ d. answer_case P c.requests.answered v qs j h (λ d. p) (λ e. a (inl e)))
+    (λ e. answer_case (λ (q : Request). P (answered v q)) c.requests.answered v qs j h (λ d. a (inr e)) (λ d. a (inl d))) in
     split_if (λ (l : List Request). P (at l j)) (eqb c.requests.added 0) (λ e. s)
     (λ e. subst P (sym (more_old (settled_by qs c) c.requests.request j (subst (λ (n : ℕ). j < n) (sym (length_settled qs c)) h))) s)
 
 pub after_order : (qs : List Request) (c : Change) (j : ℕ) → j < length qs → (at (requests_after qs c) j).order ≡ (at qs j).order
-after_order qs c j h = after_case (λ (q : Request). q.order ≡ (at qs j).order) qs c j h refl refl
+after_order qs c j h = after_case (λ (q : Request). q.order ≡ (at qs j).order) qs c j h refl (λ z. refl)
+
+pub after_same : (qs : List Request) (c : Change) (j : ℕ) → j < length qs → Same (at (requests_after qs c) j) (at qs j)
+after_same qs c j h =
+    after_case (λ (q : Request). Same q (at qs j)) qs c j h (record { order = refl; clordid = refl; origclordid = refl }) (λ z. record { order = refl; clordid = refl; origclordid = refl })
 
 -- a request is an old one, or the one that was added
 pub record NewAt (qs : List Request) (c : Change) (j : ℕ) : Type 0 where
@@ -212,12 +246,13 @@ module _ (b : Book) (i : ℕ) (c : Change) (m : Kept b i c) where
   pub others_kept : (k : ℕ) (o : Order) → (i ≡ k → ⊥) → OrderKept k o b.requests → OrderKept k o (requests_after b.requests c)
   others_kept k o d l =
       let a : ℕ = c.requests.answered in
-      let qs : List Request = answer_link a b.requests in
-      let l₁ : OrderKept k o qs = answer_kept k a o b.requests (other_free i k a o b.requests d (λ j z h. m.answers j z) l) l in
+      let v : ℕ = c.requests.outcome in
+      let qs : List Request = answer_link a v b.requests in
+      let l₁ : OrderKept k o qs = answer_kept k a v o b.requests (other_free i k a o b.requests d (λ j z h. m.answers j z) l) l in
       let l₂ : OrderKept k o (settled_by b.requests c) =
-      answer_kept k c.requests.superseded o qs
+      answer_kept k c.requests.superseded v o qs
       (other_free i k c.requests.superseded o qs d
-      (λ j z h. answer_order a b.requests j (subst (λ (n : ℕ). j < n) (length_answer a b.requests) h) ∙ m.supersedes j z) l₁) l₁ in
+      (λ j z h. answer_order a v b.requests j (subst (λ (n : ℕ). j < n) (length_answer a v b.requests) h) ∙ m.supersedes j z) l₁) l₁ in
       decide (eqb c.requests.added 0)
       (λ e. subst (OrderKept k o) (sym (after_settled b.requests c e)) l₂)
       (λ e. subst (OrderKept k o) (sym (after_more b.requests c e))
@@ -225,15 +260,29 @@ module _ (b : Book) (i : ℕ) (c : Change) (m : Kept b i c) where
 
 -- ---- the book
 
-answered_range : (q : Request) → request_range q ≡ true → request_range (answered q) ≡ true
+answered_range : (v : ℕ) (q : Request) → request_range q ≡ true → request_range (answered v q) ≡ true
 unfolding is_gateway is_first
-answered_range q e = let r : RangeKept q = range_kept q e in kept_range (answered q) (record { kind = r.kind; answered = omega arith; clordid = r.clordid; origclordid = r.origclordid })
+answered_range v q e = let r : RangeKept q = range_kept q e in kept_range (answered v q) (record { kind = r.kind; answered = omega arith; clordid = r.clordid; origclordid = r.origclordid })
 
-answered_number : (name : Text) (n : ℕ) (q : Request) → number_rule name n q ≡ true → number_rule name n (answered q) ≡ true
+answered_number : (v : ℕ) (name : Text) (n : ℕ) (q : Request) → number_rule name n q ≡ true → number_rule name n (answered v q) ≡ true
 unfolding number_rule is_first
-answered_number name n q e = e
+answered_number v name n q e = e
 
-module _ (b : Book) (i : ℕ) (c : Change) (good : BookKept b) (m : Kept b i c) (there : i ≤ length b.orders) (room : has_room b c ≡ true)
+-- what an answered request comes to fits, and a request that was answered keeps what it has
+answered_outcome : (v : ℕ) (q : Request) → 0 < v → v ≤ 3 → outcome_rule q ≡ true → outcome_rule (answered v q) ≡ true
+unfolding outcome_rule is_answered if◌then◌otherwise◌
+answered_outcome v q l m e = decide (eqb q.answered 0)
+    (λ z. fits (if_true _ _ _ z) l m)
+    (λ z. subst (λ (n : ℕ). ltb 0 n && leb n 3 ≡ true) (sym (if_false _ v q.outcome z)) (sym (if_true (not (eqb q.answered 0)) _ _ (not_from_false _ z)) ∙ e))
+  where
+    fits : {n : ℕ} → n ≡ v → 0 < v → v ≤ 3 → ltb 0 n && leb n 3 ≡ true
+    fits {n} s l m = and_from _ _ (lt-ltb 0 n (omega arith)) (le-leb n 3 (omega arith))
+
+-- what the requests that a change answers come to is an outcome
+abbrev pub Outcome : Change → Type 0
+Outcome c = ((c.requests.answered ≡ 0) × (c.requests.superseded ≡ 0)) ⊎ ((0 < c.requests.outcome) × (c.requests.outcome ≤ 3))
+
+module _ (b : Book) (i : ℕ) (c : Change) (good : BookKept b) (m : Kept b i c) (there : i ≤ length b.orders) (room : has_room b c ≡ true) (came : Outcome c)
     (apart : length b.orders ≤ i → (j : ℕ) → j < length b.orders → same_text c.order.names.name (order_in b j).names.name ≡ false) where
   put : Placed b.orders (orders_after b.orders c) i c.order
   put = placed b.orders c i m.place there
@@ -278,7 +327,8 @@ module _ (b : Book) (i : ℕ) (c : Change) (good : BookKept b) (m : Kept b i c) 
       let same : (at qs j).order ≡ (request_in b j).order = after_order b.requests c j h in
       let l : (at qs j).order < length (orders_after b.orders c) = omega (arith, r.order, put.longer, same) in
       record {
-        range = after_case (λ (q : Request). request_range q ≡ true) b.requests c j h r.range (answered_range (request_in b j) r.range);
+        range = after_case (λ (q : Request). request_range q ≡ true) b.requests c j h r.range (λ z. answered_range _ (request_in b j) r.range);
+        outcome = after_case (λ (q : Request). outcome_rule q ≡ true) b.requests c j h r.outcome (λ z. settled_outcome r.outcome came z);
         order = l;
         number =
             subst (λ (t : Text). number_rule t (number_in qs j) (at qs j) ≡ true)
@@ -286,9 +336,15 @@ module _ (b : Book) (i : ℕ) (c : Change) (good : BookKept b) (m : Kept b i c) 
             (subst (λ (n : ℕ). number_rule (order_in b (request_in b j).order).names.name n (at qs j) ≡ true)
             (sym (number_same qs b.requests j (λ k z. after_order b.requests c k (omega arith))))
             (after_case (λ (q : Request). number_rule (order_in b (request_in b j).order).names.name (number_in b.requests j) q ≡ true) b.requests c j h r.number
-            (answered_number _ _ (request_in b j) r.number)));
+            (λ z. answered_number _ _ _ (request_in b j) r.number)));
         flight = (orders_kept (at qs j).order l).flight j (omega (arith, after_longer b.requests c)) refl;
+        origin = origin_same qs b.requests j (λ k z. after_same b.requests c k (omega arith)) ∙ r.origin;
       }
+    where
+      settled_outcome : outcome_rule (request_in b j) ≡ true → Outcome c → Settled c j → outcome_rule (answered c.requests.outcome (request_in b j)) ≡ true
+      settled_outcome e (inr (l, h)) z = answered_outcome _ (request_in b j) l h e
+      settled_outcome e (inl (x, y)) (inl z) = absurd (omega arith)
+      settled_outcome e (inl (x, y)) (inr z) = absurd (omega arith)
 
   new_request : (j : ℕ) → NewAt b.requests c j → j < length (requests_after b.requests c) → RequestKept (after b c) j
   unfolding after
@@ -299,6 +355,7 @@ module _ (b : Book) (i : ℕ) (c : Change) (good : BookKept b) (m : Kept b i c) 
       let l : (at qs j).order < length (orders_after b.orders c) = omega (arith, put.below, same) in
       record {
         range = subst (λ (q : Request). request_range q ≡ true) (sym n.is) a.range;
+        outcome = subst (λ (q : Request). outcome_rule q ≡ true) (sym n.is) a.outcome;
         order = l;
         number =
             subst (λ (t : Text). number_rule t (number_in qs j) (at qs j) ≡ true)
@@ -306,8 +363,21 @@ module _ (b : Book) (i : ℕ) (c : Change) (good : BookKept b) (m : Kept b i c) 
             (subst (λ (k : ℕ). number_rule c.order.names.name k (at qs j) ≡ true) (sym (number n same))
             (subst (λ (q : Request). number_rule c.order.names.name (owned i b.requests) q ≡ true) (sym n.is) a.number));
         flight = (orders_kept (at qs j).order l).flight j h refl;
+        origin = subst (λ (k : ℕ). origin_rule qs k ≡ true) (sym n.place) (origin_same qs (b.requests ++ (c.requests.request ∷ [])) (length b.requests) same_up ∙ a.origin);
       }
     where
+      -- a request that was there, or the one that is added
+      same_up : (k : ℕ) → k ≤ length b.requests → Same (at (requests_after b.requests c) k) (at (b.requests ++ (c.requests.request ∷ [])) k)
+      same_up k z = go (ℕ_discrete k (length b.requests))
+        where
+          go : Dec (k ≡ length b.requests) → Same (at (requests_after b.requests c) k) (at (b.requests ++ (c.requests.request ∷ [])) k)
+          go (yes y) =
+              subst (λ (q : Request). Same (at (requests_after b.requests c) k) q) (sym (ap (at (b.requests ++ (c.requests.request ∷ []))) y ∙ more_new b.requests c.requests.request))
+              (subst (λ (q : Request). Same q c.requests.request) (sym (ap (at (requests_after b.requests c)) (y ∙ sym n.place) ∙ n.is)) (record { order = refl; clordid = refl; origclordid = refl }))
+          go (no y) =
+              let old : k < length b.requests = omega arith in
+              subst (λ (q : Request). Same (at (requests_after b.requests c) k) q) (sym (more_old b.requests c.requests.request k old)) (after_same b.requests c k old)
+
       number : NewAt b.requests c j → (at (requests_after b.requests c) j).order ≡ i → number_in (requests_after b.requests c) j ≡ owned i b.requests
       number n same = unfold number_in in
           ap (λ (k : ℕ). count_below (of_order (requests_after b.requests c) k) j) same
@@ -330,7 +400,7 @@ module _ (b : Book) (i : ℕ) (c : Change) (good : BookKept b) (m : Kept b i c) 
           ∙ ap (same_text c.order.names.name) (name_same j (omega arith)) ∙ apart (omega arith) j (omega arith)
 
   old_clordid : (j : ℕ) → j < length b.requests → (at (requests_after b.requests c) j).clordid ≡ (request_in b j).clordid
-  old_clordid j h = after_case (λ (q : Request). q.clordid ≡ (request_in b j).clordid) b.requests c j h refl refl
+  old_clordid j h = after_case (λ (q : Request). q.clordid ≡ (request_in b j).clordid) b.requests c j h refl (λ z. refl)
 
   keys_apart_lem : (k j : ℕ) → k < length (requests_after b.requests c) → j < k → same_key (after b c) k j ≡ false
   unfolding same_key after

@@ -133,54 +133,54 @@ pub quiet_latest : (i : ℕ) (o : Order) (qs : List Request) → is_done o.state
 quiet_latest i o qs live s f j h e = ⊎_elim (λ s. s) (λ g. s j g.latest) (in_flight (j + 1) (at qs j) o live (f j h e))
 
 -- once the latest cancel is answered, none is in flight
-pub quiet_answer : (i : ℕ) (o : Order) (qs : List Request) → is_done o.state.status ≡ false → Flights i o qs → Quiet i (answer_link o.links.cancel qs)
+pub quiet_answer : (i v : ℕ) (o : Order) (qs : List Request) → is_done o.state.status ≡ false → Flights i o qs → Quiet i (answer_link o.links.cancel v qs)
 unfolding is_answered is_gateway
-quiet_answer i o qs live f j h e =
-    let h' : j < length qs = subst (λ (n : ℕ). j < n) (length_answer o.links.cancel qs) h in
-    answer_case (λ (q : Request). q.order ≡ i → settled q ≡ true) o.links.cancel qs j h'
+quiet_answer i v o qs live f j h e =
+    let h' : j < length qs = subst (λ (n : ℕ). j < n) (length_answer o.links.cancel v qs) h in
+    answer_case (λ (q : Request). q.order ≡ i → settled q ≡ true) o.links.cancel v qs j h'
     (λ d own. ⊎_elim (λ s. s) (λ g. absurd (d g.latest)) (in_flight (j + 1) (at qs j) o live (f j h' own)))
     (λ z own. or_right (not (is_gateway (at qs j))) _ refl)
     e
 
 -- ---- a request answered
 
-answered_flight : (link : ℕ) (q : Request) (o : Order) → in_flight_rule link (answered q) o ≡ true
+answered_flight : (link v : ℕ) (q : Request) (o : Order) → in_flight_rule link (answered v q) o ≡ true
 unfolding is_answered is_gateway
-answered_flight link q o = settled_flight link (answered q) o (or_right (not (is_gateway q)) _ refl)
+answered_flight link v q o = settled_flight link (answered v q) o (or_right (not (is_gateway q)) _ refl)
 
-cancel_answer : (i k c : ℕ) (qs : List Request) → cancel_rule i c qs ≡ true → cancel_rule i c (answer_link k qs) ≡ true
+cancel_answer : (i k v c : ℕ) (qs : List Request) → cancel_rule i c qs ≡ true → cancel_rule i c (answer_link k v qs) ≡ true
 unfolding cancel_rule is_cancel is_first is_replace
-cancel_answer i k c qs e = or_map (eqb c 0) _ (λ p. p) (linked_answer is_cancel i c qs k (λ z q t. t)) e
+cancel_answer i k v c qs e = or_map (eqb c 0) _ (λ p. p) (linked_answer is_cancel i c qs k v (λ z q t. t)) e
 
-pending_answer : (i k p : ℕ) (qs : List Request) → (k ≡ p → k ≡ 0) → pending_rule i p qs ≡ true → pending_rule i p (answer_link k qs) ≡ true
+pending_answer : (i k v p : ℕ) (qs : List Request) → (k ≡ p → k ≡ 0) → pending_rule i p qs ≡ true → pending_rule i p (answer_link k v qs) ≡ true
 unfolding pending_rule
-pending_answer i k p qs free e =
+pending_answer i k v p qs free e =
     ⊎_elim (λ z. or_left _ _ z)
-    (λ l. or_right (eqb p 0) _ (linked_answer pending_test i p qs k
+    (λ l. or_right (eqb p 0) _ (linked_answer pending_test i p qs k v
     (λ z q t. let above : 0 < p = (linked_at pending_test i p qs l).above in let none : k ≡ 0 = free z in absurd (omega arith)) l))
     (or_cases (eqb p 0) _ e)
 
 -- pending terms do not name it, so an order keeps its rules
-pub answer_kept : (i k : ℕ) (o : Order) (qs : List Request) → (k ≡ o.pending.request → k ≡ 0) → OrderKept i o qs → OrderKept i o (answer_link k qs)
+pub answer_kept : (i k v : ℕ) (o : Order) (qs : List Request) → (k ≡ o.pending.request → k ≡ 0) → OrderKept i o qs → OrderKept i o (answer_link k v qs)
 unfolding current_rule is_cancel is_first is_replace
-answer_kept i k o qs free l = record {
+answer_kept i k v o qs free l = record {
   names = l.names;
   terms = l.terms;
   coded = l.coded;
   average = l.average;
   waiting = l.waiting;
-  gateway = rw (length_answer k qs) l.gateway;
-  current = linked_answer (current_test o.names.downstream) i o.links.current qs k (λ z q t. t) l.current;
-  cancel = cancel_answer i k o.links.cancel qs l.cancel;
-  pending = pending_answer i k o.pending.request qs free l.pending;
-  amendments = at_amendments i _ (answer_link k qs) (amendments_at i _ qs l.amendments ∙ sym (owned_answer i k qs));
+  gateway = rw (length_answer k v qs) l.gateway;
+  current = linked_answer (current_test o.names.downstream) i o.links.current qs k v (λ z q t. t) l.current;
+  cancel = cancel_answer i k v o.links.cancel qs l.cancel;
+  pending = pending_answer i k v o.pending.request qs free l.pending;
+  amendments = at_amendments i _ (answer_link k v qs) (amendments_at i _ qs l.amendments ∙ sym (owned_answer i k v qs));
   filled = l.filled;
   status = l.status;
   done = l.done;
   tries = l.tries;
   flight = λ j h e.
-      let h' : j < length qs = subst (λ (n : ℕ). j < n) (length_answer k qs) h in
-      answer_case (λ (q : Request). q.order ≡ i → in_flight_rule (j + 1) q o ≡ true) k qs j h' (λ d own. l.flight j h' own) (λ z own. answered_flight (j + 1) (at qs j) o) e;
+      let h' : j < length qs = subst (λ (n : ℕ). j < n) (length_answer k v qs) h in
+      answer_case (λ (q : Request). q.order ≡ i → in_flight_rule (j + 1) q o ≡ true) k v qs j h' (λ d own. l.flight j h' own) (λ z own. answered_flight (j + 1) v (at qs j) o) e;
 }
 
 -- ---- a request added

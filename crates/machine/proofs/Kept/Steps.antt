@@ -1,5 +1,5 @@
 -- Each event taken on any book that keeps its rules leaves a book that keeps them. Rests on Lift and Stepped.
-use Rattle.std.proofs.Common.{ℕ, zero, suc, ◌+◌, ◌-◌, ◌≤◌, ◌<◌, arith, ◌≡◌, refl, sym, ap, subst, ◌∙◌, Bool, true, false, not, ◌&&◌, Option, None, Some, List, [], ◌∷◌, ◌++◌, eqb, ltb, length, eqb-true, eq-eqb, ne_eqb, le-leb, lt-ltb}
+use Rattle.std.proofs.Common.{ℕ, zero, suc, ◌+◌, ◌-◌, ◌≤◌, ◌<◌, arith, ◌≡◌, refl, sym, ap, subst, ◌∙◌, inl, inr, Bool, true, false, not, ◌&&◌, Option, None, Some, List, [], ◌∷◌, ◌++◌, eqb, ltb, length, eqb-true, eq-eqb, ne_eqb, le-leb, lt-ltb}
 use Rattle.std.proofs.lemmas.Bool.{eqb-false, not-true, not-false, and_parts, and_from, not_from_false, false_from_ne_true}
 use Rattle.prelude.specs.Below.{all_below, first_below, first_elim, First, first_some, count_below, count_le, count_ext}
 use Rattle.prelude.specs.Cases.{if◌then◌otherwise◌, maybe, split_if, if_false, clash}
@@ -10,27 +10,29 @@ use Rattle.store.specs.declared.Request.{Request}
 use Rattle.store.specs.Book.{Book, order_in, request_in}
 use Rattle.store.specs.Orders.{no_order}
 use Rattle.machine.specs.Orders.{is_empty, is_done}
-use Rattle.machine.specs.Changes.{Event, unchanged, refusing, adding, alarming, is_first, is_replace, is_gateway, is_cancel}
+use Rattle.machine.specs.Changes.{Event, unchanged, refusing, adding, alarming, is_first, is_replace, is_gateway, is_cancel, is_answered}
 use Rattle.machine.specs.GatewayCancel.{gateway_cancel_in_flight}
 use Rattle.machine.specs.Amend.{has, amend_refusal, already_taken, cancel_refusal, priced_right}
 use Rattle.store.specs.Finds.{bears_name, bears_clordid, bears_downstream, has_clordid, of_client, find_name, find_downstream, find_clordid}
 use Rattle.machine.specs.Machine.{order_link, order_of, latest_cancel, order_at_link, findings_of, booked_order, first_request, unused, change_of, has_room, step_of, answer_link, orders_after, requests_after, after, book_after}
 use Rattle.format.specs.Codes.{is_status, statuses}
 use Rattle.machine.specs.Ranges.{text_within, name_range}
-use Rattle.machine.specs.Rules.{pending_range, request_range, current_test, current_rule, cancel_rule, pending_rule, filled_rule, status_rule, done_rule, tries_rule, of_order, number_in, name_number, number_rule, client_of, rules}
+use Rattle.machine.specs.Rules.{pending_range, request_range, current_test, current_rule, cancel_rule, pending_rule, filled_rule, status_rule, done_rule, tries_rule, of_order, number_in, outcome_rule, name_number, number_rule, client_of, rules}
 use Rattle.machine.specs.Events.{Booking, Amendment, Ranged}
 use Rattle.machine.specs.Kept.{StartKeeps, StepKeeps}
+use Rattle.machine.specs.Outcomes.{outcome_by}
 use Rattle.machine.specs.declared.Findings.{Findings}
 use Rattle.machine.specs.declared.Reject.{Reject}
 use Rattle.machine.specs.declared.Output.{Output}
 use Rattle.machine.specs.declared.Change.{Change}
-use Rattle.machine.proofs.Made.{left, repeated, turned, unpriced, cancel_sent, replace_sent}
+use Rattle.machine.proofs.Made.{Came, left, repeated, turned, unpriced, cancel_sent, replace_sent}
 use Rattle.machine.proofs.Stepped.{AmendedBy, Ways, change_made}
+use Rattle.machine.proofs.Outcomes.Set.{change_sets}
 use Rattle.machine.proofs.Kept.Laws.{and_tail, text_kept, name_within, same_within}
-use Rattle.machine.proofs.Kept.Tables.{at, linked_new, owned, owned_own, at_amendments}
+use Rattle.machine.proofs.Kept.Tables.{at, linked_new, owned, owned_own, at_amendments, origin_none}
 use Rattle.machine.proofs.Kept.Local.{OrderKept, settled_flight, gateway_none, flight_more, kept_names, kept_terms, names_kept}
-use Rattle.machine.proofs.Kept.Keep.{Added, Kept, Here, Asked, no_text_lem, priced_range_lem, quiet_idle, own_still, made_kept, asked_kept, status_kept, cancel_goes_lem, replace_goes_lem}
-use Rattle.machine.proofs.Kept.Lift.{range_kept, RequestKept, BookKept, book_kept, kept_book, lift}
+use Rattle.machine.proofs.Kept.Keep.{Added, Kept, Named, Here, Asked, no_text_lem, priced_range_lem, quiet_idle, own_still, made_kept, asked_kept, status_kept, cancel_goes_lem, replace_goes_lem}
+use Rattle.machine.proofs.Kept.Lift.{range_kept, RequestKept, BookKept, book_kept, kept_book, Outcome, lift}
 use Rattle.machine.proofs.Numbered.{NumberedLaws, numbered_laws}
 
 -- ---- start
@@ -43,7 +45,7 @@ start_keeps setting = refl
 
 -- the rules hold where it is taken
 abbrev Keeps : Book → Change → Type 0
-Keeps b c = eqb c.refusal 0 ≡ true → has_room b c ≡ true → rules (after b c) ≡ true
+Keeps b c = eqb c.refusal 0 ≡ true → has_room b c ≡ true → Outcome c → rules (after b c) ≡ true
 
 -- the same, room or not
 abbrev Taken : Book → Change → Type 0
@@ -54,15 +56,15 @@ unfolding refusing
 refusing_taken b n h e = clash (eqb n 0) e h
 
 refusing_keeps : (b : Book) (n : ℕ) → eqb n 0 ≡ false → Keeps b (refusing n)
-refusing_keeps b n h e r = refusing_taken b n h e
+refusing_keeps b n h e r v = refusing_taken b n h e
 
 -- no order, no request
-nothing_keeps : (b : Book) (o : Order) (out : Output) → rules b ≡ true → Keeps b (left 0 o 0 0 out)
+nothing_keeps : (b : Book) (o : Order) (out : Output) → rules b ≡ true → Keeps b (left 0 o 0 0 0 out)
 unfolding after orders_after requests_after answer_link if◌then◌otherwise◌
-nothing_keeps b o out k e r = k
+nothing_keeps b o out k e r v = k
 
 kept_keeps : (b : Book) (i : ℕ) (c : Change) → BookKept b → i < length b.orders → Kept b i c → Keeps b c
-kept_keeps b i c good h k e r = kept_book (after b c) (lift b i c good k (omega arith) r (λ z. absurd (omega arith)))
+kept_keeps b i c good h k e r v = kept_book (after b c) (lift b i c good k (omega arith) r v (λ z. absurd (omega arith)))
 
 -- order i and the facts that go with it
 here_at : (b : Book) (i : ℕ) → BookKept b → i < length b.orders → Here b i (findings_of b (i + 1)) (order_in b i)
@@ -117,6 +119,9 @@ clordid_client b client t j e =
     eqb-true (order_in b (request_in b j).order).client client
     (and_parts (ltb (request_in b j).order (length b.orders)) _ (and_parts (same_text (request_in b j).clordid t) _ (and_parts (has_clordid (request_in b j)) _ e).1).1).1
 
+clordid_same : (b : Book) (client : ℕ) (t : Text) (j : ℕ) → bears_clordid b.orders client t (request_in b j) ≡ true → same_text (request_in b j).clordid t ≡ true
+clordid_same b client t j e = (and_parts (same_text (request_in b j).clordid t) _ (and_parts (has_clordid (request_in b j)) _ e).1).0
+
 -- a ClOrdID of no order is no request's
 never_used : (b : Book) (client : ℕ) (t : Text) → eqb (order_of b client t) 0 ≡ true → (j : ℕ) → j < length b.requests → bears_clordid b.orders client t (request_in b j) ≡ false
 unfolding order_of find_clordid
@@ -169,20 +174,20 @@ module _ (b : Book) (e : Event) (good : BookKept b) (k : rules b ≡ true) (amen
       subst (λ (n : ℕ). eqb n (client_of b j) && same_text e.ids.clordid (at b.requests j).clordid ≡ false) (sym c) (fresh_key b e.client e.ids.clordid amendment.clordid u j h (good.request j h).order)
 
   -- of the order that was found
-  some_keeps : Ranged e → (i : ℕ) → i < length b.orders → (order_in b i).client ≡ e.client → (full : Bool) (c c' : Change)
+  some_keeps : Ranged e → (i : ℕ) → i < length b.orders → (order_in b i).client ≡ e.client → Named b i e.ids.origclordid → (full : Bool) (c c' : Change)
       → AmendedBy (findings_of b (i + 1)) (order_of b e.client e.ids.clordid) full (order_in b i) e c c' → Keeps b c
-  some_keeps ranged i h o full c c' (repeated t) = kept_keeps b i _ good h (status_kept b i _ _ (here_at b i good h))
-  some_keeps ranged i h o full c c' (turned w t) = kept_keeps b i _ good h (own_still b i _ _ (here_at b i good h))
-  some_keeps ranged i h o full c c' (unpriced t) = refusing_keeps b 6 refl
-  some_keeps ranged i h o full c c' (cancel_sent z t) =
+  some_keeps ranged i h o n full c c' (repeated t) = kept_keeps b i _ good h (status_kept b i _ _ (here_at b i good h))
+  some_keeps ranged i h o n full c c' (turned w t) = kept_keeps b i _ good h (own_still b i _ _ (here_at b i good h))
+  some_keeps ranged i h o n full c c' (unpriced t) = refusing_keeps b 6 refl
+  some_keeps ranged i h o n full c c' (cancel_sent z t) =
       let here : Here b i (findings_of b (i + 1)) (order_in b i) = here_at b i good h in
       let p = amend_passes (findings_of b (i + 1)) _ full (order_in b i) e _ t in
-      kept_keeps b i _ good h (cancel_goes_lem b i _ _ here e amendment.clordid amendment.origclordid (fresh i o p.unused) p.live
+      kept_keeps b i _ good h (cancel_goes_lem b i _ _ here e amendment.clordid amendment.origclordid (fresh i o p.unused) n p.live
       (quiet_idle b i _ _ here p.live (unfold cancel_refusal in (silent_if (gateway_cancel_in_flight (findings_of b (i + 1)) (order_in b i)) _ refl _ p.silent).0)))
-  some_keeps ranged i h o full c c' (replace_sent t u) =
+  some_keeps ranged i h o n full c c' (replace_sent t u) =
       let p = amend_passes (findings_of b (i + 1)) _ full (order_in b i) e _ t in
       kept_keeps b i _ good h
-      (replace_goes_lem b i _ _ (here_at b i good h) e amendment.clordid amendment.origclordid (fresh i o p.unused) p.live ranged u)
+      (replace_goes_lem b i _ _ (here_at b i good h) e amendment.clordid amendment.origclordid (fresh i o p.unused) n p.live ranged u)
 
   -- no order has the ClOrdID
   none_keeps : (order : ℕ) (full : Bool) (o : Order) (c c' : Change) → AmendedBy (findings_of b 0) order full o e c c' → Keeps b c
@@ -240,8 +245,10 @@ module _ (b : Book) (e : Event) (good : BookKept b) (booking : Booking e) (range
   first_added = record {
     order = refl;
     range = unfold request_range is_first is_gateway if◌then◌otherwise◌ in and_from _ _ booking.clordid (unfold text_within is_text all_below in refl);
+    outcome = unfold outcome_rule is_answered if◌then◌otherwise◌ in refl;
     number = subst (λ (n : ℕ). number_rule e.ids.name n (first_request (length b.orders) e) ≡ true) (sym (none_owned b good))
         (unfold number_rule name_number is_first if◌then◌otherwise◌ in and_from _ _ (same_self e.ids.name) refl);
+    origin = origin_none b.requests (first_request (length b.orders) e) (unfold first_request in refl);
     fresh = λ j h. and_tail (not (is_empty e.ids.clordid)) _ _ (fresh_key b e.client e.ids.clordid booking.clordid unused' j h (good.request j h).order);
   }
 
@@ -266,9 +273,9 @@ named_apart b e apart l j h = apart j h
 
 booking_keeps : (b : Book) (e : Event) → BookKept b → Booking e → Ranged e → unused b e ≡ true → priced_right e.terms.ordtype e ≡ true
     → Keeps b (adding (first_request (length b.orders) e) (unchanged (length b.orders + 1) (booked_order (length b.requests + 1) e)))
-booking_keeps b e good booking ranged u priced z r =
+booking_keeps b e good booking ranged u priced z r v =
     let (name, key) = and_parts (maybe true (λ k. false) (find_name b e.ids.name)) (eqb (order_of b e.client e.ids.clordid) 0) (unfold unused in u) in
-    kept_book _ (lift b (length b.orders) _ good (first_kept b e good booking ranged priced key) (omega arith) r (named_apart b e (apart name)))
+    kept_book _ (lift b (length b.orders) _ good (first_kept b e good booking ranged priced key) (omega arith) r v (named_apart b e (apart name)))
   where
     apart : maybe true (λ k. false) (find_name b e.ids.name) ≡ true → (j : ℕ) → j < length b.orders → same_text e.ids.name (order_in b j).names.name ≡ false
     apart t j h = false_from_ne_true _ (λ s. clash (bears_name e.ids.name (order_in b j)) (same_back e.ids.name (order_in b j).names.name s) (go (find_name b e.ids.name) refl t))
@@ -276,6 +283,17 @@ booking_keeps b e good booking ranged u priced z r =
         go : (r : Option ℕ) → find_name b e.ids.name ≡ r → maybe true (λ k. false) r ≡ true → bears_name e.ids.name (order_in b j) ≡ false
         go None z u = first_elim (λ k. bears_name e.ids.name (order_in b k)) (length b.orders) (unfold find_name in z) j h
         go (Some k) z u = clash false (unfold maybe in u) refl
+
+-- what an event makes of a request is an outcome
+by_fits : (e : Event) → (0 < outcome_by e) × (outcome_by e ≤ 3)
+unfolding outcome_by
+by_fits e =
+    let P : ℕ → Type 0 = λ n. (0 < n) × (n ≤ 3) in
+    split_if P _ (λ t. (omega arith, omega arith)) (λ t. split_if P _ (λ u. (omega arith, omega arith)) (λ u. (omega arith, omega arith)))
+
+outcome_fits : (e : Event) (c : Change) → Came e c.requests.answered c.requests.superseded c.requests.outcome → Outcome c
+outcome_fits e c (inl (x, y, z)) = inl (x, y)
+outcome_fits e c (inr z) = let (l, m) = by_fits e in inr (omega arith, omega arith)
 
 -- ---- every event
 
@@ -293,7 +311,8 @@ module _ (laws : NumberedLaws) (b : Book) (e : Event) (ranged : Ranged e) (k : r
         amends_none = λ z order full. none_keeps b e good k (ranged.amendment z) order full no_order;
         amends = λ z j y.
             let f : First (λ n. bears_clordid b.orders e.client e.ids.origclordid (request_in b n)) (length b.requests) j = first_some _ (length b.requests) j y in
-            some_keeps b e good k (ranged.amendment z) ranged (request_in b j).order (good.request j f.below).order (clordid_client b e.client e.ids.origclordid j f.passes);
+            some_keeps b e good k (ranged.amendment z) ranged (request_in b j).order (good.request j f.below).order (clordid_client b e.client e.ids.origclordid j f.passes)
+            (record { at = j; below = f.below; own = refl; bears = clordid_same b e.client e.ids.origclordid j f.passes });
         answers = λ y j z c c' m.
             let f : First (λ n. bears_downstream e.ids.downstream (request_in b n)) (length b.requests) j = first_some _ (length b.requests) j z in
             let r : RequestKept b j = good.request j f.below in
@@ -309,7 +328,7 @@ module _ (laws : NumberedLaws) (b : Book) (e : Event) (ranged : Ranged e) (k : r
   unfolding step_of
   step_taken =
       split_if (Taken b) (not (eqb (change_of b e).refusal 0)) (λ t z. clash (eqb (change_of b e).refusal 0) z (not-true (eqb (change_of b e).refusal 0) t))
-      (λ t. split_if (Taken b) (has_room b (change_of b e)) (λ r z. change_made (Keeps b) b e ways z r) (λ r. refusing_taken b 7 refl))
+      (λ t. split_if (Taken b) (has_room b (change_of b e)) (λ r z. change_made (Keeps b) b e ways z r (outcome_fits e (change_of b e) (change_sets b e).came)) (λ r. refusing_taken b 7 refl))
 
 -- demand 1: each event taken leaves a book that keeps its rules
 pub step_keeps : StepKeeps

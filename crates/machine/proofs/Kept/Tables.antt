@@ -1,17 +1,20 @@
 -- The tables: the order of a link, and lists of requests, what answering one and adding one leave as they were. Rests on Machine and Rules.
-use Rattle.std.proofs.Common.{ℕ, ◌+◌, ◌-◌, ◌≤◌, ◌<◌, arith, ◌≡◌, refl, sym, ap, subst, ◌∙◌, Bool, true, List, [], ◌∷◌, ◌++◌, eqb, leb, ltb, length, get_or, set, length-append, length-set, get_or-set_same, get_or-set_other, eqb-true, eq-eqb, ne_eqb, leb-true, le-leb, ltb-true, lt-ltb}
+use Rattle.std.proofs.Common.{ℕ, ◌+◌, ◌-◌, ◌≤◌, ◌<◌, arith, ◌≡◌, refl, sym, ap, subst, ◌∙◌, Bool, true, not, ◌&&◌, ◌||◌, List, [], ◌∷◌, ◌++◌, eqb, leb, ltb, length, get_or, set, length-append, length-set, get_or-set_same, get_or-set_other, eqb-true, eq-eqb, ne_eqb, leb-true, le-leb, ltb-true, lt-ltb}
 use Rattle.std.proofs.Math.Decide.{ℕ_discrete}
 use Rattle.std.proofs.Math.ListN.{get_or-append}
 use Rattle.std.proofs.Math.Seq.{get_or-append_seam}
-use Rattle.std.proofs.lemmas.Bool.{eqb-false, and_parts, and_from}
-use Rattle.prelude.specs.Below.{count_below, count_hit, count_pass, count_ext}
+use Rattle.std.proofs.lemmas.Bool.{eqb-false, and_parts, and_from, or_left, or_right, not_from_false, not_from_true}
+use Rattle.prelude.specs.Below.{all_below, all_ext, all_miss, count_below, count_hit, count_pass, count_ext}
 use Rattle.prelude.specs.Cases.{split_if, if_false}
+use Rattle.prelude.specs.Texts.{same_text}
+use Rattle.prelude.specs.declared.Text.{Text}
 use Rattle.store.specs.declared.Request.{Request}
 use Rattle.store.specs.Book.{Book, order_in, answered}
 use Rattle.store.specs.Orders.{no_order}
 use Rattle.store.specs.Requests.{no_request}
+use Rattle.machine.specs.Orders.{is_empty}
 use Rattle.machine.specs.Machine.{order_at_link, answer_link}
-use Rattle.machine.specs.Rules.{linked, of_order, number_in, amendments_rule}
+use Rattle.machine.specs.Rules.{linked, of_order, number_in, amendments_rule, bears_origin, origin_rule}
 
 abbrev pub at : List Request → ℕ → Request
 at qs j = get_or qs j no_request
@@ -24,25 +27,25 @@ at_link b i =
 
 -- ---- one answered
 
-pub length_answer : (k : ℕ) (qs : List Request) → length (answer_link k qs) ≡ length qs
+pub length_answer : (k v : ℕ) (qs : List Request) → length (answer_link k v qs) ≡ length qs
 unfolding answer_link
-length_answer k qs = split_if (λ (l : List Request). length l ≡ length qs) (eqb k 0) (λ e. refl) (λ e. length-set qs (k - 1) _)
+length_answer k v qs = split_if (λ (l : List Request). length l ≡ length qs) (eqb k 0) (λ e. refl) (λ e. length-set qs (k - 1) _)
 
-pub answer_case : (P : Request → Type 0) (k : ℕ) (qs : List Request) (j : ℕ) → j < length qs → ((k ≡ j + 1 → ⊥) → P (at qs j))
-    → (k ≡ j + 1 → P (answered (at qs j))) → P (at (answer_link k qs) j)
+pub answer_case : (P : Request → Type 0) (k v : ℕ) (qs : List Request) (j : ℕ) → j < length qs → ((k ≡ j + 1 → ⊥) → P (at qs j))
+    → (k ≡ j + 1 → P (answered v (at qs j))) → P (at (answer_link k v qs) j)
 unfolding answer_link
-answer_case P k qs j h p a =
+answer_case P k v qs j h p a =
     split_if (λ (l : List Request). P (at l j)) (eqb k 0) (λ e. let z : k ≡ 0 = eqb-true k 0 e in p (λ q. omega arith))
     (λ e. go (ℕ_discrete j (k - 1)) (λ z. eqb-false k 0 e z))
   where
-    go : Dec (j ≡ k - 1) → (k ≡ 0 → ⊥) → P (at (set qs (k - 1) (answered (at qs (k - 1)))) j)
+    go : Dec (j ≡ k - 1) → (k ≡ 0 → ⊥) → P (at (set qs (k - 1) (answered v (at qs (k - 1)))) j)
     go (yes q) n =
-        subst (λ (i : ℕ). P (at (set qs i (answered (at qs i))) j)) q
-        (subst P (sym (get_or-set_same qs j (answered (at qs j)) no_request h)) (a (omega arith)))
-    go (no q) n = subst P (sym (get_or-set_other qs (k - 1) j (answered (at qs (k - 1))) no_request q)) (p (λ z. q (omega arith)))
+        subst (λ (i : ℕ). P (at (set qs i (answered v (at qs i))) j)) q
+        (subst P (sym (get_or-set_same qs j (answered v (at qs j)) no_request h)) (a (omega arith)))
+    go (no q) n = subst P (sym (get_or-set_other qs (k - 1) j (answered v (at qs (k - 1))) no_request q)) (p (λ z. q (omega arith)))
 
-pub answer_order : (k : ℕ) (qs : List Request) (j : ℕ) → j < length qs → (at (answer_link k qs) j).order ≡ (at qs j).order
-answer_order k qs j h = answer_case (λ (q : Request). q.order ≡ (at qs j).order) k qs j h (λ d. refl) (λ e. refl)
+pub answer_order : (k v : ℕ) (qs : List Request) (j : ℕ) → j < length qs → (at (answer_link k v qs) j).order ≡ (at qs j).order
+answer_order k v qs j h = answer_case (λ (q : Request). q.order ≡ (at qs j).order) k v qs j h (λ d. refl) (λ e. refl)
 
 -- ---- one added
 
@@ -85,19 +88,19 @@ at_linked test i link qs l =
     and_from _ _ (and_from _ _ (and_from _ _ (lt-ltb 0 link l.above) (le-leb link (length qs) l.within)) (eq-eqb (at qs (link - 1)).order i l.own)) l.passes
 
 module _ (test : Request → Bool) (i link : ℕ) (qs : List Request) where
-  pub linked_answer : (k : ℕ) → (k ≡ link → (q : Request) → test q ≡ true → test (answered q) ≡ true) → linked test i link qs ≡ true
-      → linked test i link (answer_link k qs) ≡ true
-  linked_answer k f e =
+  pub linked_answer : (k v : ℕ) → (k ≡ link → (q : Request) → test q ≡ true → test (answered v q) ≡ true) → linked test i link qs ≡ true
+      → linked test i link (answer_link k v qs) ≡ true
+  linked_answer k v f e =
       let l : Linked test i link qs = linked_at test i link qs e in
       let above : 0 < link = l.above in
       let within : link ≤ length qs = l.within in
       let h : link - 1 < length qs = omega arith in
-      at_linked test i link (answer_link k qs)
+      at_linked test i link (answer_link k v qs)
       (record {
         above = above;
-        within = subst (λ (n : ℕ). link ≤ n) (sym (length_answer k qs)) within;
-        own = answer_order k qs (link - 1) h ∙ l.own;
-        passes = answer_case (λ (q : Request). test q ≡ true) k qs (link - 1) h (λ d. l.passes) (λ z. f (omega arith) (at qs (link - 1)) l.passes);
+        within = subst (λ (n : ℕ). link ≤ n) (sym (length_answer k v qs)) within;
+        own = answer_order k v qs (link - 1) h ∙ l.own;
+        passes = answer_case (λ (q : Request). test q ≡ true) k v qs (link - 1) h (λ d. l.passes) (λ z. f (omega arith) (at qs (link - 1)) l.passes);
       })
 
   pub linked_more : (x : Request) → linked test i link qs ≡ true → linked test i link (qs ++ (x ∷ [])) ≡ true
@@ -127,10 +130,10 @@ linked_new test i qs x o t =
 abbrev pub owned : ℕ → List Request → ℕ
 owned i qs = count_below (of_order qs i) (length qs)
 
-pub owned_answer : (i k : ℕ) (qs : List Request) → owned i (answer_link k qs) ≡ owned i qs
-owned_answer i k qs =
-    ap (count_below (of_order (answer_link k qs) i)) (length_answer k qs)
-    ∙ count_ext (of_order (answer_link k qs) i) (of_order qs i) (length qs) (λ j h. ap (λ (n : ℕ). eqb n i) (answer_order k qs j h))
+pub owned_answer : (i k v : ℕ) (qs : List Request) → owned i (answer_link k v qs) ≡ owned i qs
+owned_answer i k v qs =
+    ap (count_below (of_order (answer_link k v qs) i)) (length_answer k v qs)
+    ∙ count_ext (of_order (answer_link k v qs) i) (of_order qs i) (length qs) (λ j h. ap (λ (n : ℕ). eqb n i) (answer_order k v qs j h))
 
 -- how many there are among the old
 owned_old : (i : ℕ) (qs : List Request) (x : Request) → count_below (of_order (qs ++ (x ∷ [])) i) (length qs) ≡ owned i qs
@@ -164,3 +167,40 @@ unfolding number_in
 number_same p q j h =
     count_ext (of_order p (at p j).order) (of_order q (at q j).order) j
     (λ k l. ap (λ (n : ℕ). eqb n (at p j).order) (h k (omega arith)) ∙ ap (eqb (at q k).order) (h j (omega arith)))
+
+-- ---- what a request's OrigClOrdID names goes by the orders and texts of those up to it
+
+-- what stays of a request when it is answered
+pub record Same (p q : Request) : Type 0 where
+  pub order : p.order ≡ q.order
+  pub clordid : p.clordid ≡ q.clordid
+  pub origclordid : p.origclordid ≡ q.origclordid
+
+pub origin_same : (p q : List Request) (k : ℕ) → ((j : ℕ) → j ≤ k → Same (at p j) (at q j)) → origin_rule p k ≡ origin_rule q k
+unfolding origin_rule
+origin_same p q k h =
+    let own : Same (at p k) (at q k) = h k (omega arith) in
+    ap (λ (t : Text). is_empty t || not (all_below (λ j. not (bears_origin p k j)) k)) own.origclordid
+    ∙ ap (λ (x : Bool). is_empty (at q k).origclordid || not x)
+    (all_ext (λ j. not (bears_origin p k j)) (λ j. not (bears_origin q k j)) k
+    (λ j l. let s : Same (at p j) (at q j) = h j (omega arith) in ap not
+    (ap (λ (n : ℕ). eqb n (at p k).order && same_text (at p j).clordid (at p k).origclordid) s.order
+    ∙ ap (λ (n : ℕ). eqb (at q j).order n && same_text (at p j).clordid (at p k).origclordid) own.order
+    ∙ ap (λ (t : Text). eqb (at q j).order (at q k).order && same_text t (at p k).origclordid) s.clordid
+    ∙ ap (λ (t : Text). eqb (at q j).order (at q k).order && same_text (at q j).clordid t) own.origclordid)))
+
+-- one that is numbered lower bears it
+pub borne : (qs : List Request) (k j : ℕ) → j < k → bears_origin qs k j ≡ true → origin_rule qs k ≡ true
+unfolding origin_rule
+borne qs k j h e = or_right (is_empty (at qs k).origclordid) _ (not_from_false _ (all_miss (λ i. not (bears_origin qs k i)) k j h (not_from_true _ e)))
+
+-- a request that is added without one, or with that of a request of its order
+pub origin_none : (qs : List Request) (x : Request) → is_empty x.origclordid ≡ true → origin_rule (qs ++ (x ∷ [])) (length qs) ≡ true
+unfolding origin_rule
+origin_none qs x e = or_left _ _ (ap (λ (q : Request). is_empty q.origclordid) (more_new qs x) ∙ e)
+
+pub origin_new : (qs : List Request) (x : Request) (j : ℕ) → j < length qs → (at qs j).order ≡ x.order → same_text (at qs j).clordid x.origclordid ≡ true
+    → origin_rule (qs ++ (x ∷ [])) (length qs) ≡ true
+origin_new qs x j h o t =
+    borne (qs ++ (x ∷ [])) (length qs) j h
+    (rw (more_new qs x, more_old qs x j h) (and_from _ _ (eq-eqb (at qs j).order x.order o) t))

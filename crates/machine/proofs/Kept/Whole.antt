@@ -19,7 +19,7 @@ use Rattle.machine.proofs.Kept.Laws.{name_short}
 use Rattle.machine.proofs.Kept.Tables.{linked_at}
 use Rattle.machine.proofs.Kept.Local.{OrderKept, names_kept, TermsKept, terms_kept}
 use Rattle.machine.proofs.Kept.Keep.{current_link, tries_at}
-use Rattle.machine.proofs.Kept.Lift.{RangeKept, range_kept, RequestKept, BookKept, book_kept}
+use Rattle.machine.proofs.Kept.Lift.{RangeKept, range_kept, RequestKept, BookKept, book_kept, outcome_kept}
 use Rattle.machine.proofs.Kept.Steps.{step_keeps}
 use Rattle.machine.proofs.Kept.Fits.{NamesFit, OrderFits, RequestFits, BookFits, orders_past, requests_past, fits_kept}
 use Rattle.machine.proofs.Numbered.{numbered_laws}
@@ -163,6 +163,7 @@ whole_book b s k f =
             clordid = q.clordid;
             origclordid = q.origclordid;
             downstream = q.downstream;
+            outcome = omega (arith, (outcome_kept (request_in b j) r.outcome).most);
           };
     }
 

@@ -50,20 +50,20 @@ behind (inl e) = record { rings = rw e (record { listed = omega arith; second = 
 behind (inr e) = record { rings = rw e (record { listed = omega arith; second = inr (refl, refl) }) }
 
 module _ {k : ℕ} {q : Request} {o : Order} {e : Event} where
-  refuses_rings : {y : Order} {j s : ℕ} {out : Output} → Refuses k q o e y j s out → Rings out
+  refuses_rings : {y : Order} {j s v : ℕ} {out : Output} → Refuses k q o e y j s v out → Rings out
   refuses_rings still = record { rings = none }
   refuses_rings (gone {r} w u g) = record { rings = shorted (refused_listed r o) }
   refuses_rings (given_up_lem {r} w u g h) = behind (refused_listed r o)
   refuses_rings (told {r} w u g) = record { rings = shorted (refused_listed r o) }
 
-  fails_rings : {y : Order} {j s : ℕ} {out : Output} → Fails k q o e y j s out → Rings out
+  fails_rings : {y : Order} {j s v : ℕ} {out : Output} → Fails k q o e y j s v out → Rings out
   fails_rings unfailed = record { rings = none }
   fails_rings (refused r g) = refuses_rings r
-  fails_rings (freed g h) = record { rings = none }
-  fails_rings (fell t g u h) = record { rings = none }
+  fails_rings (freed w g h) = record { rings = none }
+  fails_rings (fell w t g u h) = record { rings = none }
   fails_rings (ended w t g h) = record { rings = none }
 
-  left_rings : {y : Order} {j s : ℕ} {out : Output} → Left k q o e y j s out → Rings out
+  left_rings : {y : Order} {j s v : ℕ} {out : Output} → Left k q o e y j s v out → Rings out
   left_rings (fails z l) = fails_rings l
   left_rings (resends z new_again) = record { rings = none }
   left_rings (resends z (cancel_again t)) = record { rings = none }
@@ -74,23 +74,23 @@ module _ {k : ℕ} {q : Request} {o : Order} {e : Event} where
   left_rings (applies a u s) = record { rings = shorted (short_listed _ _ _) }
   left_rings (informs a s) = record { rings = shorted (short_listed _ _ _) }
 
-left_has : {p : ℕ} {y : Order} {j s : ℕ} {out : Output} → Rings out → Has (left p y j s out)
+left_has : {p : ℕ} {y : Order} {j s v : ℕ} {out : Output} → Rings out → Has (left p y j s v out)
 left_has h = record { has = h.rings }
 
-sent_has : (f : Findings) (p : ℕ) (y : Order) (j s : ℕ) {out : Output} → Rings out → Has (send_gateway_cancel f (left p y j s out))
+sent_has : (f : Findings) (p : ℕ) (y : Order) (j s v : ℕ) {out : Output} → Rings out → Has (send_gateway_cancel f (left p y j s v out))
 unfolding send_gateway_cancel telling adding
-sent_has f p y j s h = record { has = h.rings }
+sent_has f p y j s v h = record { has = h.rings }
 
 made_has : {f : Findings} {k : ℕ} {q : Request} {o : Order} {e : Event} (c c' : Change) → MadeBy f k q o e c c' → Has c
 made_has c c' (stays l) = left_has (left_rings l)
 made_has c c' (refusing! z (quietly r)) = left_has (refuses_rings r)
-made_has {o = o} c c' (refusing! z (retries {r} w u g h t)) = sent_has _ _ _ _ _ (record { rings = shorted (refused_listed r o) })
-made_has c c' (resumes z r h t) = sent_has _ _ _ _ _ (refuses_rings r)
+made_has {o = o} c c' (refusing! z (retries {r} w u g h t)) = sent_has _ _ _ _ _ _ (record { rings = shorted (refused_listed r o) })
+made_has c c' (resumes z r h t) = sent_has _ _ _ _ _ _ (refuses_rings r)
 
 asked_has : {f : Findings} {o : Order} (c c' : Change) → AskedBy f o c c' → Has c
 asked_has c c' (declined z) = record { has = none }
 asked_has c c' (waits d g) = record { has = none }
-asked_has c c' (goes d g) = sent_has _ _ _ _ _ (record { rings = none })
+asked_has c c' (goes d g) = sent_has _ _ _ _ _ _ (record { rings = none })
 
 amended_has : {f : Findings} {order : ℕ} {full : Bool} {o : Order} {e : Event} (c c' : Change) → AmendedBy f order full o e c c' → Has c
 unfolding refusing cancel_goes replace_goes telling adding unchanged

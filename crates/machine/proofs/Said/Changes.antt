@@ -90,16 +90,16 @@ behind_heard a = record { few = omega arith; first = λ z. clash true refl z }
 says_heard : {m : Message} {a : ℕ} → is_message m ≡ true → Heard (says m a)
 says_heard r = record { few = omega arith; first = λ z. r }
 
-left_says : {p : ℕ} {y : Order} {j s : ℕ} {out : Output} → Heard out → Says (left p y j s out)
+left_says : {p : ℕ} {y : Order} {j s v : ℕ} {out : Output} → Heard out → Says (left p y j s v out)
 left_says {out = out} h = record {
   first = h.first;
   second = λ z u. let l : out.count ≤ 1 = h.few in let a : (out.count ≡ 0 → ⊥) = eqb-false out.count 0 z in let b : (out.count ≡ 1 → ⊥) = eqb-false out.count 1 u in absurd (omega arith);
 }
 
 -- a gateway cancel goes out
-send_says : (f : Findings) (p : ℕ) (y : Order) (j s : ℕ) {out : Output} → Tellable y → Heard out → Says (send_gateway_cancel f (left p y j s out))
+send_says : (f : Findings) (p : ℕ) (y : Order) (j s v : ℕ) {out : Output} → Tellable y → Heard out → Says (send_gateway_cancel f (left p y j s v out))
 unfolding send_gateway_cancel
-send_says f p y j s {out} t h =
+send_says f p y j s v {out} t h =
     telling_says _ _ (cancel_right _ (gateway_tellable _ _ (numbered_tellable f true y t)) (next_downstream y) (next_fine y t))
     (adding_says _ _ (left_says h))
 
@@ -261,9 +261,9 @@ module _ (o : Order) (t : Tellable o) (k : ℕ) (q : Request) (a : Asks q) (some
       (split_if (λ (x : ℕ). is_exectype x ≡ true) _ (λ z. unfold is_exectype exectypes in refl) (λ z. right_exectype e h kind))
       (le-leb (e.exec.cumqty - o.state.cumqty) (10 ^ 12) (omega arith)) (price_words o e h) (price_source o e) (report_noted e h)
 
-  failure_noted : {n : Note} → Failure k q o e n → Noted n
-  failure_noted told_us = text_noted e h
-  failure_noted not_sent = record { text = no_long_text_lem; fixedtext = omega arith; reason = omega arith; origin = omega arith; unsaid = λ z. refl; one = refl }
+  failure_noted : {n : Note} {v : ℕ} → Failure k q o e n v → Noted n
+  failure_noted (told_us h') = text_noted e h
+  failure_noted (not_sent h') = record { text = no_long_text_lem; fixedtext = omega arith; reason = omega arith; origin = omega arith; unsaid = λ z. refl; one = refl }
 
   -- what refuses a request is right
   record Refusable (r : Refused) : Type 0 where
@@ -272,18 +272,18 @@ module _ (o : Order) (t : Tellable o) (k : ℕ) (q : Request) (a : Asks q) (some
     noted : Noted r.note
 
   refusable : {r : Refused} → From k q o e r → Refusable r
-  refusable by_report = record {
+  refusable (by_report v) = record {
     status = split_if (λ (n : ℕ). eqb n 0 ≡ false → is_status n ≡ true) _ (λ z y. clash true refl y) (λ z. (right_ranged e h).status);
     named = given;
     noted = text_noted e h;
   }
-  refusable by_reject = record { status = (right_ranged e h).status; named = given; noted = venue_noted e h }
+  refusable (by_reject v) = record { status = (right_ranged e h).status; named = given; noted = venue_noted e h }
   refusable (by_failure n) = record { status = λ z. t.state.status; named = no_fine; noted = failure_noted n }
 
   refused_told : {r : Refused} → From k q o e r → Tellable (refused_order k r o)
   refused_told {r} w = let f = refusable w in refused_tellable k r o f.status f.named t
 
-  refuses_heard : {y : Order} {j s : ℕ} {out : Output} → Refuses k q o e y j s out → Tellable y × Heard out
+  refuses_heard : {y : Order} {j s v : ℕ} {out : Output} → Refuses k q o e y j s v out → Tellable y × Heard out
   refuses_heard still = (t, calm_heard 0)
   refuses_heard (gone w u g) = (refused_told w, calm_heard _)
   refuses_heard (given_up_lem {r} w u g z) = (gateway_tellable _ _ (refused_told w), behind_heard (refused_alarm r o))
@@ -296,11 +296,11 @@ module _ (o : Order) (t : Tellable o) (k : ℕ) (q : Request) (a : Asks q) (some
             (a.clordid g) (a.origclordid u.later g) (client_kind q a.kind u.later g) m.noted m.one m.reason),
       )
 
-  fails_heard : {y : Order} {j s : ℕ} {out : Output} → Fails k q o e y j s out → Heard out
+  fails_heard : {y : Order} {j s v : ℕ} {out : Output} → Fails k q o e y j s v out → Heard out
   fails_heard unfailed = calm_heard 0
   fails_heard (refused r g) = (refuses_heard r).1
-  fails_heard (freed g z) = calm_heard 0
-  fails_heard (fell u g v z) = calm_heard 0
+  fails_heard (freed w g z) = calm_heard 0
+  fails_heard (fell w u g v z) = calm_heard 0
   fails_heard (ended {n} w u g z) =
       let m : Noted n = failure_noted w in
       let p : Tellable (next_exec (set_status rejected o)) = sequence_tellable _ (status_tellable rejected o (unfold is_status statuses in refl) t) in
@@ -309,7 +309,7 @@ module _ (o : Order) (t : Tellable o) (k : ℕ) (q : Request) (a : Asks q) (some
       (record { two = refl; low = omega arith; high = omega arith }) (omega arith)
       (record { text = m.text; fixedtext = m.fixedtext; reason = omega arith; origin = omega arith; unsaid = λ z. absurd (omega arith); one = m.one }))
 
-  left_heard : {y : Order} {j s : ℕ} {out : Output} → Left k q o e y j s out → Heard out
+  left_heard : {y : Order} {j s v : ℕ} {out : Output} → Left k q o e y j s v out → Heard out
   left_heard (fails z l) = fails_heard l
   left_heard (resends z new_again) = says_heard (new_right o t q.downstream a.downstream)
   left_heard (resends z (cancel_again u)) = says_heard (cancel_right o t q.downstream a.downstream)
@@ -324,13 +324,13 @@ module _ (o : Order) (t : Tellable o) (k : ℕ) (q : Request) (a : Asks q) (some
   pub made_says : {f : Findings} (c c' : Change) → MadeBy f k q o e c c' → Says c
   made_says c c' (stays l) = left_says (left_heard l)
   made_says c c' (refusing! z (quietly r)) = left_says (refuses_heard r).1
-  made_says c c' (refusing! z (retries w u g v x)) = send_says _ _ _ _ _ (refused_told w) (calm_heard _)
-  made_says c c' (resumes z r v x) = send_says _ _ _ _ _ (refuses_heard r).0 (refuses_heard r).1
+  made_says c c' (refusing! z (retries w u g v x)) = send_says _ _ _ _ _ _ (refused_told w) (calm_heard _)
+  made_says c c' (resumes z r v x) = send_says _ _ _ _ _ _ (refuses_heard r).0 (refuses_heard r).1
 
 pub asked_says : {f : Findings} {o : Order} → Tellable o → (c c' : Change) → AskedBy f o c c' → Says c
 asked_says t c c' (declined z) = left_says (calm_heard 0)
 asked_says t c c' (waits d g) = left_says (calm_heard 0)
-asked_says {f} {o} t c c' (goes d g) = send_says _ _ _ _ _ (gateway_tellable (begun o) o t) (calm_heard 0)
+asked_says {f} {o} t c c' (goes d g) = send_says _ _ _ _ _ _ (gateway_tellable (begun o) o t) (calm_heard 0)
 
 -- ---- a client's cancel or replace
 

@@ -101,7 +101,7 @@ module _ (b : Book) (e : Event) (k : ℕ) (w : find_downstream b e.ids.downstrea
       venues Found b e low high
       (λ z. named (on_report e) (record { moved = m.answers (not_kind e 4 2 z refl) (not_kind e 4 9 z refl) k w (on_report_made (k + 1) q o e _ _ _ _ z); right = on_report_right b (k + 1) q o e _ z mine }))
       (λ z. named (λ f k q o. unknown_at_venue f k o e) (record { moved = m.answers (not_kind e 5 2 z refl) (not_kind e 5 9 z refl) k w (unknown_made (k + 1) q o e _ _ _ _); right = word_right b (k + 1) q o e _ z }))
-      (λ z. named (λ f k q o. venue_cancel_reject f k q o e) (record { moved = m.answers (not_kind e 6 2 z refl) (not_kind e 6 9 z refl) k w (reject_made (k + 1) q o e _ _ _ _ (not_kind e 6 7 z refl)); right = reject_right b (k + 1) q o e _ z }))
+      (λ z. named (λ f k q o. venue_cancel_reject f k q o e) (record { moved = m.answers (not_kind e 6 2 z refl) (not_kind e 6 9 z refl) k w (reject_made (k + 1) q o e _ _ _ _ z); right = reject_right b (k + 1) q o e _ z }))
 
   placed : rules b ≡ true → (c : Change) → c.refusal ≡ 0 → Found c → order_in (after b c) q.order ≡ c.order
   unfolding Either Moved

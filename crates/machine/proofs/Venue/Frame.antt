@@ -36,9 +36,9 @@ module _ {P : Message → Type 0} {A : ℕ → Type 0} {O : Order → Type 0} wh
   unchanged_fits place o a h = record { first = λ z. clash true refl z; second = λ z. clash true refl z; alarm = a; order = h }
 
   module _ (c : Change) (h : Fits P A O c) where
-    pub answering_fits : (k : ℕ) → Fits P A O (answering k c)
+    pub answering_fits : (k v : ℕ) → Fits P A O (answering k v c)
     unfolding answering
-    answering_fits k = record { first = h.first; second = h.second; alarm = h.alarm; order = h.order }
+    answering_fits k v = record { first = h.first; second = h.second; alarm = h.alarm; order = h.order }
 
     pub superseding_fits : (k : ℕ) → Fits P A O (superseding k c)
     unfolding superseding
@@ -112,5 +112,5 @@ module _ {P : Message → Type 0} {A : ℕ → Type 0} {O : Order → Type 0} (w
       still : A 0 × O o → Fits P A O (unchanged f.place o)
       still p = unchanged_fits f.place o p.0 p.1
 
-      gone : A (refused_alarm r o) × O (refused_order k r o) → Fits P A O (alarming (refused_alarm r o) (answering k (unchanged f.place (refused_order k r o))))
-      gone p = alarming_fits _ _ (answering_fits _ (unchanged_fits f.place _ refl p.1) k) p.0
+      gone : A (refused_alarm r o) × O (refused_order k r o) → Fits P A O (alarming (refused_alarm r o) (answering k r.outcome (unchanged f.place (refused_order k r o))))
+      gone p = alarming_fits _ _ (answering_fits _ (unchanged_fits f.place _ refl p.1) k _) p.0

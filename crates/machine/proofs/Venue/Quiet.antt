@@ -101,22 +101,22 @@ module _ (b : Book) (e : Event) (no : eqb e.kind 4 ≡ false) where
           (λ h. split_if F _ (λ h. still _ o) (λ h. split_if F _ (λ h. still _ o) (λ h. alarming_fits _ _ (unchanged_fits _ o refl refl) refl)))
 
       module _ (q : Request) (venue : ℕ) where
-        failed_quiet : (n : Note) → F (send_failed f k q venue n o)
+        failed_quiet : (v : ℕ) (n : Note) → F (send_failed f k q venue v n o)
         unfolding send_failed first_failed
-        failed_quiet n =
+        failed_quiet v n =
             split_if F _ (λ t. still _ o)
             (λ t. split_if F _ (λ t. still _ o)
-            (λ t. split_if F _ (λ t. answering_fits _ (still _ o) k)
-            (λ t. split_if F _ (λ t. answering_fits _ (still _ _) k)
+            (λ t. split_if F _ (λ t. answering_fits _ (still _ o) k v)
+            (λ t. split_if F _ (λ t. answering_fits _ (still _ _) k v)
             (λ t. split_if F _ (λ t. refuse_fits w f k q venue _ o (λ z. (refl, refl)) (λ z. (refl, refl)) (λ z. (refl, refl)) (λ x y z. (own_alarm _ o refl, refl)))
-            (λ t. split_if F _ (λ t. still _ o) (λ t. telling_fits _ (answering_fits _ (still _ _) k) _ (unpriced _ _ _ _ _ _)))))))
+            (λ t. split_if F _ (λ t. still _ o) (λ t. telling_fits _ (answering_fits _ (still _ _) k v) _ (unpriced _ _ _ _ _ _)))))))
 
         unsent_quiet : F (unsent f k q venue o)
         unfolding unsent new_order cancel_request replace_request to_venue
         unsent_quiet =
             split_if F _ (λ t. telling_fits _ (still _ o) _ (others_said b e _ refl))
             (λ t. split_if F _ (λ t. telling_fits _ (still _ o) _ (others_said b e _ refl))
-            (λ t. split_if F _ (λ t. telling_fits _ (still _ o) _ (others_said b e _ refl)) (λ t. failed_quiet _)))
+            (λ t. split_if F _ (λ t. telling_fits _ (still _ o) _ (others_said b e _ refl)) (λ t. failed_quiet _ _)))
 
   none_found : F unknown_report
   none_found = alarming_fits _ _ (unchanged_fits _ _ refl refl) refl
@@ -137,6 +137,6 @@ module _ (b : Book) (e : Event) (no : eqb e.kind 4 ≡ false) where
       (λ t. split_if F _ (λ t. clash _ t no)
       (λ t. split_if F _ (λ t. on_request_lem _ _ none_found (λ f k q o. unknown_quiet f o k))
       (λ t. split_if F _ (λ t. clash _ t never)
-      (λ t. split_if F _ (λ t. on_request_lem _ _ nil (λ f k q o. failed_quiet f o k q _ _))
+      (λ t. split_if F _ (λ t. on_request_lem _ _ nil (λ f k q o. failed_quiet f o k q _ _ _))
       (λ t. split_if F _ (λ t. on_request_lem _ _ nil (λ f k q o. unsent_quiet f o k q _))
       (λ t. split_maybe F _ (λ z. nil) (λ i z. cancel_order_quiet _ _)))))))))

@@ -8,7 +8,7 @@ use Rattle.prelude.specs.Cases.{maybe}
 use Rattle.prelude.specs.Span.{span, splice}
 use Rattle.prelude.specs.Texts.{agree_at}
 use Rattle.store.specs.Layout.{book_size}
-use Rattle.opens.specs.Keeps.{keeps_of}
+use Rattle.rules.specs.Keeps.{keeps_of}
 use Rattle.marks.specs.Marks.{name_size, place_size, place, place_count, name_at, image_at, name_bytes, has_name, set_place, is_mark, return_place, Marked, marked, set_mark_of, return_of}
 use Rattle.marks.specs.Promise.{LastPart}
 use Rattle.marks.proofs.Laws.Places.{place_within, set_below, return_first}

@@ -5,7 +5,7 @@ use Rattle.std.proofs.lemmas.Bool.{and_parts, and_from, or_cases, or_parts, case
 use Rattle.prelude.specs.Below.{all_below}
 use Rattle.prelude.specs.Cases.{clash}
 use Rattle.format.specs.Codes.{within, is_alnum}
-use Rattle.opens.specs.Keeps.{keeps_of}
+use Rattle.rules.specs.Keeps.{keeps_of}
 use Rattle.marks.specs.Marks.{letter_at, is_mark_name, Marked, set_mark_of, return_of}
 use Rattle.marks.specs.Promise.{Alnum, Malformed, NamesRight}
 use Rattle.marks.proofs.Laws.Places.{name_short}
@@ -58,7 +58,7 @@ missed p (suc n) e =
     (λ h. record { at = n; below = omega arith; fails = h })
     (cases_Bool (p n))
 
--- ---- a name that is none
+-- ---- a name that is malformed
 
 module _ (name : List ℕ) where
   no_letters : 0 < length name → length name ≤ 16 → is_mark_name name ≡ false → all_below (letter_at name) (length name) ≡ false

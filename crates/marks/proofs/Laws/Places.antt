@@ -9,7 +9,7 @@ use Rattle.prelude.specs.Cases.{maybe, maybe_none, maybe_some}
 use Rattle.prelude.specs.Span.{length_span, get_span}
 use Rattle.prelude.specs.Texts.{agree_at}
 use Rattle.store.specs.Layout.{book_size}
-use Rattle.opens.specs.Keeps.{keeps_of}
+use Rattle.rules.specs.Keeps.{keeps_of}
 use Rattle.marks.specs.Marks.{name_size, place_size, place, place_count, name_at, image_at, letter_at, is_mark_name, name_bytes, has_name, is_of, is_free, set_place, is_mark, return_place}
 
 -- ---- lengths
@@ -72,7 +72,7 @@ module _ (places bytes : List ℕ) (i : ℕ) where
 
 -- ---- where a set goes
 
--- the first place of its name, or the first free one where none is of its name
+-- the first place of its name, or the first free one if none is of its name
 pub data Goes (places name : List ℕ) (i : ℕ) : Type 0 where
   again : First (is_of places name) (place_count places) i → Goes places name i
   fresh : first_below (is_of places name) (place_count places) ≡ None → First (is_free places) (place_count places) i → Goes places name i

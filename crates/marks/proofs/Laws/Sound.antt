@@ -5,7 +5,7 @@ use Rattle.prelude.specs.Below.{first_below, first_none, first_hit, first_past}
 use Rattle.prelude.specs.Bytes.{zeros}
 use Rattle.prelude.specs.Span.{get_span}
 use Rattle.store.specs.Layout.{book_size}
-use Rattle.opens.specs.Keeps.{keeps_of}
+use Rattle.rules.specs.Keeps.{keeps_of}
 use Rattle.marks.specs.Marks.{name_size, place, place_count, name_at, image_at, is_mark_name, name_bytes, has_name, is_of, is_free, set_place, is_mark, return_place, set_mark_of}
 use Rattle.marks.specs.Promise.{NameIs, Earliest, Nowhere, SetAt, SoundSet, MarkIs, SoundReturn}
 use Rattle.marks.proofs.Laws.Places.{length_name, has_name_lem, name_has, set_again, set_fresh, set_below}

@@ -10,8 +10,8 @@ use Rattle.prelude.specs.Number.{Bytes}
 use Rattle.prelude.specs.Span.{splice}
 use Rattle.store.specs.Layout.{book_size}
 use Rattle.format.specs.Codes.{within, is_alnum}
-use Rattle.opens.specs.Keeps.{keeps_of}
-use Rattle.opens.specs.Laws.Keeps.{keeps_held}
+use Rattle.rules.specs.Keeps.{keeps_of}
+use Rattle.rules.specs.Laws.Keeps.{keeps_held}
 use Rattle.marks.specs.Marks.{name_size, place_size, place, place_count, name_at, image_at, is_mark_name, name_bytes, has_name, is_of, set_place, is_mark, return_place, Marked, marked}
 use Rattle.marks.specs.Promise.{Kept, CallsKeep, Stands, MarksStand}
 use Rattle.marks.proofs.Laws.Places.{length_name, length_image, has_name_lem, name_has, Goes, again, fresh, set_goes, set_below, return_first, return_kept}

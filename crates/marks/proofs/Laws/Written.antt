@@ -126,7 +126,7 @@ module _ (name : List ℕ) (e : is_mark_name name ≡ true) where
       go (yes h) = within_bytes k h
       go (no h) = let m : length name ≤ k = omega arith in behind_bytes k m l ∙ sym (get_or-eq_default name 0 m)
 
-  -- a name is no free place's
+  -- a free place has no mark's name
   pub name_not_free : name_bytes name ≡ zeros name_size → ⊥
   name_not_free z =
       no_letter (get_or name 0 0) (letters 0 (omega (arith, least)))

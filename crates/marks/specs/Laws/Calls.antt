@@ -3,7 +3,7 @@ use Rattle.std.specs.Prelude.{ℕ, ◌≡◌, true, false, List, ◌++◌, None,
 use Rattle.std.proofs.lemmas.Bool.{not-true, not-false}
 use Rattle.prelude.specs.Cases.{if◌then◌otherwise◌, maybe, split_if, split_maybe}
 use Rattle.prelude.specs.Span.{splice}
-use Rattle.opens.specs.Keeps.{keeps_of}
+use Rattle.rules.specs.Keeps.{keeps_of}
 use Rattle.marks.specs.Marks.{place, image_at, is_mark_name, name_bytes, set_place, return_place, Marked, marked, set_mark_of, return_of}
 
 module _ (b name p : List ℕ) where

@@ -15,8 +15,8 @@ use Rattle.machine.specs.Since.{filled_on}
 use Rattle.machine.specs.Rules.{rules}
 use Rattle.machine.proofs.Kept.Lift.{book_kept}
 use Rattle.page.specs.Laws.Sound.{behind_front}
-use Rattle.opens.specs.Keeps.{keeps_of}
-use Rattle.opens.specs.Laws.Keeps.{keeps_held}
+use Rattle.rules.specs.Keeps.{keeps_of}
+use Rattle.rules.specs.Laws.Keeps.{keeps_held}
 use Rattle.net.specs.Net.{filled_in, Position, position_of, positions, net_of, no_position, net_bytes, least_scratch, least_lines, Written, written, net_call}
 use Rattle.net.specs.Promise.{small, IsSmall, NetSmall, IsWritten, SoundCall}
 use Rattle.net.specs.Laws.Pair.{in_use}

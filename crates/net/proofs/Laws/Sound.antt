@@ -108,7 +108,7 @@ module _ (b : Book) (client : ℕ) (symbol : Text) where
   abbrev whole : Signed
   whole = netted (filled_in b client symbol)
 
-  -- where order n is theirs, it is the first of its client and symbol where it is theirs
+  -- order n is theirs and the first of its client and symbol exactly if it is theirs and none before it is
   first_same : (n : ℕ) → is_first b n && of_pair client symbol (order_in b n) ≡ unseen b client symbol n && of_pair client symbol (order_in b n)
   first_same n = go (of_pair client symbol (order_in b n)) refl
     where

@@ -18,8 +18,8 @@ use Rattle.machine.specs.Rules.{rules}
 use Rattle.machine.proofs.Kept.Lift.{book_kept}
 use Rattle.machine.proofs.Kept.Local.{names_kept}
 use Rattle.page.specs.Laws.Kept.{in_range_lem}
-use Rattle.opens.specs.Keeps.{keeps_of}
-use Rattle.opens.specs.Laws.Keeps.{keeps_held}
+use Rattle.rules.specs.Keeps.{keeps_of}
+use Rattle.rules.specs.Laws.Keeps.{keeps_held}
 use Rattle.net.specs.declared.Amounts.{Amounts}
 use Rattle.net.specs.Net.{Position, position_of, netted, filled_in, unseen, is_first, positions, net_of, twos, fields, line_bytes, net_bytes, least_scratch, least_lines, written, net_call}
 use Rattle.net.specs.Laws.Line.{widths, sized}

@@ -11,9 +11,9 @@ unfolding unchanged
 unchanged_taken place o = refl
 
 module _ (c : Change) where
-  pub answering_taken : (k : ℕ) → (answering k c).refusal ≡ c.refusal
+  pub answering_taken : (k outcome : ℕ) → (answering k outcome c).refusal ≡ c.refusal
   unfolding answering
-  answering_taken k = refl
+  answering_taken k outcome = refl
 
   pub superseding_taken : (k : ℕ) → (superseding k c).refusal ≡ c.refusal
   unfolding superseding

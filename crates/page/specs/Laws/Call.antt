@@ -9,13 +9,13 @@ use Rattle.counted.specs.Counted.{refusing, counting}
 use Rattle.store.specs.declared.Order.{Order}
 use Rattle.store.specs.Book.{book_of, order_in, order_count, load_order}
 use Rattle.store.specs.Laws.Stored.{length_orders, load_order_in}
-use Rattle.opens.specs.Keeps.{keeps_of}
+use Rattle.rules.specs.Keeps.{keeps_of}
 use Rattle.page.specs.Page.{fields, line_of, line_bytes, page_of, page_bytes, paged, page_call}
 use Rattle.page.specs.Promise.{InRange}
 use Rattle.page.specs.Laws.Line.{widths, sized, line_written, length_line}
 use Rattle.page.specs.Laws.Pages.{length_page, length_some, page_put}
 use Rattle.page.specs.Laws.Kept.{in_range_lem, fine_order, no_line, page_line, fine_bytes, count_lines}
-use Rattle.opens.specs.Laws.Keeps.{keeps_held}
+use Rattle.rules.specs.Laws.Keeps.{keeps_held}
 
 -- an order's fields over 81 bytes
 pub order_written : (s : List ℕ) (o : Order) → length s ≡ 81 → InRange o → writes s 0 widths (fields (line_of o)) ≡ line_bytes (line_of o)

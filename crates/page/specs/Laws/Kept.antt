@@ -1,4 +1,4 @@
--- What the book's rules give a page: each order's line is in range, and is the page's line of that number. Rests on machine's and opens' laws.
+-- What the book's rules give a page: each order's line is in range, and is the page's line of that number. Rests on machine's, index's and rules' laws.
 use Rattle.std.specs.Prelude.{ℕ, zero, suc, ◌^◌, ◌≤◌, ◌<◌, ◌≡◌, refl, Bool, true, not, ◌&&◌, List, [], ◌∷◌, map, eqb, leb, length, get_or}
 use Rattle.std.proofs.Common.{sym, subst, ◌∙◌, ⊎_elim, arith, eqb-true, leb-true}
 use Rattle.std.proofs.lemmas.Bool.{and_parts, or_cases}
@@ -17,13 +17,13 @@ use Rattle.machine.specs.Ranges.{text_within, name_range}
 use Rattle.machine.specs.Rules.{force_range, priced_range, terms_range, filled_rule, rules}
 use Rattle.machine.proofs.Kept.Lift.{book_kept}
 use Rattle.machine.proofs.Kept.Local.{names_kept}
-use Rattle.opens.specs.Keeps.{keeps_of}
+use Rattle.rules.specs.Keeps.{keeps_of}
 use Rattle.page.specs.Page.{Line, line_of, page_of}
 use Rattle.page.specs.Promise.{InRange}
 use Rattle.page.specs.Laws.Line.{Fine}
 use Rattle.page.specs.Laws.Pages.{AllFine}
-use Rattle.opens.specs.Laws.Keeps.{keeps_held}
-use Rattle.opens.specs.Laws.Sums.{leaves_less}
+use Rattle.rules.specs.Laws.Keeps.{keeps_held}
+use Rattle.index.specs.Laws.Sums.{leaves_less}
 
 -- ---- ranges
 

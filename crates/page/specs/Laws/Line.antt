@@ -119,7 +119,7 @@ pub length_quantity : (n : ℕ) → n ≤ 10 ^ 12 → length (quantity n) ≡ 14
 unfolding quantity
 length_quantity n h = length_right 14 (decimal 4 n) (omega (arith, width_four n h, decimal_long 4 n (omega arith)))
 
--- written where 14 bytes have room
+-- written if 14 bytes have room
 pub quantity_room : (s : List ℕ) (at n : ℕ) → n ≤ 10 ^ 12 → at + 14 ≤ length s → written s at (right 14 (decimal 4 n)) ≡ splice s at (quantity n)
 unfolding quantity
 quantity_room s at n h l = written_room s at (right 14 (decimal 4 n)) (omega (arith, length_quantity n h))

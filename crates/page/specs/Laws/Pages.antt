@@ -7,7 +7,7 @@ use Rattle.prelude.specs.Span.{span, splice, splice_append}
 use Rattle.page.specs.Page.{Line, line_bytes, page_bytes}
 use Rattle.page.specs.Laws.Line.{Fine, length_line}
 
--- every line's quantities are in range; `d` stands where there is no line
+-- every line's quantities are in range; `d` is read past the end
 abbrev pub AllFine : Line → List Line → Type 0
 AllFine d ls = (k : ℕ) → k < length ls → Fine (get_or ls k d)
 

@@ -12,14 +12,14 @@ use Rattle.store.specs.declared.Order.{Order}
 use Rattle.store.specs.Book.{book_of, order_in, order_count}
 use Rattle.store.specs.Laws.Stored.{length_orders}
 use Rattle.machine.specs.Orders.{leaves_qty}
-use Rattle.opens.specs.Keeps.{keeps_of}
+use Rattle.rules.specs.Keeps.{keeps_of}
 use Rattle.page.specs.Page.{left, quantity, line_of, line_bytes, page_of, page_bytes, Paged, page_call}
 use Rattle.page.specs.Promise.{Shows, Reads, InRange, IsLine, SoundPage, LargestFits, IsPrinted, SoundCall}
 use Rattle.page.specs.Laws.Line.{Fine, text_shows, quantity_reads, field, line_feed_lem, line_print}
 use Rattle.page.specs.Laws.Pages.{length_page, line_at}
 use Rattle.page.specs.Laws.Kept.{in_range_lem, fine_order, no_line, page_line, fine_bytes, count_lines}
 use Rattle.page.specs.Laws.Call.{page_long, page_bad, page_short, page_done}
-use Rattle.opens.specs.Laws.Keeps.{keeps_held}
+use Rattle.rules.specs.Laws.Keeps.{keeps_held}
 
 -- a line that stands in a page
 module _ (p : List ℕ) (i : ℕ) (o : Order) (f : Fine (line_of o)) (r : InRange o) (line : span p (81 * i) 81 ≡ line_bytes (line_of o)) where

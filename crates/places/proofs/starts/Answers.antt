@@ -1,4 +1,4 @@
--- `places::starts` walks where there is room to count. Assumes nothing.
+-- `places::starts` walks if there is room to count. Assumes nothing.
 use Rattle.std.proofs.Common.{lt-ltb, le-ltb, ◌∙◌, sym, arith, ltb}
 use Rattle.std.proofs.Math.ListN.{get_or-replicate}
 use Rattle.prelude.specs.Cases.{if_true, if_false}

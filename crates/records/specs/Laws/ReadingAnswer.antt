@@ -91,7 +91,7 @@ module _ (s : List ℕ) (o : ℕ) where
     unfolding message_of message_refusal if◌then◌otherwise◌
     said_record f = rw (w, f) refl
 
--- ---- messages behind a head: an alarm in it and the messages, none where they are refused
+-- ---- messages behind a head: an alarm in it and the messages, none if they are refused
 
 abbrev pub alarm_from : List ℕ → ℕ → ℕ → ℕ
 alarm_from s n a = if eqb (refusal_from s n) 0 then a otherwise 0
@@ -171,7 +171,7 @@ module _ (s : List ℕ) (long : head_size ≤ length s) where
     unfolding head_right
     head_good h c = rw (le-leb head_size (length s) long, le-leb head_size (length_in s) some, le-leb (length_in s) (length s) h) (le-leb (count_in s) 2 c)
 
-    -- where the head fits, the messages tell
+    -- if the head fits, the messages decide
     pub answer_by : length_in s ≤ length s → answer_refusal s ≡ (if leb (count_in s) 2 then refusal_from (answer_in s) (count_in s) otherwise 3)
     unfolding if◌then◌otherwise◌
     answer_by h = go (dec_le (count_in s) 2)

@@ -4,6 +4,7 @@ use Rattle.prelude.specs.Cases.{if◌then◌otherwise◌}
 use Rattle.format.specs.Codes.{canceled}
 use Rattle.store.specs.declared.Order.{Order}
 use Rattle.store.specs.declared.Request.{Request}
+use Rattle.machine.specs.Constants as came
 use Rattle.machine.specs.Changes.{Message, answering, superseding, telling, alarming, is_cancel}
 use Rattle.machine.specs.Report.{settles}
 use Rattle.machine.specs.declared.Change.{Change}
@@ -18,10 +19,10 @@ module _ (a : ℕ) (c : Change) where
   unfolding settles
   alarming_settles accepted s k q o =
       let cancel : Bool = is_cancel q && eqb s canceled in
-      let one : answering k (alarming a c) ≡ alarming a (answering k c) = unfold answering alarming in refl in
-      let two : superseding o.links.current (answering k (alarming a c)) ≡ alarming a (superseding o.links.current (answering k c)) =
+      let one : answering k came.accepted (alarming a c) ≡ alarming a (answering k came.accepted c) = unfold answering alarming in refl in
+      let two : superseding o.links.current (answering k came.accepted (alarming a c)) ≡ alarming a (superseding o.links.current (answering k came.accepted c)) =
       unfold superseding answering alarming in refl in
-      rw (two, one, either a cancel (answering k c) c) (either a accepted _ _)
+      rw (two, one, either a cancel (answering k came.accepted c) c) (either a accepted _ _)
 
   pub alarming_telling : (m : Message) → telling m (alarming a c) ≡ alarming a (telling m c)
   unfolding telling alarming

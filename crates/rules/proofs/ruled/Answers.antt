@@ -3,7 +3,7 @@ use Rattle.std.proofs.Common.{◌≡◌, sym, ◌∙◌, eq-eqb, ne_eqb, le-leb}
 use Rattle.std.proofs.lemmas.Bool.{lt-leb}
 use Rattle.prelude.specs.Number.{word16}
 use Rattle.store.specs.Layout.{header·orders, header·requests}
-use Rattle.rules.specs.Ruled.{ruled_of}
+use Rattle.rules.specs.Keeps.{ruled_of}
 use Rattle.rules.specs.Laws.Ruled.{kept}
 use Rattle.rules.proofs.ruled.Goals as goal
 use Rattle.rules.proofs.ruled.Goals.{then-orders-gt-MOST_ORDERS-via-then-orders-gt-MOST_ORDERS, then-orders-gt-MOST_ORDERS-via-else-orders-gt-MOST_ORDERS+then-requests-gt-MOST_REQUESTS}

@@ -17,7 +17,7 @@ use Rattle.store.specs.Laws.Stored.{length_orders, length_requests, order_in_lem
 use Rattle.machine.specs.Changes.{is_cancel}
 use Rattle.machine.specs.Orders.{is_empty, is_done}
 use Rattle.machine.specs.Ranges.{text_within, name_range}
-use Rattle.machine.specs.Rules.{names_range, order_range, request_range, linked, current_test, pending_test, current_rule, cancel_rule, pending_rule, filled_rule, status_rule, done_rule, tries_rule, amendments_rule, order_rule, of_order, number_in, number_rule, in_flight_rule, request_rule, name_rule, client_of, same_key, key_rule, keys_apart}
+use Rattle.machine.specs.Rules.{names_range, order_range, request_range, outcome_rule, linked, current_test, pending_test, current_rule, cancel_rule, pending_rule, filled_rule, status_rule, done_rule, tries_rule, amendments_rule, order_rule, of_order, number_in, number_rule, in_flight_rule, origin_rule, request_rule, name_rule, client_of, same_key, key_rule, keys_apart}
 use Rattle.rules.specs.Laws.Beside.{beside_at}
 
 -- ---- orders
@@ -69,15 +69,16 @@ unfoldable pub sent_rule : (link : ℕ) → Order → Bool
 sent_rule link o =
     is_done o.state.status || (o.links.cancel == link && nat_lt 0 o.gateway.tries && not o.gateway.unsent && not o.gateway.stuck)
 
--- a request's rules where it is of order o, and the k-th of it
+-- a request's rules but for its OrigClOrdID, where it is of order o, and the k-th of it
 unfoldable pub request_here : List ℕ → ℕ → ℕ → ℕ → Bool
 request_here b j o k =
-    request_range (request_at b j) && number_rule (order_at b o).names.name k (request_at b j) && in_flight_rule (j + 1) (request_at b j) (order_at b o)
+    request_range (request_at b j) && outcome_rule (request_at b j) && number_rule (order_at b o).names.name k (request_at b j)
+    && in_flight_rule (j + 1) (request_at b j) (order_at b o)
 
 unfoldable pub request_rule_at : List ℕ → ℕ → ℕ → Bool
 request_rule_at b n j = nat_lt (request_at b j).order n && request_here b j (request_at b j).order (count_below (of_order_at b (request_at b j).order) j)
 
--- what the pass asks of a request: its rules, and that what stands beside it is right
+-- what the pass asks of a request: its rules, and that its OrigClOrdID's link is right
 abbrev pub pass_at : List ℕ → ℕ → ℕ → Bool
 pass_at b n j = request_rule_at b n j && beside_at b j
 
@@ -158,6 +159,21 @@ number_kind first n = go first (n == 0) refl
         let z : 0 < n = omega arith in
         lt-ltb 0 n z
 
+-- an outcome by its mark, as it is decided
+pub outcome_mark : (answered outcome : ℕ)
+    → beq (outcome == 0) (answered == 0) && nat_le outcome 3 ≡ (if not (answered == 0) then nat_lt 0 outcome && nat_le outcome 3 otherwise (outcome == 0))
+unfolding if◌then◌otherwise◌
+outcome_mark a n = go (a == 0) (n == 0) refl
+  where
+    go : (u v : Bool) → (n == 0) ≡ v → beq v u && nat_le n 3 ≡ (if not u then nat_lt 0 n && nat_le n 3 otherwise v)
+    go true true e = le-leb n 3 (omega (arith, eqb-true n 0 e))
+    go true false e = refl
+    go false true e = let z : n ≤ 0 = omega (arith, eqb-true n 0 e) in rw (le-ltb 0 n z)
+    go false false e =
+        let m : n ≡ 0 → ⊥ = eqb-false n 0 e in
+        let z : 0 < n = omega arith in
+        rw (lt-ltb 0 n z)
+
 -- ---- they are the rules of the book
 
 module _ (b : List ℕ) where
@@ -189,24 +205,25 @@ module _ (b : List ℕ) where
         count_here i (request_count b) (omega arith),
       ) (simp and_assoc)
 
-  pub request_here_lem : (j : ℕ) → j < request_count b → request_rule (book_of b) j ≡ request_rule_at b (order_count b) j
+  pub request_here_lem : (j : ℕ) → j < request_count b → request_rule (book_of b) j ≡ request_rule_at b (order_count b) j && origin_rule (book_of b).requests j
   unfolding request_rule request_rule_at request_here number_in
-  request_here_lem j h = rw (request_in_lem b j h, length_orders b) (go (nat_lt (request_at b j).order (order_count b)) refl)
+  request_here_lem j h = ap (λ (v : Bool). v && origin_rule (book_of b).requests j) (rw (request_in_lem b j h, length_orders b) (go (nat_lt (request_at b j).order (order_count b)) refl))
     where
-      shut : (r v w : Bool) → r && false && v && w ≡ false
-      shut true v w = refl
-      shut false v w = refl
+      shut : (r a v w : Bool) → r && a && false && v && w ≡ false
+      shut true true v w = refl
+      shut true false v w = refl
+      shut false a v w = refl
 
       go : (u : Bool) → nat_lt (request_at b j).order (order_count b) ≡ u
-          → request_range (request_at b j) && nat_lt (request_at b j).order (order_count b)
+          → request_range (request_at b j) && outcome_rule (request_at b j) && nat_lt (request_at b j).order (order_count b)
           && number_rule (order_in (book_of b) (request_at b j).order).names.name (count_below (of_order (book_of b).requests (request_at b j).order) j) (request_at b j)
           && in_flight_rule (j + 1) (request_at b j) (order_in (book_of b) (request_at b j).order)
           ≡ nat_lt (request_at b j).order (order_count b)
-          && (request_range (request_at b j) && number_rule (order_at b (request_at b j).order).names.name (count_below (of_order_at b (request_at b j).order) j) (request_at b j)
+          && (request_range (request_at b j) && outcome_rule (request_at b j) && number_rule (order_at b (request_at b j).order).names.name (count_below (of_order_at b (request_at b j).order) j) (request_at b j)
           && in_flight_rule (j + 1) (request_at b j) (order_at b (request_at b j).order))
       go true e =
           rw (order_in_lem b (request_at b j).order (ltb-true _ _ e), count_here (request_at b j).order j (omega arith), e) (simp and_assoc)
-      go false e = rw e (shut (request_range (request_at b j)) _ _)
+      go false e = rw e (shut (request_range (request_at b j)) (outcome_rule (request_at b j)) _ _)
 
   pub name_here : (i : ℕ) → i < order_count b → name_rule (book_of b) i ≡ all_below (λ j. not (same_name_at b i j)) i
   unfolding same_name_at

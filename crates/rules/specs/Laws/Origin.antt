@@ -12,13 +12,12 @@ use Rattle.prelude.specs.Texts.{is_text, same_text, same_text_lem}
 use Rattle.prelude.specs.declared.Text.{Text}
 use Rattle.store.specs.declared.Request.{Request}
 use Rattle.store.specs.Layout.{book_size, most_requests, request_base, request·clordid, request·origclordid}
-use Rattle.store.specs.Book.{order_at, request_at, outcome_at, origin_at}
+use Rattle.store.specs.Book.{order_at, request_at, origin_at}
 use Rattle.store.specs.Laws.Fields.{request_clordid, request_origclordid}
 use Rattle.machine.specs.Changes.{is_first, is_gateway}
 use Rattle.machine.specs.Orders.{is_empty}
 use Rattle.machine.specs.Ranges.{text_within}
-use Rattle.machine.specs.Rules.{request_range, number_rule, in_flight_rule}
-use Rattle.outcomes.specs.Outcomes.{outcome_rule}
+use Rattle.machine.specs.Rules.{request_range, outcome_rule, number_rule, in_flight_rule}
 use Rattle.rules.specs.Laws.Beside.{link_at, beside_at}
 use Rattle.rules.specs.Laws.Here.{of_order_at, request_here, request_rule_at, pass_at, optional_text}
 
@@ -36,23 +35,21 @@ origin_here b k =
     or_absent (is_first (request_at b k) || is_gateway (request_at b k)) (request_at b k).origclordid
     && (is_empty (request_at b k).origclordid || link_at b k (origin_at b k))
 
-regroup : (f r n i u l : Bool) → f && r && n && i && (u && l) ≡ f && n && i && (u && (r && l))
-regroup false r n i u l = refl
-regroup true false n i u l = sym (ap (λ (v : Bool). n && i && v) (and-false u) ∙ and-false (n && i))
-regroup true true false i u l = refl
-regroup true true true false u l = refl
-regroup true true true true u l = refl
+regroup : (f r u n i l : Bool) → f && r && u && n && i && l ≡ f && u && n && i && (r && l)
+regroup false r u n i l = refl
+regroup true true u n i l = refl
+regroup true false u n i l = sym (and-false (u && n && i))
 
 -- THE LAW of a request: its rules and what stands beside it, as they are decided
 pub request_parts : (b : List ℕ) (j o k : ℕ)
     → request_here b j o k && beside_at b j
-    ≡ fields_range (request_at b j) && number_rule (order_at b o).names.name k (request_at b j) && in_flight_rule (j + 1) (request_at b j) (order_at b o)
-    && (outcome_rule (request_at b j) (outcome_at b j) && origin_here b j)
+    ≡ fields_range (request_at b j) && outcome_rule (request_at b j) && number_rule (order_at b o).names.name k (request_at b j)
+    && in_flight_rule (j + 1) (request_at b j) (order_at b o) && origin_here b j
 unfolding request_here beside_at request_range fields_range origin_here
 request_parts b j o k =
     regroup (fields_range (request_at b j)) (or_absent (is_first (request_at b j) || is_gateway (request_at b j)) (request_at b j).origclordid)
-    (number_rule (order_at b o).names.name k (request_at b j)) (in_flight_rule (j + 1) (request_at b j) (order_at b o))
-    (outcome_rule (request_at b j) (outcome_at b j)) (is_empty (request_at b j).origclordid || link_at b j (origin_at b j))
+    (outcome_rule (request_at b j)) (number_rule (order_at b o).names.name k (request_at b j)) (in_flight_rule (j + 1) (request_at b j) (order_at b o))
+    (is_empty (request_at b j).origclordid || link_at b j (origin_at b j))
 
 -- ---- an OrigClOrdID by its length, where l is what its link says
 
@@ -90,8 +87,9 @@ pass_text b n i e =
     let k : ℕ = count_below (of_order_at b q.order) i in
     let p = (and_parts (request_rule_at b n i) (beside_at b i) e).0 in
     let h = (and_parts (nat_lt q.order n) (request_here b i q.order k) p).1 in
-    let x = (and_parts (request_range q && number_rule (order_at b q.order).names.name k q) (in_flight_rule (i + 1) q (order_at b q.order)) h).0 in
-    let r = (and_parts (request_range q) (number_rule (order_at b q.order).names.name k q) x).0 in
+    let x = (and_parts (request_range q && outcome_rule q && number_rule (order_at b q.order).names.name k q) (in_flight_rule (i + 1) q (order_at b q.order)) h).0 in
+    let a = (and_parts (request_range q && outcome_rule q) (number_rule (order_at b q.order).names.name k q) x).0 in
+    let r = (and_parts (request_range q) (outcome_rule q) a).0 in
     let y = (and_parts (nat_le q.kind 3 && nat_le q.answered 1 && or_absent (is_gateway q) q.clordid) (or_absent (is_first q || is_gateway q) q.origclordid) r).0 in
     let c = (and_parts (nat_le q.kind 3 && nat_le q.answered 1) (or_absent (is_gateway q) q.clordid) y).1 in
     (and_parts (is_text q.clordid) (beq (q.clordid.len == 0) (is_gateway q)) (optional_text q.clordid (is_gateway q) ∙ c)).0

@@ -13,7 +13,7 @@ use Rattle.store.specs.Book.{book_of}
 use Rattle.machine.specs.declared.Change.{Change}
 use Rattle.machine.specs.Changes.{Event, refusing}
 use Rattle.machine.specs.Machine.{step_of}
-use Rattle.opens.specs.Keeps.{keeps_of}
+use Rattle.rules.specs.Keeps.{keeps_of}
 use Rattle.step.specs.Entries.{call_of}
 use Rattle.step.specs.Laws.Taken.{numbered}
 

@@ -1,4 +1,4 @@
--- What a lookup finds, and that its index and the order of a request fit the code's numbers. Rests on store's lookups and opens' Keeps.
+-- What a lookup finds, and that its index and the order of a request fit the code's numbers. Rests on store's lookups and rules' Keeps.
 use Rattle.std.specs.Prelude.{◌≡◌, false, List, ℕ, ◌≤◌, ◌<◌, ◌&&◌, ◌||◌, eqb, leb, ltb, length, Option, None, Some, refl, true}
 use Rattle.std.proofs.Common.{sym, ap, ◌∙◌, arith}
 use Rattle.std.proofs.Math.Decide.{dec_lt}
@@ -15,8 +15,8 @@ use Rattle.store.specs.Orders.{no_order}
 use Rattle.machine.specs.Changes.{Event}
 use Rattle.machine.specs.Machine.{order_of, unused}
 use Rattle.step.specs.Steps.{has_room_for}
-use Rattle.opens.specs.Keeps.{keeps_of}
-use Rattle.opens.specs.Laws.Keeps.{keeps_held}
+use Rattle.rules.specs.Keeps.{keeps_of}
+use Rattle.rules.specs.Laws.Keeps.{keeps_held}
 use Rattle.machine.proofs.Kept.Lift.{book_kept}
 
 module _ {A : Type 0} (d : A) (f : ℕ → A) (x : Option ℕ) where

@@ -76,13 +76,13 @@ module _ (f : Findings) (k : ℕ) (q : Request) (venue : ℕ) (o : Order) where
   unfolding refuse_request telling alarming answering unchanged
   request_refused r = either _ _ _ refl (either _ _ _ refl (either _ _ _ refl (either _ _ _ refl (either _ _ _ (refused f _ refl r.note) refl))))
 
-  failed : (n : Note) → Taken (send_failed f k q venue n o)
+  failed : (outcome : ℕ) (n : Note) → Taken (send_failed f k q venue outcome n o)
   unfolding send_failed first_failed telling answering unchanged
-  failed n = either _ _ _ refl (either _ _ _ refl (either _ _ _ refl (either _ _ _ refl (either _ _ _ (request_refused _) (either _ _ _ refl refl)))))
+  failed outcome n = either _ _ _ refl (either _ _ _ refl (either _ _ _ refl (either _ _ _ refl (either _ _ _ (request_refused _) (either _ _ _ refl refl)))))
 
   resent : Taken (unsent f k q venue o)
   unfolding unsent telling unchanged
-  resent = either _ _ _ refl (either _ _ _ refl (either _ _ _ refl (failed _)))
+  resent = either _ _ _ refl (either _ _ _ refl (either _ _ _ refl (failed _ _)))
 
 -- ---- reports
 
@@ -109,7 +109,7 @@ module _ (f : Findings) (k : ℕ) (q : Request) (o : Order) (e : Event) where
   unfolding handled on_report venue_cancel_reject
   handled_taken =
       either _ _ _ (either _ _ _ unknown_there reported)
-      (either _ _ _ unknown_there (either _ _ _ (resumed f _ (request_refused f k q e.venue o _)) (either _ _ _ (failed f k q e.venue o _) (resent f k q e.venue o))))
+      (either _ _ _ unknown_there (either _ _ _ (resumed f _ (request_refused f k q e.venue o _)) (either _ _ _ (failed f k q e.venue o _ _) (resent f k q e.venue o))))
 
 -- ---- events by what they name
 

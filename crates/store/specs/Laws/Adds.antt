@@ -1,7 +1,7 @@
 -- Records added, a request marked, and an empty book: each is the update of the book that its name says. Rests on Laws.
 use Rattle.std.specs.Prelude.{◌≡◌, refl, ◌⊎◌, List, [], ◌∷◌, ◌++◌, ℕ, ◌+◌, ◌≤◌, ◌<◌, length}
-use Rattle.std.proofs.Common.{sym, subst, ◌∙◌, ⊎_elim, ap, inl, inr, arith, eq-eqb, lt-ltb}
-use Rattle.std.proofs.Math.Decide.{dec_lt, ℕ_discrete}
+use Rattle.std.proofs.Common.{sym, ◌∙◌, ⊎_elim, ap, inl, inr, arith, eq-eqb, lt-ltb}
+use Rattle.std.proofs.Math.Decide.{dec_lt}
 use Rattle.std.proofs.Math.Seq.{set_out}
 use Rattle.std.proofs.lemmas.List.{length-replicate}
 use Rattle.prelude.specs.Cases.{if◌then◌otherwise◌}
@@ -15,9 +15,9 @@ use Rattle.store.specs.Layout.{book_size, header·orders, header·requests, head
 use Rattle.store.specs.Laws.Cells.{same_8, same_16, same_text_lem, read_32}
 use Rattle.store.specs.Orders.{WholeOrder, decode_order}
 use Rattle.store.specs.Requests.{WholeRequest, decode_request}
-use Rattle.store.specs.Book.{request_in, order_at, put_order, request_at, put_request, count_at, order_count, request_count, setting_of, book_of, set_count, add_order, add_request, outcome_at, settled_as, settle, mark_answered, blank, plus_order, plus_request, answered, with_answered, empty_book}
+use Rattle.store.specs.Book.{request_in, order_at, put_order, request_at, put_request, count_at, order_count, request_count, setting_of, book_of, set_count, add_order, add_request, settled_as, settle, mark_answered, blank, plus_order, plus_request, answered, with_answered, empty_book}
 use Rattle.store.specs.Laws.Tables.{same_count, same_setting, length_put_order, order_put, order_put_other, length_put_request, request_put, request_put_other, length_set_count, span_set_count, count_set_count, order_set_count, request_set_count}
-use Rattle.store.specs.Laws.Fields.{request_order, request_kind, request_answered, request_clordid, request_origclordid, request_downstream}
+use Rattle.store.specs.Laws.Fields.{request_order, request_kind, request_answered, request_clordid, request_origclordid, request_downstream, request_outcome}
 use Rattle.store.specs.Laws.Stored.{count_most, count_out, in_table, length_requests, request_in_lem, put_order_setting, put_order_requests, put_request_setting, put_request_orders}
 
 -- ---- an order added
@@ -87,159 +87,105 @@ module _ (b : List ℕ) (origin : ℕ) (r : Request) where
   add_request_full h =
       in_table (λ t. (if t then set_count (put_request b (request_count b) origin r) header·requests (request_count b + 1) otherwise b) ≡ b) b most_requests (request_count b) (λ l k. absurd (omega arith)) (λ d. refl)
 
--- ---- a request marked as answered
-
-abbrev marked : List ℕ → ℕ → List ℕ
-marked b i = splice b (request_base i + request·answered) (1 ∷ [])
+-- ---- a request marked as answered, and its outcome set
 
 module _ (b : List ℕ) (l : length b ≡ book_size) (i : ℕ) (h : i < most_requests) where
-  length_mark : length (marked b i) ≡ book_size
-  length_mark = length_splice b (request_base i + request·answered) (1 ∷ []) (omega arith) ∙ l
-
-  span_mark : (j k : ℕ) → (j + k ≤ request_base i + request·answered) ⊎ (request_base i + request·answered + 1 ≤ j) → span (marked b i) j k ≡ span b j k
-  span_mark j k d =
-      ⊎_elim
-      (λ p. span_splice_before b (request_base i + request·answered) (1 ∷ []) j k p (omega arith))
-      (λ p. span_splice_after b (request_base i + request·answered) (1 ∷ []) j k (omega arith) (omega arith))
-      d
-
-  order_mark : (j : ℕ) → j < most_orders → order_at (marked b i) j ≡ order_at b j
-  unfolding order_at
-  order_mark j k = ap decode_order (span_mark (order_base j) order_size (inl (omega arith)))
-
-  request_mark_other : (j : ℕ) → (i ≡ j → ⊥) → request_at (marked b i) j ≡ request_at b j
-  unfolding request_at
-  request_mark_other j n = ap decode_request (span_mark (request_base j) request_size (go (dec_lt i j)))
-    where
-      go : Dec (i < j) → (request_base j + request_size ≤ request_base i + request·answered) ⊎ (request_base i + request·answered + 1 ≤ request_base j)
-      go (yes p) = inr (omega arith)
-      go (no p) = inl (omega arith)
-
-  request_mark : request_at (marked b i) i ≡ answered (request_at b i)
-  request_mark =
-      let d : List ℕ = marked b i in
-      let m : length d ≡ book_size = length_mark in
-      λ t. record {
-        order =
-            (request_order d i
-            ∙ same_16 d b (request_base i + request·order) (omega arith) (omega arith) (span_mark (request_base i + request·order) 2 (inl (omega arith)))
-            ∙ sym (request_order b i)) t;
-        kind = (request_kind d i ∙ same_8 d b (request_base i + request·kind) (span_mark (request_base i + request·kind) 1 (inl (omega arith))) ∙ sym (request_kind b i)) t;
-        answered = (request_answered d i ∙ span_byte d (request_base i + request·answered) 1 (span_splice_same b (request_base i + request·answered) (1 ∷ []) 1 refl (omega arith))) t;
-        clordid = (request_clordid d i ∙ same_text_lem d b (request_base i + request·clordid) (span_mark (request_base i + request·clordid) 33 (inr (omega arith))) ∙ sym (request_clordid b i)) t;
-        origclordid = (request_origclordid d i ∙ same_text_lem d b (request_base i + request·origclordid) (span_mark (request_base i + request·origclordid) 33 (inr (omega arith))) ∙ sym (request_origclordid b i)) t;
-        downstream = (request_downstream d i ∙ same_text_lem d b (request_base i + request·downstream) (span_mark (request_base i + request·downstream) 33 (inr (omega arith))) ∙ sym (request_downstream b i)) t;
-      }
-
-  marked_book : book_of (marked b i) ≡ with_answered (book_of b) i
-  unfolding book_of
-  marked_book = λ t. record {
-    setting = same_setting b (marked b i) l length_mark (span_mark header·setting 4 (inl (omega arith))) t;
-    orders =
-        (ap (list_below (order_at (marked b i))) (same_count b (marked b i) l length_mark header·orders most_orders (omega arith) (span_mark header·orders 2 (inl (omega arith))))
-        ∙ list_ext (order_at (marked b i)) (order_at b) (order_count b) (λ k m. order_mark k (omega (arith, count_most header·orders most_orders b)))) t;
-    requests =
-        (ap (list_below (request_at (marked b i))) (same_count b (marked b i) l length_mark header·requests most_requests (omega arith) (span_mark header·requests 2 (inl (omega arith))))
-        ∙ list_set_any (request_at b) (request_at (marked b i)) (request_count b) i (answered (request_in (book_of b) i))
-        (λ k. request_mark ∙ ap answered (sym (request_in_lem b i k)))
-        (λ k n m. request_mark_other k n)) t;
-  }
-
-  -- ---- and its outcome set
+  abbrev A : ℕ
+  A = request_base i + request·answered
 
   abbrev O : ℕ
   O = request_base i + request·outcome
 
-  module _ (v : ℕ) where
-    abbrev noted : List ℕ
-    noted = splice (marked b i) O (v ∷ [])
+  abbrev marked : List ℕ
+  marked = splice b A (1 ∷ [])
 
-    length_noted : length noted ≡ book_size
-    length_noted = length_splice (marked b i) O (v ∷ []) (omega (arith, length_mark)) ∙ length_mark
+  length_mark : length marked ≡ book_size
+  length_mark = length_splice b A (1 ∷ []) (omega arith) ∙ l
 
-    span_note : (j k : ℕ) → (j + k ≤ O) ⊎ (O + 1 ≤ j) → span noted j k ≡ span (marked b i) j k
+  span_mark : (j k : ℕ) → (j + k ≤ A) ⊎ (A + 1 ≤ j) → span marked j k ≡ span b j k
+  span_mark j k d = ⊎_elim (λ p. span_splice_before b A (1 ∷ []) j k p (omega arith)) (λ p. span_splice_after b A (1 ∷ []) j k (omega arith) (omega arith)) d
+
+  module _ (outcome : ℕ) where
+    abbrev v : ℕ
+    v = settled_as outcome (request_at b i)
+
+    abbrev settled : List ℕ
+    settled = settle b i outcome
+
+    pub length_settle : length settled ≡ book_size
+    length_settle = length_splice marked O (v ∷ []) (omega (arith, length_mark)) ∙ length_mark
+
+    span_note : (j k : ℕ) → (j + k ≤ O) ⊎ (O + 1 ≤ j) → span settled j k ≡ span marked j k
     span_note j k d =
         ⊎_elim
-        (λ p. span_splice_before (marked b i) O (v ∷ []) j k p (omega (arith, length_mark)))
-        (λ p. span_splice_after (marked b i) O (v ∷ []) j k (omega arith) (omega (arith, length_mark)))
+        (λ p. span_splice_before marked O (v ∷ []) j k p (omega (arith, length_mark)))
+        (λ p. span_splice_after marked O (v ∷ []) j k (omega arith) (omega (arith, length_mark)))
         d
 
-    order_note : (j : ℕ) → j < most_orders → order_at noted j ≡ order_at (marked b i) j
-    unfolding order_at
-    order_note j k = ap decode_order (span_note (order_base j) order_size (inl (omega arith)))
+    -- the bytes that are neither
+    span_same : (j k : ℕ) → (j + k ≤ A) ⊎ (A + 1 ≤ j) → (j + k ≤ O) ⊎ (O + 1 ≤ j) → span settled j k ≡ span b j k
+    span_same j k d e = span_note j k e ∙ span_mark j k d
 
-    request_note_other : (j : ℕ) → (i ≡ j → ⊥) → request_at noted j ≡ request_at (marked b i) j
+    pub span_settle : (j k : ℕ) → (j + k ≤ request_base i) ⊎ (request_base i + request_size ≤ j) → span settled j k ≡ span b j k
+    span_settle j k d = span_same j k (⊎_elim (λ p. inl (omega arith)) (λ p. inr (omega arith)) d) (⊎_elim (λ p. inl (omega arith)) (λ p. inr (omega arith)) d)
+
+    -- the bytes behind both stay
+    pub span_behind : (j k : ℕ) → O + 1 ≤ j → span settled j k ≡ span b j k
+    span_behind j k p = span_same j k (inr (omega arith)) (inr p)
+
+    order_settle : (j : ℕ) → j < most_orders → order_at settled j ≡ order_at b j
+    unfolding order_at
+    order_settle j k = ap decode_order (span_settle (order_base j) order_size (inl (omega arith)))
+
+    request_settle_other : (j : ℕ) → (i ≡ j → ⊥) → request_at settled j ≡ request_at b j
     unfolding request_at
-    request_note_other j n = ap decode_request (span_note (request_base j) request_size (go (dec_lt i j)))
+    request_settle_other j n = ap decode_request (span_settle (request_base j) request_size (go (dec_lt i j)))
       where
-        go : Dec (i < j) → (request_base j + request_size ≤ O) ⊎ (O + 1 ≤ request_base j)
+        go : Dec (i < j) → (request_base j + request_size ≤ request_base i) ⊎ (request_base i + request_size ≤ request_base j)
         go (yes p) = inr (omega arith)
         go (no p) = inl (omega arith)
 
-    request_note : request_at noted i ≡ request_at (marked b i) i
-    request_note =
-        let d : List ℕ = marked b i in
-        let m : length d ≡ book_size = length_mark in
-        let u : length noted ≡ book_size = length_noted in
+    request_settle : request_at settled i ≡ answered outcome (request_at b i)
+    request_settle =
+        let d : List ℕ = settled in
+        let m : length d ≡ book_size = length_settle in
         λ t. record {
-          order = (request_order noted i ∙ same_16 noted d (request_base i + request·order) (omega arith) (omega arith) (span_note (request_base i + request·order) 2 (inl (omega arith))) ∙ sym (request_order d i)) t;
-          kind = (request_kind noted i ∙ same_8 noted d (request_base i + request·kind) (span_note (request_base i + request·kind) 1 (inl (omega arith))) ∙ sym (request_kind d i)) t;
-          answered = (request_answered noted i ∙ same_8 noted d (request_base i + request·answered) (span_note (request_base i + request·answered) 1 (inl (omega arith))) ∙ sym (request_answered d i)) t;
-          clordid = (request_clordid noted i ∙ same_text_lem noted d (request_base i + request·clordid) (span_note (request_base i + request·clordid) 33 (inl (omega arith))) ∙ sym (request_clordid d i)) t;
-          origclordid = (request_origclordid noted i ∙ same_text_lem noted d (request_base i + request·origclordid) (span_note (request_base i + request·origclordid) 33 (inl (omega arith))) ∙ sym (request_origclordid d i)) t;
-          downstream = (request_downstream noted i ∙ same_text_lem noted d (request_base i + request·downstream) (span_note (request_base i + request·downstream) 33 (inl (omega arith))) ∙ sym (request_downstream d i)) t;
+          order =
+              (request_order d i
+              ∙ same_16 d b (request_base i + request·order) (omega arith) (omega arith) (span_same (request_base i + request·order) 2 (inl (omega arith)) (inl (omega arith)))
+              ∙ sym (request_order b i)) t;
+          kind = (request_kind d i ∙ same_8 d b (request_base i + request·kind) (span_same (request_base i + request·kind) 1 (inl (omega arith)) (inl (omega arith))) ∙ sym (request_kind b i)) t;
+          answered = (request_answered d i ∙ span_byte d A 1 (span_note A 1 (inl (omega arith)) ∙ span_splice_same b A (1 ∷ []) 1 refl (omega arith))) t;
+          clordid = (request_clordid d i ∙ same_text_lem d b (request_base i + request·clordid) (span_same (request_base i + request·clordid) 33 (inr (omega arith)) (inl (omega arith))) ∙ sym (request_clordid b i)) t;
+          origclordid = (request_origclordid d i ∙ same_text_lem d b (request_base i + request·origclordid) (span_same (request_base i + request·origclordid) 33 (inr (omega arith)) (inl (omega arith))) ∙ sym (request_origclordid b i)) t;
+          downstream = (request_downstream d i ∙ same_text_lem d b (request_base i + request·downstream) (span_same (request_base i + request·downstream) 33 (inr (omega arith)) (inl (omega arith))) ∙ sym (request_downstream b i)) t;
+          outcome = (request_outcome d i ∙ span_byte d O v (span_splice_same marked O (v ∷ []) 1 refl (omega (arith, length_mark)))) t;
         }
 
-    noted_request : (j : ℕ) → request_at noted j ≡ request_at (marked b i) j
-    noted_request j = go (ℕ_discrete i j)
-      where
-        go : Dec (i ≡ j) → request_at noted j ≡ request_at (marked b i) j
-        go (yes z) = subst (λ (k : ℕ). request_at noted k ≡ request_at (marked b i) k) z request_note
-        go (no n) = request_note_other j n
-
-    noted_book : book_of noted ≡ book_of (marked b i)
+    settled_book : book_of settled ≡ with_answered (book_of b) i outcome
     unfolding book_of
-    noted_book =
-        let d : List ℕ = marked b i in
+    settled_book =
+        let d : List ℕ = settled in
         λ t. record {
-          setting = same_setting d noted length_mark length_noted (span_note header·setting 4 (inl (omega arith))) t;
+          setting = same_setting b d l length_settle (span_settle header·setting 4 (inl (omega arith))) t;
           orders =
-              (ap (list_below (order_at noted)) (same_count d noted length_mark length_noted header·orders most_orders (omega arith) (span_note header·orders 2 (inl (omega arith))))
-              ∙ list_ext (order_at noted) (order_at d) (order_count d) (λ k m. order_note k (omega (arith, count_most header·orders most_orders d)))) t;
+              (ap (list_below (order_at d)) (same_count b d l length_settle header·orders most_orders (omega arith) (span_settle header·orders 2 (inl (omega arith))))
+              ∙ list_ext (order_at d) (order_at b) (order_count b) (λ k m. order_settle k (omega (arith, count_most header·orders most_orders b)))) t;
           requests =
-              (ap (list_below (request_at noted)) (same_count d noted length_mark length_noted header·requests most_requests (omega arith) (span_note header·requests 2 (inl (omega arith))))
-              ∙ list_ext (request_at noted) (request_at d) (request_count d) (λ k m. noted_request k)) t;
+              (ap (list_below (request_at d)) (same_count b d l length_settle header·requests most_requests (omega arith) (span_settle header·requests 2 (inl (omega arith))))
+              ∙ list_set_any (request_at b) (request_at d) (request_count b) i (answered outcome (request_in (book_of b) i))
+              (λ k. request_settle ∙ ap (answered outcome) (sym (request_in_lem b i k)))
+              (λ k n m. request_settle_other k n)) t;
         }
 
-  module _ (outcome : ℕ) where
-    pub length_settle : length (settle b i outcome) ≡ book_size
-    length_settle = length_noted (settled_as b i outcome)
-
-    pub span_settle : (j k : ℕ) → (j + k ≤ request_base i) ⊎ (request_base i + request_size ≤ j) → span (settle b i outcome) j k ≡ span b j k
-    span_settle j k d =
-        span_note (settled_as b i outcome) j k (⊎_elim (λ p. inl (omega arith)) (λ p. inr (omega arith)) d)
-        ∙ span_mark j k (⊎_elim (λ p. inl (omega arith)) (λ p. inr (omega arith)) d)
-
-    pub settle_outcome : outcome_at (settle b i outcome) i ≡ settled_as b i outcome
-    settle_outcome =
-        span_byte (settle b i outcome) O (settled_as b i outcome)
-        (span_splice_same (marked b i) O (settled_as b i outcome ∷ []) 1 refl (omega (arith, length_mark)))
-
-    -- the bytes behind it stay
-    pub span_behind : (j k : ℕ) → O + 1 ≤ j → span (settle b i outcome) j k ≡ span b j k
-    span_behind j k p = span_note (settled_as b i outcome) j k (inr p) ∙ span_mark j k (inr (omega arith))
-
-    settled_book : book_of (settle b i outcome) ≡ with_answered (book_of b) i
-    settled_book = noted_book (settled_as b i outcome) ∙ marked_book
-
--- THE LAW of a marked request: on any buffer, at any index; the book does not see the outcome
-pub mark_book : (b : List ℕ) (i outcome : ℕ) → book_of (mark_answered b i outcome) ≡ with_answered (book_of b) i
+-- THE LAW of a marked request: on any buffer, at any index
+pub mark_book : (b : List ℕ) (i outcome : ℕ) → book_of (mark_answered b i outcome) ≡ with_answered (book_of b) i outcome
 unfolding mark_answered if◌then◌otherwise◌
 mark_book b i outcome =
-    in_table (λ t. book_of (if t then settle b i outcome otherwise b) ≡ with_answered (book_of b) i) b most_requests i (λ l h. settled_book b l i h outcome) (λ d. sym (out d))
+    in_table (λ t. book_of (if t then settle b i outcome otherwise b) ≡ with_answered (book_of b) i outcome) b most_requests i (λ l h. settled_book b l i h outcome) (λ d. sym (out d))
   where
-    out : ((length b ≡ book_size → ⊥) ⊎ (most_requests ≤ i)) → with_answered (book_of b) i ≡ book_of b
-    out d = λ t. record { setting = (book_of b).setting; orders = (book_of b).orders; requests = set_out (book_of b).requests i (answered (request_in (book_of b) i)) (omega (arith, length_requests b, count_out header·requests most_requests b i d)) t }
+    out : ((length b ≡ book_size → ⊥) ⊎ (most_requests ≤ i)) → with_answered (book_of b) i outcome ≡ book_of b
+    out d = λ t. record { setting = (book_of b).setting; orders = (book_of b).orders; requests = set_out (book_of b).requests i (answered outcome (request_in (book_of b) i)) (omega (arith, length_requests b, count_out header·requests most_requests b i d)) t }
 
 -- ---- an empty book
 

@@ -7,7 +7,7 @@ use Rattle.prelude.specs.Texts.{text_at}
 use Rattle.prelude.specs.Span.{span}
 use Rattle.words.specs.Laws.Windows.{within_8, within_16, within_32, within_64}
 use Rattle.store.specs.Laws.Cells.{within_text}
-use Rattle.store.specs.Layout.{order_size, request_size, order_base, request_base, order·client, order·venue, names·name, names·clordid, names·downstream, names·symbol, names·venueorderid, terms·side, terms·ordtype, terms·timeinforce, terms·qty, terms·price, state·status, state·cumqty, state·avgpx, state·execseq, links·amendments, links·current, links·cancel, pending·request, pending·qty, pending·price, pending·ordtype, pending·timeinforce, gateway·stage, gateway·tries, gateway·origdownstream, gateway·refusedsends, request·order, request·kind, request·answered, request·clordid, request·clordidLen, request·origclordid, request·downstream}
+use Rattle.store.specs.Layout.{order_size, request_size, order_base, request_base, order·client, order·venue, names·name, names·clordid, names·downstream, names·symbol, names·venueorderid, terms·side, terms·ordtype, terms·timeinforce, terms·qty, terms·price, state·status, state·cumqty, state·avgpx, state·execseq, links·amendments, links·current, links·cancel, pending·request, pending·qty, pending·price, pending·ordtype, pending·timeinforce, gateway·stage, gateway·tries, gateway·origdownstream, gateway·refusedsends, request·order, request·kind, request·answered, request·clordid, request·clordidLen, request·origclordid, request·downstream, request·outcome}
 use Rattle.store.specs.Orders.{unsent_of, stuck_of, decode_order}
 use Rattle.store.specs.Requests.{decode_request}
 use Rattle.store.specs.Book.{order_at, request_at}
@@ -156,6 +156,10 @@ module _ (b : List ℕ) (i : ℕ) where
   pub request_downstream : (request_at b i).downstream ≡ text_at b (request_base i + request·downstream)
   unfolding request_at decode_request
   request_downstream = within_text b (request_base i) request_size request·downstream (omega arith)
+
+  pub request_outcome : (request_at b i).outcome ≡ get_or b (request_base i + request·outcome) 0
+  unfolding request_at decode_request
+  request_outcome = within_8 b (request_base i) request_size request·outcome (omega arith)
 
   pub request_clordid_len : (request_at b i).clordid.len ≡ get_or b (request_base i + request·clordidLen) 0
   unfolding request_at decode_request

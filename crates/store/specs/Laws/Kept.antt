@@ -1,6 +1,6 @@
 -- What every function keeps, on any buffer: its length, and that its elements are bytes. Rests on Laws.
-use Rattle.std.specs.Prelude.{◌≡◌, refl, List, [], ◌∷◌, ◌++◌, ℕ, ◌+◌, ◌≤◌, ◌<◌, eqb, length}
-use Rattle.std.proofs.Common.{sym, ◌∙◌, arith}
+use Rattle.std.specs.Prelude.{◌≡◌, refl, List, [], ◌∷◌, ℕ, ◌+◌, ◌≤◌, ◌<◌, eqb, length}
+use Rattle.std.proofs.Common.{sym, subst, ◌∙◌, arith}
 use Rattle.prelude.specs.Cases.{if◌then◌otherwise◌, split_if}
 use Rattle.prelude.specs.Number.{Bytes, bytes_of}
 use Rattle.prelude.specs.Span.{splice, length_splice}
@@ -17,6 +17,7 @@ use Rattle.store.specs.Requests.{WholeRequest, encode_request, pieces_request}
 use Rattle.store.specs.Book.{request_at, put_order, put_request, order_count, request_count, store_order, set_count, add_order, add_request, settled_as, settle, mark_answered, store_open, blank}
 use Rattle.store.specs.Laws.Tables.{length_put_order, length_put_request}
 use Rattle.store.specs.Laws.Stored.{in_table}
+use Rattle.store.specs.Laws.Fields.{request_outcome}
 
 bytes_text : (t : Text) → WholeText t → Bytes (text_bytes t)
 unfolding text_bytes
@@ -40,7 +41,7 @@ pub bytes_request : (origin : ℕ) (r : Request) → WholeRequest r → Bytes (e
 unfolding encode_request
 bytes_request origin r h =
     bytes_joined (pieces_request origin r)
-    (bytes_of_lem 2 r.order, (bytes_one r.kind h.kind, (bytes_one r.answered h.answered, (bytes_text r.clordid h.clordid, (bytes_text r.origclordid h.origclordid, (bytes_text r.downstream h.downstream, (bytes_append (0 ∷ []) (bytes_of 2 origin ++ zeros 22) (bytes_one 0 (omega arith)) (bytes_append (bytes_of 2 origin) (zeros 22) (bytes_of_lem 2 origin) (bytes_zeros 22)), tt)))))))
+    (bytes_of_lem 2 r.order, (bytes_one r.kind h.kind, (bytes_one r.answered h.answered, (bytes_text r.clordid h.clordid, (bytes_text r.origclordid h.origclordid, (bytes_text r.downstream h.downstream, (bytes_one r.outcome h.outcome, (bytes_append (bytes_of 2 origin) (zeros 22) (bytes_of_lem 2 origin) (bytes_zeros 22), tt))))))))
 
 -- ---- the functions
 
@@ -94,22 +95,23 @@ add_request_keeps b origin r w =
     (λ d. keeps_self b)
 
 -- the outcome that is there, or one that is a byte
-settled_small : (b : List ℕ) (i outcome : ℕ) → outcome < 256 → Bytes b → settled_as b i outcome < 256
-unfolding settled_as
-settled_small b i outcome h bytes = split_if (λ n. n < 256) (eqb (request_at b i).answered 0) (λ e. h) (λ e. bytes (request_base i + request·outcome))
+settled_small : (b : List ℕ) (i outcome : ℕ) → outcome < 256 → Bytes b → settled_as outcome (request_at b i) < 256
+settled_small b i outcome h bytes =
+    split_if (λ n. n < 256) (eqb (request_at b i).answered 0) (λ e. h) (λ e. subst (λ n. n < 256) (sym (request_outcome b i)) (bytes (request_base i + request·outcome)))
 
 pub mark_keeps : (b : List ℕ) (i outcome : ℕ) → outcome < 256 → Keeps b (mark_answered b i outcome)
 unfolding mark_answered if◌then◌otherwise◌
 mark_keeps b i outcome small =
     let d : List ℕ = splice b (request_base i + request·answered) (1 ∷ []) in
+    let v : ℕ = settled_as outcome (request_at b i) in
     in_table (λ t. Keeps b (if t then settle b i outcome otherwise b)) b most_requests i
     (λ l h.
     let m : length d ≡ length b = length_splice b (request_base i + request·answered) (1 ∷ []) (omega arith) in
     record {
-      same = length_splice d (request_base i + request·outcome) (settled_as b i outcome ∷ []) (omega arith) ∙ m;
+      same = length_splice d (request_base i + request·outcome) (v ∷ []) (omega arith) ∙ m;
       bytes = λ g.
-          bytes_splice d (request_base i + request·outcome) (settled_as b i outcome ∷ [])
-          (bytes_splice b (request_base i + request·answered) (1 ∷ []) g (bytes_one 1 (omega arith))) (bytes_one (settled_as b i outcome) (settled_small b i outcome small g));
+          bytes_splice d (request_base i + request·outcome) (v ∷ []) (bytes_splice b (request_base i + request·answered) (1 ∷ []) g (bytes_one 1 (omega arith)))
+          (bytes_one v (settled_small b i outcome small g));
     })
     (λ d. keeps_self b)
 

@@ -1,5 +1,5 @@
 -- What is written of a request is read back, and what is read is in range. Rests on Requests.
-use Rattle.std.specs.Prelude.{◌≡◌, refl, List, [], ◌∷◌, ℕ, ◌+◌, ◌≤◌, length, get_or}
+use Rattle.std.specs.Prelude.{◌≡◌, refl, List, [], ℕ, length, get_or}
 use Rattle.std.proofs.Common.{sym, ap, ◌∙◌, arith}
 use Rattle.std.specs.List.{concat}
 use Rattle.prelude.specs.Span.{span, span_byte, span_span, splice_whole}
@@ -8,7 +8,7 @@ use Rattle.prelude.specs.Pieces.{offset, Sized, writes, writes_joined, length_jo
 use Rattle.store.specs.declared.Request.{Request}
 use Rattle.store.specs.Layout.{request_size, request·order, request·kind, request·answered, request·clordid, request·origclordid, request·downstream, request·outcome, request·origin}
 use Rattle.store.specs.Laws.Cells.{length_text, read_16, read_text, fits_16, fits_text}
-use Rattle.store.specs.Requests.{IsRequest, WholeRequest, decode_request, beside_bytes, encode_request, pieces_request, widths_request}
+use Rattle.store.specs.Requests.{IsRequest, WholeRequest, decode_request, encode_request, pieces_request, widths_request}
 
 pub is_request : (s : List ℕ) (r : Request) → IsRequest s r → r ≡ decode_request s
 unfolding decode_request
@@ -19,13 +19,14 @@ is_request s r h = λ i. record {
   clordid = h.clordid i;
   origclordid = h.origclordid i;
   downstream = h.downstream i;
+  outcome = h.outcome i;
 }
 
 module _ (origin : ℕ) (r : Request) (h : WholeRequest r) where
   sized : Sized widths_request (pieces_request origin r)
   sized = (
     refl,
-    (refl, (refl, (length_text r.clordid h.clordid.long, (length_text r.origclordid h.origclordid.long, (length_text r.downstream h.downstream.long, (refl, tt)))))),
+    (refl, (refl, (length_text r.clordid h.clordid.long, (length_text r.origclordid h.origclordid.long, (length_text r.downstream h.downstream.long, (refl, (refl, tt))))))),
   )
 
   pub length_request : length (encode_request origin r) ≡ request_size
@@ -53,22 +54,15 @@ module _ (origin : ℕ) (r : Request) (h : WholeRequest r) where
         clordid = read_text j request·clordid r.clordid h.clordid.long (at 3) i;
         origclordid = read_text j request·origclordid r.origclordid h.origclordid.long (at 4) i;
         downstream = read_text j request·downstream r.downstream h.downstream.long (at 5) i;
+        outcome = span_byte j request·outcome r.outcome (at 6) i;
       }
 
-  -- beside the fields: nothing has come of it yet, and the origin
-  beside_piece : (at n : ℕ) → at + n ≤ 25 → span (encode_request origin r) (request·outcome + at) n ≡ span (beside_bytes origin) at n
-  unfolding encode_request
-  beside_piece at n p =
-      let j : List ℕ = concat (pieces_request origin r) in
-      sym (span_span j request·outcome 25 at n p) ∙ ap (λ (s : List ℕ). span s at n) (piece_at widths_request (pieces_request origin r) 6 sized)
-
-  pub outcome_piece : span (encode_request origin r) request·outcome 1 ≡ 0 ∷ []
-  unfolding span
-  outcome_piece = beside_piece 0 1 (omega arith)
-
+  -- beside the fields: the origin
   pub origin_piece : span (encode_request origin r) request·origin 2 ≡ bytes_of 2 origin
-  unfolding span
-  origin_piece = beside_piece 1 2 (omega arith)
+  unfolding encode_request span
+  origin_piece =
+      let j : List ℕ = concat (pieces_request origin r) in
+      sym (span_span j request·origin 24 0 2 (omega arith)) ∙ ap (λ (s : List ℕ). span s 0 2) (piece_at widths_request (pieces_request origin r) 7 sized)
 
 -- a request that was read from bytes is whole
 pub whole_request : (s : List ℕ) → Bytes s → length s ≡ request_size → WholeRequest (decode_request s)
@@ -80,4 +74,5 @@ whole_request s h l = record {
   clordid = fits_text s h request·clordid (omega arith);
   origclordid = fits_text s h request·origclordid (omega arith);
   downstream = fits_text s h request·downstream (omega arith);
+  outcome = h request·outcome;
 }

@@ -11,7 +11,7 @@ use Rattle.prelude.specs.Texts.{text_at, same_text, filled_at, is_text, contents
 use Rattle.prelude.specs.declared.Text.{Text}
 use Rattle.text.specs.Words.{text_is, text_fine}
 
--- where the slice goes on far enough, the text in place is the text
+-- if the slice goes on far enough, the text in place is the text
 pub text_is_here : (s : List ℕ) (at : ℕ) (t : Text) → at + 33 ≤ length s → text_is s at t ≡ same_text (text_at s at) t
 unfolding text_is
 text_is_here s at t h = rw (le-leb (at + 33) (length s) h)
@@ -56,7 +56,7 @@ module _ (t : Text) where
       let r : drop (k + 1) t.bytes ≡ xs = rw add-one (cc) in
       fill_rest xs (k + 1) (bit_or a x) w (omega arith) (omega arith) r (fill_more k a x l h e)
 
--- 32 bytes and a length are a text as it is stored, where no bit stands behind it
+-- 32 bytes and a length are a text as it is stored, if no bit stands behind it
 pub stored_text : (l : List ℕ) (n : ℕ) → length l ≡ 32 → n ≤ 32 → eqb (fold bit_or 0 (drop n l)) 0 ≡ is_text (record { bytes = l; len = n })
 unfolding is_text
 stored_text l n w h =

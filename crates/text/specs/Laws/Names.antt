@@ -16,7 +16,7 @@ pub no_dash : (xs : List ℕ) → ((k : ℕ) → k < length xs → get_or xs k 0
 no_dash [] h = tt
 no_dash (x ∷ xs) h = (h 0 (omega arith), no_dash xs (λ k l. h (suc k) (omega arith)))
 
--- ---- where a numbered name fits
+-- ---- when a numbered name fits
 
 unfoldable pub Fits : Text → ℕ → Type 0
 Fits t k = length (numbered_bytes t k) ≤ 32
@@ -69,7 +69,7 @@ split_dash (x ∷ xs) (u ∷ us) ys vs p q e =
     let r : (xs ≡ us) × (ys ≡ vs) = split_dash xs us ys vs p.1 q.1 f in
     (λ i. h i ∷ r.0 i, r.1)
 
--- a list with a dash is none without
+-- a list with a dash is not one without
 dash_in : (xs ys : List ℕ) → NoDash (xs ++ (45 ∷ ys)) → ⊥
 dash_in [] ys h = h.0 refl
 dash_in (x ∷ xs) ys h = dash_in xs ys h.1
@@ -82,7 +82,7 @@ numbered_same t u j k f g p q e =
     split_dash (contents t) (contents u) (decimal j) (decimal k) p q (sym (numbered_contents t j f) ∙ ap contents e ∙ numbered_contents u k g) in
     (s.0, decimal_same j k s.1)
 
--- and so the same text, where the names are texts
+-- and so the same text, if the names are texts
 pub numbered_name : (t u : Text) (j k : ℕ) → Fits t j → Fits u k → NoDash (contents t) → NoDash (contents u)
     → length t.bytes ≡ 32 → length u.bytes ≡ 32 → is_text t ≡ true → is_text u ≡ true → numbered_text t j ≡ numbered_text u k → t ≡ u
 numbered_name t u j k f g p q lt lu it iu e =

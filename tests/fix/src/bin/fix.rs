@@ -1,4 +1,4 @@
-//! Holds the static library, or the stand-in where none is linked, against the plain writer and
+//! Compares the static library, or the stand-in if none is linked, with the plain writer and
 //! reader. `fix built RECORDS`, `fix cuts`, `fix answers FILE...`, `fix changed MESSAGES`; `fix third
 //! RECORDS FOLDER FILE...` writes messages for QuickFIX and tshark; `fix columns` prints tshark's names
 //! of the fields, `fix asked` who was asked; `fix faults` plants each fault in the stand-in and demands that it is found.

@@ -205,7 +205,7 @@ fn request(index: usize, owner: u64, number: usize, name: &[u8], random: &mut Ra
     }
 }
 
-/// What the request came to, where it is answered, and which request of its order that stands before it its OrigClOrdID names.
+/// What the request came to, if it is answered, and which request of its order that stands before it its OrigClOrdID names.
 fn settle(book: &mut Book, index: usize, random: &mut Random) {
     let request = &book.requests[index];
     let own = |other: &&Request| other.order == request.order && other.kind != layout::GATEWAY_CANCEL;
@@ -256,7 +256,7 @@ fn link(book: &mut Book, index: u64, random: &mut Random) {
     cancelling(book, index, random);
 }
 
-/// A gateway cancel of a live order at any stage, its request open where it is sent.
+/// A gateway cancel of a live order at any stage, its request open if it is sent.
 fn cancelling(book: &mut Book, index: u64, random: &mut Random) {
     if random.chance(40) {
         return;

@@ -1,4 +1,4 @@
-//! A book of the Rust, under watch, and a library's beside it (the stand-in's where none is linked), for tests: every
+//! A book of the Rust, under watch, and a library's beside it (the stand-in's if none is linked), for tests: every
 //! event is taken by both, and answer, book and all that is asked of a book are the same.
 
 use std::sync::LazyLock;

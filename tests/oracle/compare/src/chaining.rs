@@ -65,7 +65,7 @@ pub enum ChainFault {
     OneOutcome,
     /// `answered` stands for the outcome.
     AnsweredForOutcome,
-    /// 12 is said where the list is exactly long enough.
+    /// 12 is said if the list is exactly long enough.
     TwelveAtJustEnough,
     /// 12 is said by the longest chain that there may be.
     TwelveByLongest,
@@ -232,7 +232,7 @@ fn chain(fault: Option<ChainFault>, requests: &Requests, book: &Book, asked: &As
     chain
 }
 
-/// The call on a book, with its requests where it keeps its rules.
+/// The call on a book, with its requests if it keeps its rules.
 pub fn call(
     fault: Option<ChainFault>,
     book: &[u8],

@@ -1,5 +1,5 @@
 //! The chain of a ClOrdID (change request 9), plainly from the Rust's own requests and what they came to; and a library's
-//! `chain` held against it: for names that a client used and for names that are nearly those, lists exactly long enough,
+//! `chain` compared with it: for names that a client used and for names that are nearly those, lists exactly long enough,
 //! longer, a byte and an entry short, at odd addresses, with guards around them.
 
 use std::collections::{BTreeMap, BTreeSet};
@@ -76,7 +76,7 @@ fn entry(name: &[u8], outcome: u8) -> [u8; ENTRY] {
     entry
 }
 
-/// A number that differs where books do, for a choice.
+/// A number that differs if books do, for a choice.
 fn chance(book: &[u8]) -> usize {
     let (words, _) = book.as_chunks::<8>();
     let mixed = words
@@ -85,8 +85,8 @@ fn chance(book: &[u8]) -> usize {
     (mixed >> 33) as usize
 }
 
-/// Holds `chain` on a book against the machine that has it, for one name that is used and some that are not; or against
-/// refusal 1 where none is given since the bytes are no book that keeps its rules.
+/// Compares `chain` on a book with the machine that has it, for one name that is used and some that are not; or with
+/// refusal 1 if none is given, since the bytes are no book that keeps its rules.
 pub fn holds(entries: &Entries, book: &[u8], machine: Option<&Machine>) -> Result<(), String> {
     let Some(machine) = machine else {
         let lent = [0, ENTRY - 1, ENTRY, MOST_REQUESTS * ENTRY];
@@ -164,7 +164,7 @@ fn near((client, name): &Asked, chance: usize) -> Vec<Asked> {
     names.into_iter().map(|name| (*client, name)).chain(clients).collect()
 }
 
-/// The calls for one name: its list exactly long enough, longer, and, where there is a chain, short in every way.
+/// The calls for one name: its list exactly long enough, longer, and, if there is a chain, short in every way.
 fn ask(entries: &Entries, book: &[u8], requests: &Requests, asked: &Asked) -> Result<(), String> {
     let chain = entries_of(&requests.chain(asked));
     let length = chain.len();

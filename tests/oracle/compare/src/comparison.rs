@@ -1,4 +1,4 @@
-//! A library's calls against the model: what `needs` says before each event; of the event refusal, answer bytes, bytes past
+//! A library's calls compared with the model: what `needs` says before each event; of the event refusal, answer bytes, bytes past
 //! the length, nothing written by a refused event, every field of the book by docs/LAYOUT.md and
 //! no other byte of it, `check` 0, the evening page, the clients' open quantities and their nets, chains of ClOrdIDs
 //! after each event, events on copies of the book, and demand 3 and the nets counted from the
@@ -65,7 +65,7 @@ impl<'a> Caller<'a> {
         (Self { entries, book, sending, told }, machine)
     }
 
-    /// Calls `needs`, then `event`, and holds what they give, and every byte that they write, against
+    /// Calls `needs`, then `event`, and compares what they give, and every byte that they write, with
     /// the model's outcome and the model's book after it.
     pub fn event(
         &mut self,
@@ -100,7 +100,7 @@ impl<'a> Caller<'a> {
         self.told.holds(self.entries, &self.book)
     }
 
-    /// The same where the answer buffer was short: what the event needs with a whole one, on copies.
+    /// The same if the answer buffer was short: what the event needs with a whole one, on copies.
     fn needed_whole(&self, needed: Needs, record: &[u8], machine: &Machine) -> Result<(), String> {
         let mut copy = machine.clone();
         let outcome = copy.event(record, ANSWER_BYTES);
@@ -275,7 +275,7 @@ fn place(book: &[u8], random: &mut Random) -> usize {
 }
 
 /// On copies with one byte changed, `check` is what the second decision says, and `event` what it
-/// says and, where the book still keeps its rules, what the Rust does on that book.
+/// says and, if the book still keeps its rules, what the Rust does on that book.
 fn damaged(caller: &Caller<'_>, record: &[u8], random: &mut Random) -> Result<(), String> {
     let entries = caller.entries;
     for _ in 0..CHAINS {

@@ -41,7 +41,7 @@ pub struct Met {
     quantity: (Ordering, Ordering),
 }
 
-/// What the event meets in the book, where it names an order that is there.
+/// What the event meets in the book, if it names an order that is there.
 fn met(machine: &Machine, record: &Record<'_>) -> Option<Met> {
     let book = machine.book();
     let downstream = latin1(record.text(DOWNSTREAM));

@@ -208,7 +208,7 @@ impl<'a> Damaged<'a> {
         })
     }
 
-    /// Records swapped, copied and moved; where the links are put right, the book keeps its rules.
+    /// Records swapped, copied and moved; if the links are put right, the book keeps its rules.
     fn records(&mut self) -> Result<(), String> {
         let book = self.book();
         let (orders, requests) = (book.orders.len(), book.requests.len());
@@ -330,7 +330,7 @@ impl<'a> Damaged<'a> {
         Ok(())
     }
 
-    /// Shows the book with its records rewritten, the open quantities and the requests' origins put right; and, where they
+    /// Shows the book with its records rewritten, the open quantities and the requests' origins put right; and, if they
     /// differ now, with these as they were.
     fn rewrite(&mut self, what: &str, change: impl FnOnce(&mut Book)) -> Result<(), String> {
         let mut book = self.book();
@@ -403,13 +403,13 @@ fn near_orders(book: &Book, index: usize) -> Vec<Order> {
     near
 }
 
-/// The origin of each request, where its OrigClOrdID names one before it; else the one that it has.
+/// The origin of each request, if its OrigClOrdID names one before it; else the one that it has.
 fn origins(book: &Book) -> Vec<u64> {
     let requests = book.requests.iter().enumerate();
     requests.map(|(index, request)| origin(book, index).unwrap_or(request.origin)).collect()
 }
 
-/// The request with another mark or outcome, or of another kind with and without what goes with it; and, where it has an
+/// The request with another mark or outcome, or of another kind with and without what goes with it; and, if it has an
 /// OrigClOrdID, with another that is a request's of its order or, now and then, any request's.
 fn near_requests(book: &Book, index: usize) -> Vec<Request> {
     let request = &book.requests[index];

@@ -1,4 +1,4 @@
-//! The C entries: a library's, where one is linked, else the stand-in's.
+//! The C entries: a library's, if one is linked, else the stand-in's.
 
 pub type Start = unsafe extern "C" fn(*mut u8, usize, u32) -> u32;
 pub type Event = unsafe extern "C" fn(*mut u8, usize, *const u8, usize, *mut u8, usize) -> u32;

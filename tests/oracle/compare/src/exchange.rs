@@ -73,7 +73,7 @@ impl Way {
     }
 }
 
-/// Runs the records on a copy of the book, the second first where they are turned, with answer
+/// Runs the records on a copy of the book, the second first if they are turned, with answer
 /// buffers full of that byte.
 fn way(entries: &Entries, book: &[u8], pair: [&[u8]; 2], turned: bool, byte: u8) -> Result<Way, String> {
     let mut way = Way { calls: Default::default(), book: book.to_vec() };
@@ -136,8 +136,8 @@ fn added(before: &[u8], after: &[u8]) -> usize {
     (Header::read(after).requests - Header::read(before).requests) as usize
 }
 
-/// Holds the two ways round against each other: the same refusals and answers, the same bytes, but
-/// for the places of two requests where two were added; and the open quantities.
+/// Compares the two ways round with each other: the same refusals and answers, the same bytes, but
+/// for the places of two requests if two were added; and the open quantities.
 fn same(entries: &Entries, before: &[u8], one: &Way, two: &Way) -> Result<(), String> {
     let told = |(refusal, answer): &(u32, Vec<u8>)| match refusal {
         0 => show::outcome(&Ok(answer.clone())),

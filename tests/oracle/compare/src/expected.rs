@@ -15,7 +15,7 @@ use crate::show;
 /// A refusal, or the answer and the book that is left.
 pub type Outcome = Result<(Vec<u8>, Book), u32>;
 
-/// Bytes lent as a book, and the machine that has it where they keep the rules.
+/// Bytes lent as a book, and the machine that has it if they keep the rules.
 pub struct Lent {
     pub bytes: Vec<u8>,
     machine: Option<(Machine, Sending)>,
@@ -35,7 +35,7 @@ impl Lent {
         self.machine.as_ref().map(|(machine, _)| machine)
     }
 
-    /// What `event` must give; an error where the Rust itself panics.
+    /// What `event` must give; an error if the Rust itself panics.
     pub fn event(&self, record: &[u8], answer_buffer: usize) -> Result<Outcome, String> {
         let Some((machine, sending)) = &self.machine else { return Ok(Err(1)) };
         if let Err(refusal) = readable(record, answer_buffer) {
@@ -51,7 +51,7 @@ impl Lent {
     }
 }
 
-/// Holds what a call of `event` gave and left against what it must: refusal, answer, every field of
+/// Compares what a call of `event` gave and left with what it must: refusal, answer, every field of
 /// the book, and no other byte written anywhere. `book` and `answer` come with what they were.
 pub fn holds(
     outcome: &Outcome,

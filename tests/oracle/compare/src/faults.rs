@@ -91,7 +91,7 @@ pub enum Fault {
     TextNotFilled,
     /// A price's source is told by which price it equals, LastPx before the average.
     SourceByPrice,
-    /// A price's source is 0 where nothing was filled.
+    /// A price's source is 0 if nothing was filled.
     NoSourceWithoutRise,
     /// A report that answers no venue's has the average for its price's source.
     SourceWithoutReport,
@@ -139,7 +139,7 @@ pub enum Fault {
     PageLeavesOfDone,
     /// The page has the last booked order first.
     PageReversed,
-    /// The page is refused with 8 where its buffer is exactly long enough.
+    /// The page is refused with 8 if its buffer is exactly long enough.
     EightAtJustEnough,
     /// A byte behind the page is changed.
     PagePastItsEnd,
@@ -173,7 +173,7 @@ pub enum Fault {
     NetWithoutZero,
     /// Pairs stand by their last booking.
     NetByLastBooking,
-    /// Orders of a symbol are one pair, whosever.
+    /// Orders of a symbol are one pair, whatever their client.
     NetOfAllClients,
     /// Orders of a client are one pair, whatever their symbol.
     NetOfAllSymbols,
@@ -187,7 +187,7 @@ pub enum Fault {
     NetScratchRefused,
     /// A number stands beside a refusal.
     NetBesideRefusal,
-    /// 11 is said where scratch and output are exactly large enough.
+    /// 11 is said if scratch and output are exactly large enough.
     ElevenAtJustEnough,
     /// 11 goes by what is to be written.
     ElevenByNeed,
@@ -592,7 +592,7 @@ fn by_price(report: &Record<'_>, price: u128) -> Source {
     }
 }
 
-/// The answer to a record that does not read: 4 where all but its last byte would be out of range.
+/// The answer to a record that does not read: 4 if all but its last byte would be out of range.
 fn early_four(record: &[u8]) -> Result<Vec<u8>, u32> {
     let short = record.split_last().and_then(|(_, short)| Record::read_event(short));
     if short.is_some_and(|read| !read.in_range()) { Err(4) } else { Err(3) }
@@ -806,7 +806,7 @@ pub fn lines(fault: Option<Fault>, mut lines: Vec<u8>) -> Vec<u8> {
     lines
 }
 
-/// What an event needs as the fault counts it; the answer is empty where the event is refused.
+/// What an event needs as the fault counts it; the answer is empty if the event is refused.
 pub fn needs(fault: Option<Fault>, record: &[u8], answer: &[u8], right: Needs) -> Needs {
     let messages = if answer.is_empty() { Vec::new() } else { messages(answer) };
     let taken = u32::from(right.refusal == 0);

@@ -39,10 +39,10 @@ pub const RULES: [Rule; 23] = [
     ("tries are at most 2 where unsent", fewer_where_unsent),
     ("an unanswered gateway cancel of a live order is its latest cancel", open_is_latest),
     ("an unanswered gateway cancel of a live order has tries above 0, is sent and not stuck", open_is_sent),
-    ("a client's open quantity is the sum over its orders", opens_right),
     ("exactly the unanswered have outcome 0, and none has one above 3", outcomes_right),
     ("an OrigClOrdID names a request of its order numbered lower", origins_earlier),
     ("the origin of a request with an OrigClOrdID leads to the request that it names", origins_lead),
+    ("a client's open quantity is the sum over its orders", opens_right),
 ];
 
 pub fn keeps(bytes: &[u8]) -> bool {
@@ -78,7 +78,7 @@ fn code(code: u64, listed: &[u8]) -> bool {
     listed.iter().any(|&byte| u64::from(byte) == code)
 }
 
-/// Type, time in force (0 where there is none), quantity and price (0 where the type is market).
+/// Type, time in force (0 if there is none), quantity and price (0 if the type is market).
 fn terms(ord_type: u64, time_in_force: u64, qty: u64, price: u64) -> bool {
     code(ord_type, ORD_TYPES)
         && (time_in_force == 0 || code(time_in_force, TIMES_IN_FORCE))
@@ -105,7 +105,7 @@ fn orders_in_range(book: &Book) -> bool {
     })
 }
 
-/// Where no replace waits, the terms are zeros.
+/// If no replace waits, the terms are zeros.
 fn pending_in_range(order: &Order) -> bool {
     let (ord_type, time_in_force) = (order.pending_ord_type, order.pending_time_in_force);
     let (qty, price) = (order.pending_qty, order.pending_price);
@@ -115,7 +115,7 @@ fn pending_in_range(order: &Order) -> bool {
     }
 }
 
-/// A stage of the four, a link exactly where it is not 0, and zeros where it is.
+/// A stage of the four, a link exactly if it is not 0, and zeros if it is.
 fn gateway_in_range(book: &Book, order: &Order) -> bool {
     match order.stage {
         NONE => [order.orig_downstream, order.tries, order.refused_sends] == [0; 3],
@@ -139,7 +139,7 @@ fn requests_name_orders(book: &Book) -> bool {
     book.requests.iter().all(|request| request.order < book.orders.len() as u64)
 }
 
-/// The request that a link leads to, where it is the order's own.
+/// The request that a link leads to, if it is the order's own.
 fn own(book: &Book, order: usize, link: u64) -> Option<&Request> {
     let request = book.requests.get(link.checked_sub(1)? as usize)?;
     (request.order == order as u64).then_some(request)
@@ -166,7 +166,7 @@ fn latest_is_cancel(book: &Book) -> bool {
     })
 }
 
-/// Whether no two items are the same, each held against each.
+/// Whether no two items are the same, each compared with each.
 fn distinct<T>(items: &[T], same: impl Fn(&T, &T) -> bool) -> bool {
     items.iter().enumerate().all(|(at, one)| items[..at].iter().all(|other| !same(one, other)))
 }
@@ -257,7 +257,7 @@ fn open_is_sent(book: &Book) -> bool {
     open(book).all(|(_, order)| order.tries > 0 && order.stage == SENT)
 }
 
-/// What an order leaves open: by its accepted terms, and nothing where it is done or done for the day.
+/// What an order leaves open: by its accepted terms, and nothing if it is done or done for the day.
 fn leaves(order: &Order) -> u64 {
     if done(order) || order.status == DONE_FOR_DAY { 0 } else { order.qty.saturating_sub(order.cum_qty) }
 }
@@ -272,7 +272,7 @@ pub fn opens(book: &Book) -> Vec<Option<u64>> {
         for (other, counted) in book.orders.iter().enumerate() {
             if counted.client == order.client {
                 first &= other >= index;
-                // Past 64 bits only where a quantity is out of its range.
+                // Past 64 bits only if a quantity is out of its range.
                 sum = sum.wrapping_add(leaves(counted));
             }
         }
@@ -313,7 +313,7 @@ fn origins_earlier(book: &Book) -> bool {
     amending(book).all(|index| origin(book, index).is_some())
 }
 
-/// Where no such request stands, the rule before this one says so.
+/// If no such request stands, the rule before this one says so.
 fn origins_lead(book: &Book) -> bool {
     amending(book).all(|index| origin(book, index).is_none_or(|link| book.requests[index].origin == link))
 }

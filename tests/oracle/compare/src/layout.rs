@@ -1,5 +1,5 @@
 //! The book's bytes as docs/LAYOUT.md has them: where each field stands, records read and written,
-//! and two books held against each other field by field. It knows nothing of what fields mean.
+//! and two books compared with each other field by field. It knows nothing of what fields mean.
 
 use model::machine::{BOOK_BYTES, MOST_ORDERS, MOST_REQUESTS};
 
@@ -7,7 +7,7 @@ pub const ORDERS_AT: usize = 256;
 pub const ORDER_BYTES: usize = 256;
 pub const REQUESTS_AT: usize = 16_640;
 pub const REQUEST_BYTES: usize = 128;
-/// Behind the tables a word for each order's place, in use where the order is its client's first:
+/// Behind the tables a word for each order's place, in use if the order is its client's first:
 /// the client's open quantity.
 pub const OPENS_AT: usize = 49_408;
 pub const OPEN_BYTES: usize = 8;
@@ -29,7 +29,7 @@ impl Text {
         Self { bytes, length: text.len() as u8 }
     }
 
-    /// The text itself, cut where its length runs over.
+    /// The text itself, cut if its length runs over.
     pub fn text(&self) -> &[u8] {
         &self.bytes[..usize::from(self.length).min(TEXT_BYTES)]
     }
@@ -170,7 +170,7 @@ pub struct Book {
     pub header: Header,
     pub orders: Vec<Order>,
     pub requests: Vec<Request>,
-    /// The open quantity at each order's place, where the order is its client's first; the other
+    /// The open quantity at each order's place, if the order is its client's first; the other
     /// words may be anything.
     pub opens: Vec<Option<u64>>,
 }
@@ -350,7 +350,7 @@ pub fn differences(should: &[u8], has: &[u8]) -> Vec<String> {
     differences.into_iter().chain(unnamed).collect()
 }
 
-/// Holds a book's bytes against what an event should leave of those before it: every field of the
+/// Compares a book's bytes with what an event should leave of those before it: every field of the
 /// records in use, every client's open quantity, and every other byte as it was; a spare byte may have
 /// become 0.
 pub fn holds(before: &[u8], right: &Book, has: &[u8]) -> Result<(), String> {

@@ -277,7 +277,7 @@ struct Drawing {
     generator: Generator,
     sending: Sending,
     buffers: Vec<Vec<u8>>,
-    /// How many names were drawn where a mark was set.
+    /// How many names were drawn when a mark was set.
     fresh: Vec<u64>,
     steps: Vec<Step>,
 }

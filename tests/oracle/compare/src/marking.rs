@@ -35,9 +35,9 @@ pub enum MarkFault {
     ByPrefix,
     /// A place's name ends at its first zero.
     ByFirstZero,
-    /// A place is free where its first byte is zero.
+    /// A place is free if its first byte is zero.
     FreeByFirstByte,
-    /// A place is free where its name is malformed.
+    /// A place is free if its name is malformed.
     FreeWhereMalformed,
     /// A free place has no byte in its image.
     FreeIsEmpty,
@@ -51,7 +51,7 @@ pub enum MarkFault {
     EveryOfName,
     /// A mark that is set cannot be set again.
     SetOnce,
-    /// 15 where no place is free, though one is of the name.
+    /// 15 if no place is free, though one is of the name.
     FifteenWithoutFree,
     /// A last part that is shorter than a place is one.
     LastPartTaken,

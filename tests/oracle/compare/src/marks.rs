@@ -1,5 +1,5 @@
 //! Marks to come back to (change request 10): which place a call writes or takes, or its refusal, plainly from the bytes
-//! and the second decision of the rules; and a library's `set_mark` and `return_to_mark` held against it, byte for byte,
+//! and the second decision of the rules; and a library's `set_mark` and `return_to_mark` compared with it, byte for byte,
 //! with guards around book, name and places.
 
 use model::machine::BOOK_BYTES;
@@ -70,7 +70,7 @@ fn lend(buffer: &mut [u8]) -> &mut [u8] {
     &mut buffer[GUARD..end]
 }
 
-/// Holds what was lent, with its guards, against what it should be.
+/// Compares what was lent, with its guards, with what it should be.
 fn same(what: &str, should: &[u8], lent: &[u8]) -> Result<(), String> {
     let should = guarded(should);
     match (0..lent.len()).find(|&at| lent[at] != should[at]) {
@@ -82,7 +82,7 @@ fn same(what: &str, should: &[u8], lent: &[u8]) -> Result<(), String> {
     }
 }
 
-/// Calls, and holds the refusal and every byte against what they must be; book and places are then what was left of them.
+/// Calls, and compares the refusal and every byte with what they must be; book and places are then what was left of them.
 pub fn call(
     entries: &Entries,
     call: Call,

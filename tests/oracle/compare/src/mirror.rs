@@ -73,7 +73,7 @@ fn text(text: &CompactString) -> Text {
     Text::new(&bytes(text))
 }
 
-/// A price that is not there is 0: it stands exactly where the type is limit.
+/// A price that is not there is 0: it stands exactly if the type is limit.
 fn price_or_0(price: Option<Decimal>) -> u64 {
     price.map_or(0, |price| price_count(price) as u64)
 }

@@ -1,5 +1,5 @@
 //! What an event will need (change request 13), counted plainly from the answer that the event then gave, field by field,
-//! and from the requests that stood before and after it; a library's `needs` held against that.
+//! and from the requests that stood before and after it; a library's `needs` compared with that.
 
 use model::answer::{HEAD, messages};
 use model::machine::ANSWER_BYTES;
@@ -66,7 +66,7 @@ pub fn run(entries: &Entries, book: &[u8], record: &[u8]) -> Needs {
     }
 }
 
-/// Holds what `needs` gave against what the event needed.
+/// Compares what `needs` gave with what the event needed.
 pub fn holds(given: Needs, right: Needs) -> Result<(), String> {
     if given == right { Ok(()) } else { Err(format!("needs: should give {right:?}, gives {given:?}")) }
 }

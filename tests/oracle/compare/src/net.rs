@@ -1,5 +1,5 @@
 //! The net position (change request 6), plainly from the Rust's own orders, and added up from the
-//! messages that were sent; a library's `net_position` held against both: buffers exactly large
+//! messages that were sent; a library's `net_position` compared with both: buffers exactly large
 //! enough, larger, too small, at odd addresses, with guards around them.
 
 use std::collections::BTreeMap;
@@ -95,7 +95,7 @@ impl Told {
         }
     }
 
-    /// Holds the lines that `net_position` gives against it: 0 where nothing was told, and a line
+    /// Compares the lines that `net_position` gives with it: 0 if nothing was told, and a line
     /// for whatever was told.
     pub fn holds(&self, entries: &Entries, book: &[u8]) -> Result<(), String> {
         let (mut scratch, mut lines) = ([0; SCRATCH], [0; LINES]);
@@ -119,8 +119,8 @@ fn show((client, symbol): &Pair) -> String {
     format!("client {client} in \"{}\"", symbol.escape_ascii())
 }
 
-/// Holds `net_position` on a book against the machine that has it, or against refusal 1 where none
-/// is given since the bytes are no book that keeps its rules.
+/// Compares `net_position` on a book with the machine that has it, or with refusal 1 if none
+/// is given, since the bytes are no book that keeps its rules.
 pub fn holds(entries: &Entries, book: &[u8], machine: Option<&Machine>) -> Result<(), String> {
     let short = [(SCRATCH - 1, LINES), (SCRATCH, LINES - 1), (0, LINES), (SCRATCH, 0), (0, 0)];
     let enough = [(SCRATCH, LINES), (SCRATCH + 1, LINES + 1), (64, LINES), (SCRATCH, 2 * LINES + 5)];

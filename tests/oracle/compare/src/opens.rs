@@ -1,5 +1,5 @@
 //! The open quantity of clients (change request 4), plainly from the Rust's own orders: what the book
-//! stores of it, and a library's `open_quantity` held against it, for every client of the book, those
+//! stores of it, and a library's `open_quantity` compared with it, for every client of the book, those
 //! next to them, and some that have no order.
 
 use std::collections::BTreeSet;
@@ -27,15 +27,15 @@ fn sum(leaves: &[(u16, u64)], client: u16) -> u64 {
     leaves.iter().filter(|order| order.0 == client).map(|order| order.1).sum()
 }
 
-/// What belongs at each order's place: its client's open quantity where the order is the client's first.
+/// What belongs at each order's place: its client's open quantity if the order is the client's first.
 pub fn stored(machine: &Machine) -> Vec<Option<u64>> {
     let leaves = leaves(machine);
     let first = |index: usize| leaves[..index].iter().all(|order| order.0 != leaves[index].0);
     (0..leaves.len()).map(|index| first(index).then(|| sum(&leaves, leaves[index].0))).collect()
 }
 
-/// Holds `open_quantity` on a book against the machine that has it, or against refusal 1 where none
-/// is given since the bytes are no book that keeps its rules.
+/// Compares `open_quantity` on a book with the machine that has it, or with refusal 1 if none
+/// is given, since the bytes are no book that keeps its rules.
 pub fn holds(entries: &Entries, book: &[u8], machine: Option<&Machine>) -> Result<(), String> {
     let leaves = machine.map(leaves);
     let mut clients = BTreeSet::from(ALWAYS);

@@ -1,5 +1,5 @@
 //! The evening page (change request 1), plainly from the Rust's own orders, and a library's `page`
-//! held against it: buffers exactly long enough, a byte short, longer, at odd addresses, with guard
+//! compared with it: buffers exactly long enough, a byte short, longer, at odd addresses, with guard
 //! bytes around them.
 
 use gateway::Decimal;
@@ -45,7 +45,7 @@ fn decimals(quantity: Decimal) -> String {
     format!("{:>14}", format!("{quantity:.4}"))
 }
 
-/// Holds `page` on a book against the machine that has it, or against refusal 1 where none is given
+/// Compares `page` on a book with the machine that has it, or with refusal 1 if none is given,
 /// since the bytes are no book that keeps its rules.
 pub fn holds(entries: &Entries, book: &[u8], machine: Option<&Machine>) -> Result<(), String> {
     let Some(machine) = machine else {
@@ -104,7 +104,7 @@ mod tests {
     const OUTPUT: &[u8] = include_bytes!("../../../../crates/evening/stdout");
 
     /// A line of the net position as the program prints it: the client in 5 columns and a blank, the
-    /// symbol in 16, the net in 17 with four decimals and a sign where it is not 0.
+    /// symbol in 16, the net in 17 with four decimals and a sign if it is not 0.
     fn net_line(((client, symbol), net): &(Pair, i64)) -> Vec<u8> {
         let sign = ["-", "", "+"][(net.signum() + 1) as usize];
         let size = format!("{sign}{:.4}", qty(net.unsigned_abs()));

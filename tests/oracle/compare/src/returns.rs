@@ -1,5 +1,5 @@
 //! Lists that mix events with marks set and returned to (change request 10), on buffers that a host may have filled with
-//! anything; and the comparison of a library with the model on them. Each call is held against the plain decision, book and
+//! anything; and the comparison of a library with the model on them. Each call is compared with the plain decision, book and
 //! places byte for byte. After a return the model has the image's book, and demand 3 and the nets are counted from there, by
 //! the messages since alone. A mark that was set and not set again is returned to as the very book that was marked.
 

@@ -77,7 +77,7 @@ pub fn record(record: &Record<'_>) -> String {
     text
 }
 
-/// An event's bytes: its fields where they read, else the bytes.
+/// An event's bytes: its fields if they read, else the bytes.
 pub fn event(bytes: &[u8]) -> String {
     match Record::read_event(bytes) {
         Some(read) => record(&read),

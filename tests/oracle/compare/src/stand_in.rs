@@ -1,6 +1,6 @@
 //! Stands in for the ported library: the model behind the C entries, its book written by
 //! docs/LAYOUT.md, with faults that can be planted in it. Each call reads the Rust's book from the
-//! bytes and writes it back, so that nothing is kept between calls; but where the bytes are those of
+//! bytes and writes it back, so that nothing is kept between calls; but if the bytes are those of
 //! the call before, what they were found to be is not worked out again.
 
 use std::cell::{Cell, RefCell};
@@ -51,7 +51,7 @@ pub fn plant(fault: Option<Fault>) {
     FAULT.set(fault);
 }
 
-/// The bytes that a caller lends: none where the length is 0, whatever the pointer.
+/// The bytes that a caller lends: none if the length is 0, whatever the pointer.
 ///
 /// # Safety
 /// `length` bytes are at `start`, lent for the time of the call and to nobody else.

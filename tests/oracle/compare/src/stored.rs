@@ -1,6 +1,6 @@
 //! Stored lists with the model's answers, one after another (all numbers little-endian):
 //! tag 0 and a 4-byte setting starts a book; tag 1, a 2-byte length and that many bytes of record,
-//! the 4-byte length of the answer buffer, the refusal as a byte and, where it is 0, a 2-byte
+//! the 4-byte length of the answer buffer, the refusal as a byte and, if it is 0, a 2-byte
 //! length and that many bytes of answer is an event. For the mutations alone, tag 2 and an 8-byte
 //! digest is the Rust's orders and requests after the list.
 
@@ -99,7 +99,7 @@ impl Iterator for Reader<'_> {
     }
 }
 
-/// Holds the model against stored answers: lists and events, or the first difference.
+/// Compares the model with stored answers: lists and events, or the first difference.
 pub fn replay(bytes: &[u8]) -> Result<(u64, u64), String> {
     replay_by(bytes, |machine, record, buffer| machine.event(record, buffer))
 }

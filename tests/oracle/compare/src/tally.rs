@@ -71,7 +71,7 @@ impl Tally {
         }
     }
 
-    /// An event that is about to come: the requests before it, and where it is a report whose price is exactly half way.
+    /// An event that is about to come: the requests before it, and whether it is a report whose price is exactly half way.
     pub fn before(&mut self, machine: &Machine, record: &[u8]) {
         self.requests = machine.book().request_table().len();
         self.outcomes = machine.outcomes().clone();

@@ -1,5 +1,5 @@
-//! All calls that look at a book and change nothing, held against the machine that has it, or
-//! against refusal 1 where none is given since the bytes are no book that keeps its rules.
+//! All calls that look at a book and change nothing, compared with the machine that has it, or
+//! with refusal 1 if none is given, since the bytes are no book that keeps its rules.
 
 use model::Machine;
 

@@ -142,7 +142,7 @@ impl Book {
         self.gateway_cancel_in_flight(order)
     }
 
-    /// The book's own `check()`: it panics where an invariant is broken.
+    /// The book's own `check()`: it panics if an invariant is broken.
     pub fn check_invariants(&self) {
         self.check();
     }

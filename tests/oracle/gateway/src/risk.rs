@@ -1,5 +1,5 @@
 //! Stand-in for the gateway's `risk` module, which docs/SCOPE.md leaves out. A replace event brings
-//! its verdict; the book finds it here where it would have asked.
+//! its verdict; the book finds it here instead of asking for it.
 
 use std::collections::{BTreeMap, HashMap};
 

@@ -79,7 +79,7 @@ fn longest() -> List {
     list(&drafts)
 }
 
-/// The same where each request is for the first name.
+/// The same, but each request is for the first name.
 fn star() -> List {
     let mut drafts = vec![book(7, "A", &name(0)), told("A", b'0', b'0')];
     for number in 1..60 {

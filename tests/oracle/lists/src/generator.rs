@@ -132,7 +132,7 @@ impl Generator {
         self.machine.book().order(id).expect("orders are numbered as they are booked").clone()
     }
 
-    /// An order to amend: one with nothing pending, where that fits and a few draws find one.
+    /// An order to amend: one with nothing pending, if that fits and a few draws find one.
     fn order_to_amend(&mut self) -> Order {
         let draws = if self.fits() { 6 } else { 1 };
         let mut order = self.order();
@@ -182,7 +182,7 @@ impl Generator {
             .collect()
     }
 
-    /// A request of the order's that `wanted` holds of, where there is one and it fits; else any.
+    /// A request of the order's that `wanted` holds of, if there is one and it fits; else any.
     fn request(&mut self, order: &Order, wanted: impl Fn(&Request) -> bool) -> Request {
         let mut requests = self.requests(order);
         if self.fits() && requests.iter().any(&wanted) {

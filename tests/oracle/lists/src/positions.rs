@@ -36,7 +36,7 @@ fn filled(name: &str, status: u8, cum_qty: u64, last_qty: u64) -> Draft {
 }
 
 /// A request of each kind on one of three orders of two clients, refused with each status, by an event 6
-/// and by a report: the status takes the open quantity away where it is done, with a cancel reject
+/// and by a report: the status takes the open quantity away if it is done, with a cancel reject
 /// alone, and for the gateway's cancel without any message.
 fn refusals() -> Vec<List> {
     let named = Named { client: 2, symbol: b"S".to_vec(), side: b'1' };

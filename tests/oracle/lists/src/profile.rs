@@ -15,7 +15,7 @@ pub struct Profile {
     /// Clients and venues are drawn from this many.
     pub clients: u64,
     pub venues: u64,
-    /// No booking is drawn where this many orders are live.
+    /// No booking is drawn if this many orders are live.
     pub orders: usize,
     /// The setting is drawn from this range.
     pub setting: (u32, u32),
@@ -32,7 +32,7 @@ pub struct Profile {
     pub values: Values,
     /// Whether texts are of every length and byte.
     pub any_texts: bool,
-    /// Percent of reports and refusals that end an order's day or, where it is ended, go on.
+    /// Percent of reports and refusals that end an order's day or, if it is ended, go on.
     pub days: u64,
 }
 

@@ -56,7 +56,7 @@ impl Day {
         )
     }
 
-    /// Numbers of the event's only message; the most of all where a field does not stand.
+    /// Numbers of the event's only message; the most of all if a field is absent.
     pub fn told<const N: usize>(&mut self, event: &Draft, bits: [usize; N]) -> [u128; N] {
         let answer = self.outcome(event).expect("taken");
         let messages = messages(&answer);

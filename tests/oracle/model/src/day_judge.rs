@@ -74,7 +74,7 @@ pub struct Judged {
 }
 
 impl Judged {
-    /// None where the event concerns no order.
+    /// None if the event concerns no order.
     pub fn of(book: &Book, order: Option<OrderId>, record: &Record<'_>) -> Option<Self> {
         let order = book.order(order?)?.clone();
         let sent = book.sent(&latin1(record.text(DOWNSTREAM)));
@@ -84,7 +84,7 @@ impl Judged {
         Some(Self { order, event: record.kind, brings })
     }
 
-    /// The status that is left, where the event or the order before it has a 3.
+    /// The status that is left, if the event or the order before it has a 3.
     fn left(&self, after: &Order) -> Option<u8> {
         let (was, cum_qty) = (status_of(&self.order), qty_count(after.cum_qty));
         let code = self.brings.as_ref().and_then(|brings| brings.status.filter(|_| brings.sets));
@@ -239,7 +239,7 @@ fn pending_status(order: &Order) -> bool {
     b"6E".contains(&status_of(order))
 }
 
-/// Whether the report's status would roll the order back. A 3 is New where the report's CumQty is 0
+/// Whether the report's status would roll the order back. A 3 is New if the report's CumQty is 0
 /// and PartiallyFilled above: both are behind a pending cancel or replace.
 fn behind(order: &Order, sent: &Sent, record: &Record<'_>, pending_here: bool) -> bool {
     let Some(status) = record.maybe(ORD_STATUS, |r| r.code(ORD_STATUS)) else {

@@ -5,7 +5,7 @@
 //! It is counted since a book that is there, the image (change request 10): the empty one after a
 //! start, the one returned to after a return. LastQtys and what the image held are the cumulative
 //! quantity; a done status of the image stays; until the gateway cancel begins again the tries are
-//! the image's and the new requests, less those of both whose send failed since, where a request of
+//! the image's and the new requests, less those of both whose send failed since; a request of
 //! the image that is sent again is not new.
 
 use std::collections::{HashMap, HashSet};
@@ -102,7 +102,7 @@ pub struct Before {
 }
 
 impl Before {
-    /// A gateway cancel begins where event 9 finds the order live and none of the gateway's
+    /// A gateway cancel begins if event 9 finds the order live and none of the gateway's
     /// cancels at the venue.
     pub fn of(machine: &Machine, record: &Record<'_>) -> Self {
         let book = machine.book();

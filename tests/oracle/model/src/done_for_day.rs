@@ -3,10 +3,10 @@
 //! 3. An order that is 3 is held as New or PartiallyFilled by its cumulative quantity, and marked in
 //! its account, which docs/SCOPE.md leaves out: so the mark goes with the order wherever it goes.
 //!
-//! Whether the Rust sets a status cannot be seen where it sets what is held. So that it can, another
+//! Whether the Rust sets a status cannot be seen if it sets what is held. So that it can, another
 //! status is put to it in place of a 3, and in place of one that follows a 3:
 //!
-//! - In a refusal no question looks at the status: PendingCancel, or PendingReplace where the order
+//! - In a refusal no question looks at the status: PendingCancel, or PendingReplace if the order
 //!   is PendingCancel.
 //! - In a report on an order at PendingCancel or PendingReplace, New or PartiallyFilled itself: it may
 //!   be behind there, and is neither.
@@ -60,7 +60,7 @@ pub struct Told {
     code: u8,
     /// What is put to the Rust in its place.
     pub status: Status,
-    /// How the order's status shows that it was set; none where a 3 comes to a 3.
+    /// How the order's status shows that it was set; none if a 3 comes to a 3.
     seen: Option<Seen>,
 }
 
@@ -94,7 +94,7 @@ impl Told {
         Some(Self { order: order.id, code, status, seen })
     }
 
-    /// The same with New or PartiallyFilled itself put, as a 3 is taken; where it would be found equal to
+    /// The same with New or PartiallyFilled itself put, as a 3 is taken; if it would be found equal to
     /// what it is not, the other of the two, which no other question tells apart. Whether the status is
     /// set cannot be seen then.
     pub fn plainly(book: &mut Book, record: &Record<'_>) -> Option<Self> {

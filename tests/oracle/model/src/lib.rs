@@ -1,4 +1,4 @@
-//! The machine of docs/SCOPE.md over the gateway's own book: written from the desk's paper alone, it shares
+//! The machine of docs/SCOPE.md over the gateway's own book: written from the desk's documents alone, it shares
 //! no code with the port.
 
 pub mod answer;

@@ -121,14 +121,14 @@ impl Machine {
         Ok(answer::write(&[], [0, 0], Brought::default()))
     }
 
-    /// Events 2 to 9: the book handles them, and gets its tables back where question 6 or 7 says no.
+    /// Events 2 to 9: the book handles them, and gets its tables back if question 6 or 7 says no.
     fn handle(&mut self, record: &Record<'_>) -> Result<Vec<u8>, u32> {
         let told = Told::of(&self.book, record);
         self.handle_told(record, told)
     }
 
     /// The same event with a 3 put to the Rust as New or PartiallyFilled itself, on a copy: its outcome
-    /// and the machine after it, right but for the order's status. None where no 3 comes or stands.
+    /// and the machine after it, right but for the order's status. None if no 3 comes or stands.
     pub fn plainly(&self, record: &Record<'_>) -> Option<(Result<Vec<u8>, u32>, Self)> {
         Told::of(&self.book, record)?;
         let mut copy = self.clone();
@@ -206,7 +206,7 @@ impl Machine {
         })
     }
 
-    /// Question 6 for a replace: a price exactly when the type, the order's where it names none,
+    /// Question 6 for a replace: a price exactly if the type, the order's if it names none,
     /// is limit. A replace for no order is never asked.
     fn price_fits(&self, record: &Record<'_>) -> bool {
         let client = client(record.number(CLIENT) as u16);
@@ -228,7 +228,7 @@ impl Machine {
         if short { [short::ALARM, raised] } else { [raised, 0] }
     }
 
-    /// After the report sequence 2^64 - 1 comes 0, where the Rust stays at the last number.
+    /// After the report sequence 2^64 - 1 comes 0; the Rust stays at the last number.
     fn wrap_sequence(&mut self, outputs: &mut [Output]) {
         for output in outputs {
             let Output::Report { report, .. } = output else { continue };

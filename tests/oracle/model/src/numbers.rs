@@ -83,18 +83,18 @@ impl Fill {
         self.source() != Source::LastPx && self.fraction().is_some_and(half)
     }
 
-    /// The exact fraction of docs/SCOPE.md, Fill price, rounded to eight places, a half up; 0 where nothing
+    /// The exact fraction of docs/SCOPE.md, Fill price, rounded to eight places, a half up; 0 if nothing
     /// rose or it is below 0.
     fn quotient(&self) -> u128 {
         self.fraction().map_or(0, |(paid, rise)| paid / rise + u128::from(paid % rise * 2 >= rise))
     }
 
-    /// What was paid since and the rise that divides it, where something rose.
+    /// What was paid since and the rise that divides it, if something rose.
     pub fn fraction(&self) -> Option<(u128, u128)> {
         Some((self.paid(), self.rise().into())).filter(|&(_, rise)| rise > 0)
     }
 
-    /// What was paid since: 0 where that is below 0.
+    /// What was paid since: 0 if that is below 0.
     pub fn paid(&self) -> u128 {
         let new = u128::from(self.cum_qty) * u128::from(self.avg_px);
         new.saturating_sub(u128::from(self.old_cum_qty) * u128::from(self.old_avg_px))

@@ -65,7 +65,7 @@ impl Before {
         }
     }
 
-    /// Holds the outcomes after an event against what it did: exactly the unanswered have none, one that stood stays, and
+    /// Compares the outcomes after an event with what it did: exactly the unanswered have none, one that stood stays, and
     /// of those that it settled those are accepted whose terms stand now or stood until now, and a cancel that a report
     /// says Canceled under, other than by ExecType 8; those of an event 7 failed.
     pub fn judge(&self, machine: &Machine, event: &Record<'_>) -> Result<(), String> {

@@ -172,7 +172,7 @@ impl<'a> Record<'a> {
         self.map >> bit & 1 == 1
     }
 
-    /// The number at `bit`, 0 where it does not stand.
+    /// The number at `bit`, 0 if it is absent.
     pub fn wide(&self, bit: usize) -> u128 {
         self.numbers[bit]
     }
@@ -185,7 +185,7 @@ impl<'a> Record<'a> {
         self.numbers[bit] as u8
     }
 
-    /// The text at `bit`, empty where it does not stand.
+    /// The text at `bit`, empty if it is absent.
     pub fn text(&self, bit: usize) -> &'a [u8] {
         self.texts[bit]
     }

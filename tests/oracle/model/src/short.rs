@@ -5,7 +5,7 @@
 //! - In a refusal no question looks at the status: New is put, and the Rust leaves New at 0 and
 //!   PartiallyFilled above.
 //! - In a report under the pending replace New is put: it is not behind, repeats nothing and accepts.
-//! - In any other report PendingCancel is put, or PendingReplace where the order is PendingCancel:
+//! - In any other report PendingCancel is put, or PendingReplace if the order is PendingCancel:
 //!   neither is behind by the order's status, nor repeats it, nor accepts. The request passes for
 //!   unanswered meanwhile, since of the statuses that leave an order live the Rust drops those under
 //!   an answered request.
@@ -33,7 +33,7 @@ pub struct Short {
 }
 
 impl Short {
-    /// None where the status is another or the event would not set it, and none where the order is
+    /// None if the status is another or the event would not set it, and none if the order is
     /// whole by the cumulative quantity and an accepted replace.
     pub fn of(book: &Book, record: &Record<'_>) -> Option<Self> {
         let told = matches!(record.kind, VENUE_REPORT | CANCEL_REJECT) && record.has(ORD_STATUS);
@@ -89,7 +89,7 @@ impl Short {
     }
 }
 
-/// A refusal sets no cumulative quantity, and nothing where the request is the first or answered.
+/// A refusal sets no cumulative quantity, and nothing if the request is the first or answered.
 fn refused(order: &Order, sent: &Sent) -> Option<Short> {
     let sets = sent.kind.is_some() && !sent.answered && order.cum_qty < order.request.qty;
     sets.then_some(Short { order: order.id, status: Status::New, answered: None })

@@ -1,6 +1,6 @@
 //! A machine under watch: after every event the Rust's own `check()`, the book's rules, demand
 //! 3 since the start or the last return, what a Filled and a 3 leave, what the requests came to, and the rules of docs/SCOPE.md, Over the Rust, are asserted. The Rust keeps the last
-//! by itself in all that is run; a run where it does not ends in an error that names the rule.
+//! by itself in all that is run; a run in which it does not ends in an error that names the rule.
 
 use std::panic::{AssertUnwindSafe, catch_unwind};
 

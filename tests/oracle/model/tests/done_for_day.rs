@@ -14,7 +14,7 @@ fn said(day: &mut Day, event: &Draft) -> (Vec<u8>, [u8; 2]) {
     (messages(&answer).iter().map(|message| message.kind).collect(), alarms(&answer))
 }
 
-/// The messages alone, where no alarm is raised.
+/// The messages alone, if no alarm is raised.
 fn told(day: &mut Day, event: &Draft) -> Vec<u8> {
     let (kinds, alarms) = said(day, event);
     assert_eq!(alarms, [0, 0]);

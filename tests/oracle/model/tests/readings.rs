@@ -1,4 +1,4 @@
-//! What was decided where the desk's paper was open, as docs/SCOPE.md has it, each by a short list.
+//! What was decided where the desk's documents were open, as docs/SCOPE.md has it, each by a short list.
 
 use model::answer::messages;
 use model::day::*;

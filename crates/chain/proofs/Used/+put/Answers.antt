@@ -1,6 +1,6 @@
 -- `Used::put` goes to a request numbered lower, and has room for the rest. Rests on Walk and Entries.
-use Rattle.std.proofs.Common.{◌≡◌, sym, ◌∙◌, arith, Some}
-use Rattle.chain.specs.Laws.Walk.{Step, step_back}
+use Rattle.std.proofs.Common.{sym, ◌∙◌, arith}
+use Rattle.chain.specs.Laws.Walk.{step_back}
 use Rattle.chain.specs.Laws.Entries.{first_room, rest_room, put_more}
 use Rattle.chain.proofs.Used.+put.Goals as goal
 

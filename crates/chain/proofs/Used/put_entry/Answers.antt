@@ -1,9 +1,8 @@
 -- `Used::put_entry` meets its contract: its stores are the entry's parts, one behind the other. Rests on Entries.
 use Rattle.std.proofs.Common.{ℕ, ◌≡◌, ◌+◌, ◌-◌, ◌≤◌, List, [], ◌∷◌, ◌++◌, length, get_or, take, drop, set, ap, ◌∙◌, arith, rules}
 use Rattle.prelude.specs.Span.{splice, length_splice, set_splice, part_splice, part_span}
-use Rattle.store.specs.Layout.{header·requests, most_requests, request_base, request·clordid, request·clordidLen}
+use Rattle.store.specs.Layout.{header·requests, most_requests, request_base, request·clordid, request·clordidLen, request·outcome}
 use Rattle.store.specs.Laws.Stored.{count_most}
-use Rattle.store.specs.Book.{outcome_at}
 use Rattle.chain.specs.Laws.Walk.{kept_long}
 use Rattle.chain.specs.Laws.Entries.{entry_written}
 use Rattle.chain.proofs.Used.put_entry.Goals as goal
@@ -27,6 +26,6 @@ returns c =
     let list = c.args.list.now in
     three list _ at _ _ (search rules) c.requires
     ∙ ap
-    (λ (l : List ℕ). splice (splice (splice list at (get_or b (request_base u.k + request·clordidLen) 0 ∷ [])) (at + 1) l) (at + 1 + 32) (outcome_at b u.k ∷ []))
+    (λ (l : List ℕ). splice (splice (splice list at (get_or b (request_base u.k + request·clordidLen) 0 ∷ [])) (at + 1) l) (at + 1 + 32) (get_or b (request_base u.k + request·outcome) 0 ∷ []))
     (c.copy_from_slice.ensures.after ∙ part_span b (request_base u.k + request·clordid) 32)
     ∙ entry_written b u.k list at (kept_long b u.book.kept) (omega (arith, u.used, count_most header·requests most_requests b)) c.requires

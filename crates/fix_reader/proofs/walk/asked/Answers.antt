@@ -7,4 +7,4 @@ use Rattle.fix_reader.proofs.walk.asked.Goals as goal
 pub value_fits-requires : goal.value_fits-requires
 value_fits-requires c =
     let f = c.args.f.now in
-    (c.requires, ap (every is_print) c.value.ensures ∙ part_prints f.message.now f.table.now.at f.table.now.length f.cut.placed c.args.i)
+    (c.requires, ap (every is_print) c.value.ensures ∙ part_prints f.message.now f.table.now.at f.table.now.length f.cut.placed c.args.t.next)

@@ -2,7 +2,7 @@
 use Rattle.std.proofs.Common.{◌≡◌, ℕ, ◌<◌, true, ◌&&◌, ◌||◌, ltb, sym, refl, ◌∙◌, subst, arith, ne_eqb}
 use Rattle.prelude.specs.Number.{bound}
 use Rattle.bits.specs.Map.{bit}
-use Rattle.format.specs.Format.{range, in_range, required, allowed}
+use Rattle.format.specs.Format.{size, range, in_range, required, allowed}
 use Rattle.decimal.specs.Decimal.{decimal, number_in}
 use Rattle.fix_words.specs.Lists.{same}
 use Rattle.fix_words.specs.Rows.{in_rows}
@@ -35,5 +35,5 @@ returns-in-Number c =
     let v = a.v.now in
     let n : ℕ = number_in v in
     c.number_fits.ensures
-    ∙ (λ i. ltb n (bound (c.size_of.ensures.0 i)) && (same (decimal (sym t.places i) n) v && in_range (range a.b) n))
+    ∙ (λ i. ltb n (bound (size a.b)) && (same (decimal (sym t.places i) n) v && in_range (range a.b) n))
     ∙ sym (number_fits a.kind.number a.b a.name.now v (stand s a.b refl) (bytes_all v (λ k. (c.type_inv.v k).fits)) t.plain t.text t.short (ne_eqb a.b 2 (omega arith)) t.other (ne_eqb a.b 25 (omega arith)) (ne_eqb a.b 27 (omega arith)))

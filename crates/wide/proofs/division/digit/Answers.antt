@@ -12,7 +12,7 @@ returns-then-want-have c =
     let g = the (goal.at.returns-then-want-have c).Start in
     record { whole = omega (arith, g.balance); below = omega (arith, g.have) }
 
--- the guess is at least 1 where it lacks, and at least 2 where it lacks more than the divisor
+-- the guess is at least 1 if it lacks something, and at least 2 if it lacks more than the divisor
 pub returns-then-lack-d : goal.returns-then-lack-d
 returns-then-lack-d c =
     let a = c.args in

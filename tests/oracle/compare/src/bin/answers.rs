@@ -1,4 +1,4 @@
-//! Writes generated lists with the answers of the static library, or of the stand-in where none is
+//! Writes generated lists with the answers of the static library, or of the stand-in if none is
 //! linked, for tests/fix: `answers FILE LISTS`, in the format of stored.rs.
 
 use compare::entries::{Entries, library};

@@ -1,5 +1,5 @@
 //! Times, on the same events and in one process, the Rust's own handling, the Rust with its own
-//! `check()` after each event, and the library where one is linked: on realistic lists, and by the
+//! `check()` after each event, and the library if one is linked: on realistic lists, and by the
 //! size of the book. The Rust is given its inputs ready made; the library reads records and writes
 //! answers. Times are the thread's own, the best of all rounds. `bench [ROUNDS]`.
 
@@ -189,7 +189,7 @@ impl Bench {
         beside("a return to it", &|entries| mark(Entries::return_to_mark, entries));
     }
 
-    /// The library's time for a call, where one is linked.
+    /// The library's time for a call, if one is linked.
     fn ported(&self, mut round: impl FnMut(&Entries)) -> Option<f64> {
         let entries = self.entries.as_ref()?;
         Some(self.best(CALLS, || (), |()| round(entries)))

@@ -1,4 +1,4 @@
-//! Holds the `check` of the library, or of the stand-in where none is linked, against the second
+//! Compares the `check` of the library, or of the stand-in if none is linked, with the second
 //! decision of the rules: on books that events leave, damaged in every way of damages.rs, on random
 //! books built field by field, and on books of other lengths. `check [ONE_IN [SEED]]` shows one
 //! damage of so many; `check --faults` leaves each rule out in turn and demands that it is missed.

@@ -1,4 +1,4 @@
-//! Compares the static library, or the stand-in where none is linked, with the model.
+//! Compares the static library, or the stand-in if none is linked, with the model.
 //! `compare [LISTS [EVENTS [FIRST_SEED]]]` compares, on lists from a start and on as many short ones
 //! from books that were built field by field; `compare --faults [LISTS]` plants each fault in the
 //! stand-in and demands that the lists find it.
@@ -73,7 +73,7 @@ fn compare_lists(lists: u64, events: usize, first: u64) -> ExitCode {
     ExitCode::SUCCESS
 }
 
-/// Lists about 3 and days on which venues send it; nothing where one differs.
+/// Lists about 3 and days on which venues send it; nothing if one differs.
 fn compare_days(entries: &Entries, events: usize, seeds: Range<u64>) -> Option<Tally> {
     let mut tally = Tally::default();
     let drawn = seeds.map(|seed| {
@@ -92,7 +92,7 @@ fn compare_days(entries: &Entries, events: usize, seeds: Range<u64>) -> Option<T
     Some(tally)
 }
 
-/// Short lists from books that were built; nothing where one differs.
+/// Short lists from books that were built; nothing if one differs.
 fn compare_built_books(entries: &Entries, seeds: Range<u64>) -> Option<Tally> {
     let mut tally = Tally::default();
     for seed in seeds {

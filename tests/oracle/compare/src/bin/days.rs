@@ -1,7 +1,7 @@
 //! Writes days for the day program: `days DIR` makes, for each, `NAME.stdin`, the records
 //! each after a 2-byte length, and `NAME.stdout`, what the program must print on it. The book starts
 //! with the setting 10,000, the answer buffer has 1,024 bytes. `days --check STDIN STDOUT` fails
-//! where the model would print something else on a stored input.
+//! if the model would print something else on a stored input.
 
 use std::path::Path;
 use std::process::ExitCode;

@@ -1,4 +1,4 @@
-//! Two clients, either order, on the static library, or on the stand-in where none is linked.
+//! Two clients, either order, on the static library, or on the stand-in if none is linked.
 //! `exchange [SEEDS [FIRST_SEED]]` runs pairs of records on a reached and a built book of each seed;
 //! `exchange --faults [SEEDS]` plants faults in the stand-in and demands that pairs find them.
 
@@ -38,7 +38,7 @@ fn main() -> ExitCode {
         let (all, part) = pairs.outside[word as usize];
         println!("  of pairs {what} {part} of {all} part");
     }
-    // Each word is seen to be needed, where enough is run.
+    // Each word is seen to be needed, if enough is run.
     if seeds >= 100 && pairs.outside.iter().any(|(_, part)| *part == 0) {
         println!("exchange: of the pairs outside a word none parts");
         return ExitCode::FAILURE;

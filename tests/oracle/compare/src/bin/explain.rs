@@ -1,5 +1,5 @@
-//! Holds what the host's crate says of a book and of a record (`explain`, `explain_record`) against `check` and `event` of the library,
-//! or of the stand-in where none is linked: on the damaged books of `check`, and on records that are spoiled, cut and flipped.
+//! Compares what the host's crate says of a book and of a record (`explain`, `explain_record`) with `check` and `event` of the library,
+//! or of the stand-in if none is linked: on the damaged books of `check`, and on records that are spoiled, cut and flipped.
 //! `explain [ONE_IN [RECORDS]]` shows one damage of so many, and so many records.
 
 use std::process::ExitCode;

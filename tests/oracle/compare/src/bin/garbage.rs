@@ -1,4 +1,4 @@
-//! Calls the entries of the library, or of the stand-in where none is linked, with whatever a user
+//! Calls the entries of the library, or of the stand-in if none is linked, with whatever a user
 //! may pass: books of any length, random and damaged books, records that are cut, spoiled or random,
 //! answer buffers of any length. Each call must give what docs/SCOPE.md, Questions, says, in their
 //! order; a refused one has written nothing, and no call writes beside what it was lent.
@@ -57,7 +57,7 @@ impl Buffer {
         &mut self.0[GUARD..end]
     }
 
-    /// What was lent, where the guards stand.
+    /// What was lent, if the guards stand as they were.
     fn back(&self) -> Result<&[u8], String> {
         let (before, rest) = self.0.split_at(GUARD);
         let (lent, behind) = rest.split_at(rest.len() - GUARD);
@@ -225,7 +225,7 @@ impl<'a> User<'a> {
         }
     }
 
-    /// Records drawn for the book, or for an empty one where it keeps no rules.
+    /// Records drawn for the book, or for an empty one if it does not keep its rules.
     fn records(&mut self, lent: &Lent, profile: &'static Profile) -> Vec<Vec<u8>> {
         let machine = lent.machine().cloned().unwrap_or_else(|| Machine::start(9));
         let mut generator = Generator::on(machine, profile, self.random.next());

@@ -1,5 +1,5 @@
 //! Judges every message of generated lists by FIX 4.4 and prints each class of objection with how
-//! often it came and the smallest list found. `judge [LISTS]`; it fails where a class is not in
+//! often it came and the smallest list found. `judge [LISTS]`; it fails if a class is not in
 //! the list of those that docs/DIFFERENCES.md names.
 
 use std::collections::BTreeMap;

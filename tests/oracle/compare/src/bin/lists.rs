@@ -54,7 +54,7 @@ fn main() -> ExitCode {
     ExitCode::FAILURE
 }
 
-/// Runs the list under watch; the place and what does not hold, where something does not.
+/// Runs the list under watch; the place and what does not hold, if something does not.
 fn watch(list: &List, mut tally: Option<&mut Tally>) -> Result<(), (usize, String)> {
     let mut watched = Watched::start(list.setting);
     for (at, item) in list.items.iter().enumerate() {

@@ -1,4 +1,4 @@
-//! Compares the marks of the static library, or of the stand-in where none is linked, with the model: lists that mix events
+//! Compares the marks of the static library, or of the stand-in if none is linked, with the model: lists that mix events
 //! with marks set and returned to. `marks [LISTS [STEPS [FIRST_SEED]]]` compares; `marks --faults [LISTS]` plants each fault
 //! in the stand-in, and each false reading in what is counted since a return, and demands that the lists find it.
 

@@ -1,5 +1,5 @@
 //! Writes tests/prices/vectors.bin: stored answers of the Rust's `fill_price`, asked through the
-//! book's own report handling and each held against the exact fraction; at an exact half the fraction
+//! book's own report handling and each compared with the exact fraction; at an exact half the fraction
 //! alone, rounded up. `prices FILE` writes the file, `prices --check FILE` compares one with what is
 //! answered now.
 
@@ -130,7 +130,7 @@ fn fills(random: &mut Random) -> Vec<Fill> {
     fills
 }
 
-/// Every choice of 0, 1 and the most, where a report could bring it.
+/// Every choice of 0, 1 and the most, if a report could bring it.
 fn limits() -> Vec<Fill> {
     let (qtys, prices) = ([0, 1, MAX_QTY], [0, 1, MAX_PRICE]);
     let mut fills = Vec::new();

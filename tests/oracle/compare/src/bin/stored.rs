@@ -1,6 +1,6 @@
 //! Stored lists of the model's answers. `stored --fixed FILE` writes the list that is committed,
 //! chosen for coverage; `stored --many LISTS FILE` writes many lists, for the mutations;
-//! `stored FILE...` replays files and fails where the model answers otherwise now.
+//! `stored FILE...` replays files and fails if the model answers otherwise now.
 
 use std::process::ExitCode;
 

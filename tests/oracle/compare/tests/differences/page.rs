@@ -194,7 +194,7 @@ fn reported_codes(downstream: &str, codes: &str, said: &[(&str, &str)]) -> Draft
     said_by(reported(downstream, exec_type, Some(status.as_bytes()[0]), said), said)
 }
 
-/// A report; quantities in shares and prices in units of money, 0 where not said.
+/// A report; quantities in shares and prices in units of money, 0 if not said.
 fn reported(downstream: &str, exec_type: &str, status: Option<u8>, said: &[(&str, &str)]) -> Draft {
     let of = |name: &str| said.iter().find(|part| part.0 == name).map_or(0, |part| number(part.1));
     let filled = Filled {

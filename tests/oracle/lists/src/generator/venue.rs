@@ -82,7 +82,7 @@ impl Generator {
         *self.random.pick(usual)
     }
 
-    /// What is said instead where the venue ends the order's day, says so again, or goes on after it.
+    /// What is said instead if the venue ends the order's day, says so again, or goes on after it.
     fn ends_day(&mut self, order: &Order, said: (u8, Option<u8>)) -> (u8, Option<u8>) {
         if self.profile.days == 0 || !self.random.chance(self.profile.days) {
             return said;

@@ -1,2 +1,0 @@
--- Proof text: what a lookup gives.
-pub mod Found
