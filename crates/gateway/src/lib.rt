@@ -45,16 +45,16 @@ pub fn start(book: &mut [u8], setting: u32) -> u32
 pub fn event(book: &mut [u8], record: &[u8], answer: &mut [u8]) -> u32
     ensures { outcome result book.new answer.new ≡ event_of book.old «record».now answer.old }
 {
-    let step = match step::call_of(book, record, answer.len()) {
-        Ok(step) => step,
+    let c = match step::call_of(book, record, answer.len()) {
+        Ok(c) => c,
         Err(refusal) => return refusal.number(),
     };
-    let c = step.change;
     let client = c.order.client;
+    let origin = index::origin_of(book, client, c.requests.request.origclordid);
     let leaves = order::leaves_qty(c.order);
     let opening = index::opening(book, c.place, client, leaves);
     write::place_order(book, c.place, c.order);
-    write::place_requests(book, step.origin, c.requests);
+    write::place_requests(book, origin, c.requests);
     write::place_open(book, c.place, opening);
     let out = c.output;
     let _ = records::write_answer(

@@ -95,7 +95,7 @@ pub fn needs_of(book: &[u8], record: &[u8]) -> Needs
     ensures { result ≡ needs_call book.now «record».now }
 {
     match step::call_of(book, record, ANSWER) {
-        Ok(step) => needed(step.change.output, step.change.requests.added),
+        Ok(c) => needed(c.output, c.requests.added),
         Err(refusal) => refused(refusal.number()),
     }
 }

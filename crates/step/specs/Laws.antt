@@ -1,5 +1,4 @@
 pub mod Asked
 pub mod Found
-pub mod Linked
 pub mod Steps
 pub mod Taken

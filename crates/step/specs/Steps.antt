@@ -1,8 +1,6 @@
 -- The parts of a step as the code takes them. Rests on machine's Machine; that together they are machine's is in Laws.Steps.
-use Rattle.std.specs.Prelude.{ℕ, ◌-◌, Bool, ◌&&◌, ◌||◌, Result, Ok, Err, eqb, leb, ltb, length}
+use Rattle.std.specs.Prelude.{ℕ, ◌-◌, Bool, ◌&&◌, ◌||◌, eqb, leb, ltb, length}
 use Rattle.prelude.specs.Cases.{if◌then◌otherwise◌}
-use Rattle.prelude.specs.declared.Refusal.{Refusal}
-use Rattle.prelude.specs.Refusal.{number_of}
 use Rattle.store.specs.declared.Order.{Order}
 use Rattle.store.specs.declared.Request.{Request}
 use Rattle.store.specs.Book.{Book, request_in}
@@ -11,22 +9,12 @@ use Rattle.store.specs.Requests.{no_request}
 use Rattle.machine.specs.declared.Findings.{Findings}
 use Rattle.machine.specs.declared.Change.{Change}
 use Rattle.machine.specs.Constants.{failed_to_send}
-use Rattle.machine.specs.Changes.{Event, refusing}
+use Rattle.machine.specs.Changes.{Event}
 use Rattle.machine.specs.Amend.{cancel, replace, venue_cancel_reject, send_failed, unsent}
 use Rattle.machine.specs.Report.{unknown_at_venue}
-use Rattle.machine.specs.Machine.{order_link, amending, on_report, nothing, unknown_report, text_note}
-use Rattle.step.specs.declared.Step.{Step}
-
--- the change of a step, or why the event is not taken, as calls return it
-abbrev pub change_in : Result Step Refusal → Change
-change_in (Ok s) = s.change
-change_in (Err r) = refusing (number_of r)
+use Rattle.machine.specs.Machine.{amending, on_report, nothing, unknown_report, text_note}
 
 -- ---- what an event finds
-
--- the link of the order of the request of a link, 0 for none
-unfoldable pub order_of_link : Book → (link : ℕ) → ℕ
-order_of_link b link = if eqb link 0 then 0 otherwise order_link b (link - 1)
 
 -- the request of a link, 0 for none
 unfoldable pub request_at_link : Book → ℕ → Request

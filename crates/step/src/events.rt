@@ -3,15 +3,12 @@
 // `refusal` is 0: machine's definitions keep the reason there, which is an `Err` here. Rests on rules, report
 // and loads.
 ghost use Rattle.std.specs.Prelude.{◌≡◌, IfOk};
-ghost use Rattle.prelude.specs.Cases.{if◌then◌otherwise◌};
 ghost use Rattle.store.specs.Book.{book_of};
-ghost use Rattle.index.specs.Index.{origin_of};
-ghost use Rattle.machine.specs.Orders.{is_empty};
-ghost use Rattle.machine.specs.Taken.{change_in as alone_in};
-ghost use Rattle.machine.specs.Machine.{order_of, unused, book_order, nothing, unknown_report, text_note, on_request, on_name, change_of, step_of};
-ghost use Rattle.step.specs.Steps.{change_in, amended, handled, unknown_of, has_room_for};
+ghost use Rattle.machine.specs.Taken.{change_in};
+ghost use Rattle.machine.specs.Machine.{unused, book_order, nothing, unknown_report, text_note, on_request, on_name, change_of, step_of};
+ghost use Rattle.step.specs.Steps.{amended, handled, unknown_of, has_room_for};
 
-use crate::{Step, loads};
+use crate::loads;
 use amend::{Target, booking, rejects};
 use format::codes;
 use machine::{Change, Note};
@@ -34,7 +31,7 @@ fn is_unused(book: &Kept<'_>, e: Record) -> bool
 // Event 1.
 #[tactic(auto, using(store::specs::Laws::Stored::count_most, store::specs::Laws::Stored::length_orders, store::specs::Laws::Stored::length_requests))]
 fn book_order(book: &Kept<'_>, e: Record) -> Result<Change, Refusal>
-    ensures is { alone_in result ≡ book_order (book_of book.now.bytes.now) e }
+    ensures is { change_in result ≡ book_order (book_of book.now.bytes.now) e }
     ensures taken { IfOk result (λ c. c.refusal ≡ 0) }
 {
     let place = loads::link_of(store::order_count(book.bytes));
@@ -43,13 +40,13 @@ fn book_order(book: &Kept<'_>, e: Record) -> Result<Change, Refusal>
     booking::book_order(place, link, fresh, e)
 }
 
-// Events 2 and 3, of the order of link `place`.
+// Events 2 and 3.
 #[tactic(auto, unfolding(crate::specs::Steps::amended), using(orders::specs::Laws::Choices::choices, crate::specs::Laws::Steps::amends, crate::specs::Laws::Taken::cancel_taken))]
-fn amend_order(book: &Kept<'_>, place: u16, e: Record) -> Result<Change, Refusal>
-    requires { place ≡ order_of (book_of book.now.bytes.now) e.client e.ids.origclordid }
-    ensures is { alone_in result ≡ amended (book_of book.now.bytes.now) e }
+fn amend(book: &Kept<'_>, e: Record) -> Result<Change, Refusal>
+    ensures is { change_in result ≡ amended (book_of book.now.bytes.now) e }
     ensures taken { IfOk result (λ c. c.refusal ≡ 0) }
 {
+    let place = loads::order_of(book, e.client, e.ids.origclordid);
     let order = loads::order_at_link(book.bytes, place);
     let findings = loads::findings_at(book.bytes, place, order);
     let used = loads::order_of(book, e.client, e.ids.clordid);
@@ -65,23 +62,6 @@ fn amend_order(book: &Kept<'_>, place: u16, e: Record) -> Result<Change, Refusal
     } else {
         amend::replace(&target, e)
     }
-}
-
-// Events 2 and 3. The request of the OrigClOrdID is looked up once: it gives the order, and the origin of a
-// request that is added with that OrigClOrdID.
-#[tactic(auto, using(orders::specs::Laws::Choices::choices, crate::specs::Laws::Steps::order_found))]
-fn amend(book: &Kept<'_>, e: Record) -> Result<Step, Refusal>
-    ensures is { change_in result ≡ amended (book_of book.now.bytes.now) e }
-    ensures taken { IfOk result (λ s. s.change.refusal ≡ 0) }
-    ensures origin { IfOk result (λ s. s.origin ≡ (if is_empty s.change.requests.request.origclordid then 0 otherwise origin_of (book_of book.now.bytes.now) e.client e.ids.origclordid)) }
-{
-    let origin = index::origin_of(book.bytes, e.client, e.ids.origclordid);
-    let place = loads::order_of_link(book, origin);
-    let change = amend_order(book, place, e)?;
-    if change.requests.request.origclordid.len == 0 {
-        return Ok(Step { change, origin: 0 });
-    }
-    Ok(Step { change, origin })
 }
 
 fn nothing() -> Change
@@ -165,27 +145,16 @@ fn on_name(book: &Kept<'_>, e: Record) -> Change
     }
 }
 
-// Events 2 and 3 alone may add a request with an OrigClOrdID.
-#[tactic(auto, using(crate::specs::Laws::Steps::kinds, crate::specs::Laws::Taken::request_taken, crate::specs::Laws::Taken::name_taken, crate::specs::Laws::Linked::links))]
-fn change_of(book: &Kept<'_>, e: Record) -> Result<Step, Refusal>
+#[tactic(auto, using(crate::specs::Laws::Steps::kinds, crate::specs::Laws::Taken::request_taken, crate::specs::Laws::Taken::name_taken))]
+fn change_of(book: &Kept<'_>, e: Record) -> Result<Change, Refusal>
     ensures is { change_in result ≡ change_of (book_of book.now.bytes.now) e }
-    ensures taken { IfOk result (λ s. s.change.refusal ≡ 0) }
-    ensures linked { IfOk result (λ s. s.origin ≡ origin_of (book_of book.now.bytes.now) s.change.order.client s.change.requests.request.origclordid) }
+    ensures taken { IfOk result (λ c. c.refusal ≡ 0) }
 {
     match e.kind {
-        codes::EVENT_BOOK => Ok(Step {
-            change: book_order(book, e)?,
-            origin: 0,
-        }),
+        codes::EVENT_BOOK => book_order(book, e),
         codes::EVENT_CANCEL | codes::EVENT_REPLACE => amend(book, e),
-        codes::EVENT_REPORT..=codes::EVENT_SEND_AGAIN => Ok(Step {
-            change: on_request(book, e),
-            origin: 0,
-        }),
-        _ => Ok(Step {
-            change: on_name(book, e),
-            origin: 0,
-        }),
+        codes::EVENT_REPORT..=codes::EVENT_SEND_AGAIN => Ok(on_request(book, e)),
+        _ => Ok(on_name(book, e)),
     }
 }
 
@@ -200,17 +169,15 @@ fn has_room(book: &[u8], place: u16, added: u8) -> bool
         && (added == 0 || m < layout::MOST_REQUESTS)
 }
 
-// The event's step, or why it is refused.
+// The event's change, or why it is refused.
 #[tactic(auto, using(crate::specs::Laws::Steps::stepped))]
-pub(crate) fn step_of(book: &Kept<'_>, e: Record) -> Result<Step, Refusal>
+pub(crate) fn step_of(book: &Kept<'_>, e: Record) -> Result<Change, Refusal>
     ensures is { change_in result ≡ step_of (book_of book.now.bytes.now) e }
-    ensures taken { IfOk result (λ s. s.change.refusal ≡ 0) }
-    ensures linked { IfOk result (λ s. s.origin ≡ origin_of (book_of book.now.bytes.now) s.change.order.client s.change.requests.request.origclordid) }
+    ensures taken { IfOk result (λ c. c.refusal ≡ 0) }
 {
-    let step = change_of(book, e)?;
-    let c = step.change;
+    let c = change_of(book, e)?;
     if !has_room(book.bytes, c.place, c.requests.added) {
         return Err(Refusal::FullBook);
     }
-    Ok(step)
+    Ok(c)
 }

@@ -3,10 +3,8 @@
 #![tactic(auto)]
 
 ghost use Rattle.std.specs.Prelude.{◌≡◌, IfOk};
-ghost use Rattle.store.specs.Book.{book_of};
-ghost use Rattle.index.specs.Index.{origin_of};
+ghost use Rattle.machine.specs.Taken.{change_in};
 ghost use Rattle.step.specs.Entries.{call_of};
-ghost use Rattle.step.specs.Steps.{change_in};
 
 use machine::Change;
 use prelude::Refusal;
@@ -18,21 +16,12 @@ mod loads; // records in use, and what an event's handling needs of the book
 // What an answer buffer has at least.
 pub const SHORTEST_ANSWER: usize = 1024;
 
-// A change, and the link of the request that the OrigClOrdID of the one added names, 0 for none: index
-// stores it beside that request.
-#[derive(Clone, Copy)]
-pub struct Step {
-    pub change: Change,
-    pub origin: u16,
-}
-
-// The step that the event in `record` is on the book, or the first question that is answered with no;
-// `room` is the length of the answer buffer.
+// The change that the event in `record` makes of the book, or the first question that is answered
+// with no; `room` is the length of the answer buffer.
 #[tactic(auto, using(crate::specs::Laws::Asked::questions))]
-pub fn call_of(book: &[u8], record: &[u8], room: usize) -> Result<Step, Refusal>
+pub fn call_of(book: &[u8], record: &[u8], room: usize) -> Result<Change, Refusal>
     ensures is { change_in result ≡ call_of book.now «record».now room }
-    ensures taken { IfOk result (λ s. s.change.refusal ≡ 0) }
-    ensures linked { IfOk result (λ s. s.origin ≡ origin_of (book_of book.now) s.change.order.client s.change.requests.request.origclordid) }
+    ensures taken { IfOk result (λ c. c.refusal ≡ 0) }
 {
     let book = Kept::new(book)?;
     if room < SHORTEST_ANSWER {

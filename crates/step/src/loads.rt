@@ -4,7 +4,7 @@ ghost use Rattle.std.specs.Prelude.{◌≡◌, ◌+◌, ◌≤◌};
 ghost use Rattle.store.specs.Layout.{most_requests};
 ghost use Rattle.store.specs.Book.{book_of, order_in, request_in};
 ghost use Rattle.machine.specs.Machine.{order_link, order_of, order_at_link};
-ghost use Rattle.step.specs.Steps.{order_of_link, request_at_link, findings_at, is_full};
+ghost use Rattle.step.specs.Steps.{request_at_link, findings_at, is_full};
 
 use machine::Findings;
 use prelude::Text;
@@ -87,17 +87,6 @@ fn order_link(book: &Kept<'_>, k: usize) -> u16
     ensures { result ≡ order_link (book_of book.now.bytes.now) k }
 {
     request_in(book.bytes, k).order + 1
-}
-
-// The link of the order of the request of a link, 0 for none.
-#[tactic(auto, unfolding(crate::specs::Steps::order_of_link), using(orders::specs::Laws::Choices::choices))]
-pub(crate) fn order_of_link(book: &Kept<'_>, link: u16) -> u16
-    ensures { result ≡ order_of_link (book_of book.now.bytes.now) link }
-{
-    match link {
-        0 => 0,
-        _ => order_link(book, usize::from(link - 1)),
-    }
 }
 
 // The link of the order in which the client used the ClOrdID, or 0.
