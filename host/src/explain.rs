@@ -32,10 +32,10 @@ listed! {
         Pending = 9 "pending terms name an unanswered client's replace of that order",
         Amendments = 10 "an order's amendments are the number of its requests less one",
         Numbers = 11 "downstream ClOrdIDs are the name, then the name with -1, -2 and so on, the first alone a new order",
-        Tries = 12 "a gateway cancel's tries are at most 3, and at most 2 where it is unsent",
+        Tries = 12 "a gateway cancel's tries are at most 3, and at most 2 if it is unsent",
         InFlight = 13 "an unanswered gateway's cancel of a live order is its latest cancel, tried, sent and not stuck",
         OpenQuantity = 14 "what is stored for a client is its open quantity",
-        Outcomes = 15 "a request's outcome is 0 where it is unanswered, and 1, 2 or 3 where it is answered",
+        Outcomes = 15 "a request's outcome is 0 if it is unanswered, and 1, 2 or 3 if it is answered",
         Origins = 16 "an OrigClOrdID names an earlier request of its order, and the stored link leads to it",
     }
 }

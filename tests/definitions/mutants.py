@@ -16,8 +16,11 @@ ONLY = {"Exchange": {"open_of"}, "History": {"comes_to", "messages_of", "left_by
 SIGNATURE = re.compile(r"(?:unfoldable|abbrev) pub (\S+) :")
 TOKEN = re.compile(r"\.[a-z]\w*|[^\W\d][\w']*|\d+|&&|\|\||[-+;()]")
 
-# A token for another, and a field for one of the same type that stands beside it.
+# A token for another, and a field for one of the same type that stands beside it. A refusal, and a kind of event: for each the next one, which is the number that is one more.
+REFUSALS = "BadBook ShortAnswer BadRecord OutOfRange InUse WrongPrice FullBook ShortPage".split()
+KINDS = ["event_" + kind for kind in "book cancel replace report unknown cancel_reject send_failed send_again gateway_cancel".split()]
 SWAPS = {"eqb": "leb", "ltb": "leb", "leb": "ltb", "&&": "||", "||": "&&", "true": "false", "false": "true", "not": "", "+": "-", "-": "+"}
+SWAPS |= {name: more for names in (REFUSALS, KINDS) for name, more in zip(names, names[1:], strict=False)}
 FIELDS = {
     ".cumqty": ".avgpx", ".lastqty": ".cumqty", ".lastpx": ".avgpx", ".avgpx": ".cumqty", ".qty": ".price", ".price": ".qty",
     ".ordtype": ".timeinforce", ".timeinforce": ".ordtype", ".side": ".ordtype", ".exectype": ".status", ".status": ".cumqty",
@@ -29,7 +32,8 @@ FIELDS = {
     ".outcome": ".answered", ".accepted": ".refused", ".refused": ".failed_to_send", ".failed_to_send": ".accepted",
 }  # fmt: skip
 # The same where what stands before it decides: None where there is no neighbour of its type.
-BEHIND = {("c", ".place"): None, ("q", ".answered"): None, ("r", ".status"): None, ("r", ".venueorderid"): None, ("e", ".reason"): ".verdict", ("r", ".outcome"): ".status"}
+BEHIND = {("c", ".place"): None, ("change", ".place"): None, ("q", ".answered"): None, ("request", ".answered"): None, ("e", ".reason"): ".verdict", ("event", ".reason"): ".verdict"}
+BEHIND |= {("refused", ".status"): None, ("refused", ".venueorderid"): None, ("refused", ".outcome"): ".status"}
 # What returns its last argument with something done to it, and how many arguments it takes: the step is left out.
 STEPS = {
     "alarming": 2, "answering": 3, "superseding": 2, "adding": 2, "telling": 2, "with_order": 2, "stuck": 1, "send_gateway_cancel": 2, "resume_gateway_cancel": 2,
@@ -38,14 +42,14 @@ STEPS = {
     "refused_note": 1, "unless_short": 3, "status_at": 2, "as_asked": 2, "one_more": 2, "next_sequence": 1, "limit_price": 2, "or_own": 2, "verdict_text": 1, "max": 2,
     "answer_link": 3, "answered": 2,
 }  # fmt: skip
-# A condition more, of the order or of the venue's event that a definition of these files is given.
-ASKS = {
-    "o": ["ltb 0 o.state.cumqty", "eqb o.state.cumqty 0", "eqb o.terms.timeinforce 0", "eqb o.links.cancel 0"],
-    "e": ["eqb e.exec.lastqty 0", "ltb 0 e.exec.cumqty", "eqb e.reason 0", "eqb e.text.len 0"],
-}
+# A condition more, of the order or of the venue's event that a definition of these files is given, by the names that it may have there.
+OF_ORDER = ["ltb 0 {}.state.cumqty", "eqb {}.state.cumqty 0", "eqb {}.terms.timeinforce 0", "eqb {}.links.cancel 0"]
+OF_EVENT = ["eqb {}.exec.lastqty 0", "ltb 0 {}.exec.cumqty", "eqb {}.reason 0", "eqb {}.text.len 0"]
+ORDERS, EVENTS = ("o", "order"), ("e", "event")
+ASKS = {name: [ask.format(name) for ask in asks] for names, asks in ((ORDERS, OF_ORDER), (EVENTS, OF_EVENT)) for name in names}
 # The mutants in the order in which they come in a sweep: that of the hashes of their names as they were first spelled. Others come after them.
 ORDER = {line: n for n, line in enumerate((Path(__file__).resolve().parent / "order.txt").read_text(encoding="utf-8").splitlines())}
-ASKED = {"Amend": "o", "GatewayCancel": "o", "Machine": "o", "Orders": "o", "Report": "oe"}
+ASKED = {"Amend": ORDERS, "GatewayCancel": ORDERS, "Machine": ORDERS, "Orders": ORDERS, "Report": ORDERS + EVENTS}
 
 
 @dataclass(frozen=True)
@@ -75,14 +79,15 @@ class Mutant:
     def applied(self, text: str) -> str:
         """The file with this one place altered, and with every name that an alteration may need in scope."""
         altered = text[: self.start] + self.text + text[self.end :]
-        return imported(altered)
+        return imported(altered, self.text)
 
 
-def imported(text: str) -> str:
-    """The file with comparisons, connectives and sums in scope."""
-    for module, names in [
-        ("Rattle.std.specs.Prelude", ["ℕ", "◌+◌", "◌-◌", "Bool", "true", "false", "not", "◌&&◌", "◌||◌", "eqb", "leb", "ltb"]),
-    ]:
+def imported(text: str, new: str) -> str:
+    """The file with comparisons, connectives and sums in scope, and what stands in the altered place if it is the name of a refusal or of a kind of event."""
+    modules = [("Rattle.std.specs.Prelude", ["ℕ", "◌+◌", "◌-◌", "Bool", "true", "false", "not", "◌&&◌", "◌||◌", "eqb", "leb", "ltb"])]
+    modules += [("Rattle.prelude.specs.declared.Refusal.TheVariants", [new])] if new in REFUSALS else []
+    modules += [("Rattle.machine.specs.Constants", [new])] if new in KINDS else []
+    for module, names in modules:
         line = re.compile(rf"^use {re.escape(module)}\.\{{(.*)\}}$", re.MULTILINE)
         found = line.search(text)
         have = found.group(1).split(", ") if found else []
@@ -120,7 +125,7 @@ def constants(text: str, named: dict[str, str]) -> dict[str, str]:
     """Each number that the file imports by name from Constants or Codes, with the next of its import line that is another number."""
     following = {}
     for line in re.findall(r"^use Rattle\.\S*\.(?:Constants|Codes)\.\{(.*)\}$", text, re.MULTILINE):
-        names = [n for n in line.split(", ") if n in named]
+        names = [n for n in line.split(", ") if n in named and n not in KINDS]
         for k, name in enumerate(names):
             others = [n for n in names[k + 1 :] + names[:k] if named[n] != named[name]]
             following.update({name: n for n in others[:1]})
@@ -190,7 +195,7 @@ def exchanged(text: str, tokens: list[re.Match], k: int):
     if len(both) < 2 or both[0][3].split() == both[1][3].split():
         return
     (start, _, one, goes), (_, end, two, comes) = both
-    apart = [re.fullmatch(r"eqb (.*) \d+", " ".join(c.split())) for c in (one, two)]
+    apart = [re.fullmatch(r"eqb (.*) (?:\d+|event_\w+)", " ".join(c.split())) for c in (one, two)]
     if all(apart) and apart[0].group(1) == apart[1].group(1):
         return
     short = [" ".join(c.split()) for c in (one, two)]
@@ -272,7 +277,7 @@ def mutants_of(crate: str, module: str, text: str, following: dict[str, str]) ->
             continue
         tokens = list(TOKEN.finditer(text, start, end))
         places = [(a, b, new, " ".join(text[a:b].split()), new) for a, b, new in alterations(text, tokens, following)]
-        asked = [n for n in ASKED.get(module, "") if n in given]
+        asked = [n for n in ASKED.get(module, ()) if n in given]
         for first, last, put, old, new in places + list(larger(text, tokens, asked, f"{module}.{definition}")):
             key = (definition, f"{old} -> {new}")
             counted[key] = counted.get(key, 0) + 1

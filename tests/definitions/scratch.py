@@ -17,7 +17,7 @@ FACTS = [("wide", "Facts")]
 
 # Question 1 of each call, whether the book keeps its rules, is nine tenths of what a fact computes. It is cut out of a mutant's copy if
 # the rules are not what is altered.
-ASKED = "comes_to b (read_as e) = if rules b then step_of b e otherwise refusing 1"
+ASKED = "comes_to b (read_as e) = if rules b then step_of b e otherwise refusing (number_of BadBook)"
 CUT = "comes_to b (read_as e) = step_of b e"
 RULES = ("Rules", "Ranges", "History")
 

@@ -21,7 +21,7 @@ struct Price {
     source: u64,
 }
 
-#[link(name = "divisions", kind = "static")]
+#[link(name = "try_divisions", kind = "static")]
 unsafe extern "C" {
     fn divide_plain(n: u64, d: u64) -> u64;
     fn divide_long(low: u64, high: u64, d: u64) -> Words;

@@ -2,8 +2,11 @@
 
 - One version: both headers, host/Cargo.toml, desk/Cargo.toml, the first heading of CHANGELOG.md.
 - One version of the layout: docs/LAYOUT.md, gateway.h, host/src/layout.rs.
-- One table of groups: crates.txt has docs/ARCHITECTURE.md's headings and, under each, its crates in the same order; so many folders are in crates/.
-- The README is one screen, and has the gate's command; `n of N` in it is the number of crates that the day program rests on.
+- One table of groups: crates.txt has docs/ARCHITECTURE.md's headings and, under each, its crates in the same order; so many folders are in crates/;
+  README.md names the groups.
+- Twins in docs/ARCHITECTURE.md: each definition and each function that it names is in the file or the crate that it names.
+- The README is one screen, and has the gate's command; the number of crates is right there, in docs/USING.md and in CONTRIBUTING.md: all, and
+  those that the day program rests on.
 """
 
 import re
@@ -64,16 +67,50 @@ def rests_on(name):
     return len(seen)
 
 
-def readme():
+def twins():
+    """How many definitions and functions docs/ARCHITECTURE.md, Twins, names; each is where it says."""
+    section = re.search(r"^## Twins$(.*?)^## ", text("docs/ARCHITECTURE.md"), re.MULTILINE | re.DOTALL)
+    definitions, functions = set(), set()
+    for line in (section[1] if section else "").split("\n"):
+        cells = [cell.strip() for cell in line.strip("|").split("|")]
+        if len(cells) != 4 or not cells[0].endswith(".rs"):
+            continue
+        same = re.fullmatch(r"`(\w+)`", cells[2]), re.fullmatch(r"`(\w+)`", cells[3])
+        if all(same):
+            names = re.findall(r"`(\w+)`", cells[1])
+            definitions |= {(same[0][1], name) for name in names}
+            functions |= {(same[1][1], name) for name in names}
+        definitions |= set(re.findall(r"`([A-Z]\w*)\.(\w+)`", cells[2]))
+        functions |= set(re.findall(r"`([a-z]\w*)::(\w+)`", cells[3]))
+    for file, name in sorted(definitions):
+        place = Path("crates", "wide" if file == "Wide" else "machine", "specs", f"{file}.antt")
+        if not (place.is_file() and re.search(rf"^(?:\w+ )*{name} : ", text(place), re.MULTILINE)):
+            complaints.append(f"docs/ARCHITECTURE.md, Twins: {place} has no {name}")
+    for crate, name in sorted(functions):
+        if not any(re.search(rf"\bfn {name}\b", text(source)) for source in Path("crates", crate, "src").glob("**/*.rt")):
+            complaints.append(f"docs/ARCHITECTURE.md, Twins: crates/{crate}/src has no function {name}")
+    if not (definitions and functions):
+        complaints.append("docs/ARCHITECTURE.md: no table of twins")
+    return len(definitions) + len(functions)
+
+
+def readme(crates):
     page = text("README.md")
     if len(page.split("\n")) > SCREEN:
         complaints.append(f"README.md: {len(page.splitlines())} lines are more than a screen of {SCREEN}")
     if "`./test`" not in page:
         complaints.append("README.md: the gate's command, `./test`, is not named")
     day = rests_on("day")
-    for told in re.findall(r"^ *1 of (\d+): ", page, re.MULTILINE) or [0]:
-        if int(told) != day:
-            complaints.append(f"README.md: the day program rests on {day} crates, not {told}")
+    for path, pattern, number in [
+        ("README.md", r"^ *1 of (\d+): ", day),
+        ("README.md", r"proves (\d+) crates", day),
+        ("README.md", r"all (\d+) crates", crates),
+        ("docs/USING.md", r"`n of (\d+)`", day),
+        ("CONTRIBUTING.md", r"`n of (\d+)`", crates),
+    ]:
+        told = found(path, pattern)
+        if told and int(told) != number:
+            complaints.append(f"{path}: {number} crates, not {told}, are what {pattern} should give")
 
 
 def main():
@@ -89,15 +126,18 @@ def main():
     if list(here.items()) != list(there.items()):
         parted = [name for name in {*here, *there} if here.get(name) != there.get(name)] or ["their order"]
         complaints.append(f"crates.txt and docs/ARCHITECTURE.md have other groups: {', '.join(sorted(parted))}")
+    if "(" + "; ".join(here) + ")" not in text("README.md"):
+        complaints.append("README.md: it has not the groups of crates.txt: " + "; ".join(here))
     crates = sum(map(len, here.values()))
     if crates != len(list(Path("crates").iterdir())):
         complaints.append(f"crates.txt: {crates} crates in groups, and crates/ has others")
-    readme()
+    readme(crates)
+    named = twins()
     for complaint in complaints:
         print(complaint)
     if complaints:
         sys.exit(1)
-    print(f"docs: version {version}, layout {layout}, in each file that names them; {crates} crates in {len(here)} groups, as they are pictured")
+    print(f"docs: version {version}, layout {layout}, in each file that names them; {crates} crates in {len(here)} groups, as they are pictured; {named} twins are there")
 
 
 main()

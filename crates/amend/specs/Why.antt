@@ -1,4 +1,4 @@
--- Why a client's cancel or replace is refused: what each cause is told as, and what is told where there may be none. Rests on machine's Amend.
+-- Why a client's cancel or replace is refused: what each cause is told as, and what is told if there may be none. Rests on machine's Amend.
 use Rattle.std.specs.Prelude.{Result, Ok, Err}
 use Rattle.machine.specs.Constants.{too_late, unknown, already_pending, duplicate, other, text_cancelling, text_replace_pending, text_below_filled, text_blocked, text_duplicate, text_unknown_order, text_done, text_too_many, text_side_or_symbol}
 use Rattle.machine.specs.Amend.{passes, refusal, verdict_text}
@@ -18,7 +18,7 @@ reject_of TooMany = refusal other text_too_many
 reject_of SideOrSymbol = refusal other text_side_or_symbol
 reject_of (Verdict v) = refusal other (verdict_text v)
 
--- the machine's own, where what is not refused goes on to `own`
+-- the machine's own refusal; what is not refused goes on to `own`
 abbrev pub reject_or : Result Unit Why → (own : Reject) → Reject
 reject_or (Ok u) own = own
 reject_or (Err w) own = reject_of w

@@ -1,17 +1,19 @@
 // src/book/amend.rs, its first half: cancels and replaces, and what refuses them, as functions over
-// structs. Each equals its definition in machine's Amend. Rests on gateway_cancel and bits.
+// structs. Each equals its definition in machine's Amend. Rests on gateway_cancel.
 #![tactic(auto)]
 
 ghost use Rattle.std.specs.Prelude.{◌≡◌, Some, IfOk};
 ghost use Rattle.machine.specs.Orders.{limit_price};
 ghost use Rattle.machine.specs.Taken.{change_in};
-ghost use Rattle.machine.specs.Amend.{has, matches, amend_refusal, refuse, redelivered_report, already_taken, cancel_refusal, cancel_goes, cancel, or_own, price_of, check_replace, replace_refusal, new_terms, priced_right, new_pending, replace_goes, replace, number};
+ghost use Rattle.machine.specs.Changes.{has};
+ghost use Rattle.machine.specs.Amend.{matches, amend_refusal, refuse, redelivered_report, already_taken, cancel_refusal, cancel_goes, cancel, or_own, price_of, check_replace, replace_refusal, new_terms, priced_right, new_pending, replace_goes, replace, number};
 ghost use Rattle.machine.specs.declared.Reject.{Reject};
 ghost use Rattle.amend.specs.Why.{reject_of, reject_or, reject_in};
 
 use crate::why::Why;
 use format::{bit, codes};
 use machine::{Change, Findings, Note};
+use orders::change::has;
 use orders::{change, message, order, reasons};
 use prelude::{Refusal, Terms};
 use records::Record;
@@ -25,7 +27,7 @@ mod why; // why a cancel or replace is refused
 // What a client's cancel or replace finds: the order of its OrigClOrdID with what the handling needs
 // beside it, the link of the order that the client already used the ClOrdID for, 0 for none, and
 // whether the client has used as many ClOrdIDs as it may. A link and its 0 as the lookup's definition gives
-// them. Contracts name each part, as `t.now.used`: machine's definitions take them one by one, and the
+// them. Contracts name each part, as `target.now.used`: machine's definitions take them one by one, and the
 // theorems name those parameters.
 #[derive(Clone, Copy)]
 pub struct Target {
@@ -33,13 +35,6 @@ pub struct Target {
     pub order: Order,
     pub used: u16,
     pub full: bool,
-}
-
-// A bit of the event's map stands.
-pub fn has(e: Record, k: u32) -> bool
-    ensures { result ≡ has e k }
-{
-    bits::has(e.map, k)
 }
 
 // The event names the order's side and symbol.
@@ -52,36 +47,36 @@ fn matches(o: Order, e: Record) -> bool
 
 // The refusals that cancels and replaces share, in order.
 #[tactic(auto, unfolding(machine::specs::Amend::amend_refusal), using(orders::specs::Laws::Choices::choices))]
-fn check_shared(t: &Target, e: Record) -> Result<(), Why>
-    ensures { (own : Reject) → reject_or result own ≡ amend_refusal t.now.findings t.now.used t.now.full t.now.order e own }
+fn check_shared(target: &Target, e: Record) -> Result<(), Why>
+    ensures { (own : Reject) → reject_or result own ≡ amend_refusal target.now.findings target.now.used target.now.full target.now.order e own }
 {
-    if t.used != 0 {
+    if target.used != 0 {
         return Err(Why::Duplicate);
     }
-    if t.findings.place == 0 {
+    if target.findings.place == 0 {
         return Err(Why::UnknownOrder);
     }
-    if order::is_done(t.order.state.status) {
+    if order::is_done(target.order.state.status) {
         return Err(Why::Done);
     }
-    if t.full {
+    if target.full {
         return Err(Why::TooMany);
     }
-    if !matches(t.order, e) {
+    if !matches(target.order, e) {
         return Err(Why::SideOrSymbol);
     }
     Ok(())
 }
 
-// A refusal of ours, told to the client. Where there is no order its status is Rejected.
-fn refuse(t: &Target, responseto: u8, e: Record, why: Why) -> Change
-    ensures { result ≡ refuse t.now.findings responseto t.now.order e (reject_of why) }
+// A refusal of ours, told to the client. If there is no order the status told is Rejected.
+fn refuse(target: &Target, responseto: u8, e: Record, why: Why) -> Change
+    ensures { result ≡ refuse target.now.findings responseto target.now.order e (reject_of why) }
 {
-    let place = t.findings.place;
+    let place = target.findings.place;
     let status = if place == 0 {
         codes::REJECTED
     } else {
-        t.order.state.status
+        target.order.state.status
     };
     let reject = why.reject();
     let n = Note {
@@ -92,21 +87,21 @@ fn refuse(t: &Target, responseto: u8, e: Record, why: Why) -> Change
     };
     let m = message::cancel_reject(
         e.client,
-        t.order.names.name,
+        target.order.names.name,
         status,
         e.ids.clordid,
         e.ids.origclordid,
         responseto,
         n,
     );
-    change::saying(m, place, t.order)
+    change::saying(m, place, target.order)
 }
 
 // A request that was already taken, sent again: the order's state under the request's own ClOrdIDs.
-fn redelivered_report(t: &Target, e: Record) -> Change
-    ensures { result ≡ redelivered_report t.now.findings t.now.order e }
+fn redelivered_report(target: &Target, e: Record) -> Change
+    ensures { result ≡ redelivered_report target.now.findings target.now.order e }
 {
-    let order = order::next_exec(t.order);
+    let order = order::next_exec(target.order);
     let m = message::report(
         order,
         e.ids.clordid,
@@ -116,23 +111,23 @@ fn redelivered_report(t: &Target, e: Record) -> Change
         message::NO_PRICE,
         message::NO_NOTE,
     );
-    change::saying(m, t.findings.place, order)
+    change::saying(m, target.findings.place, order)
 }
 
 // The event was redelivered, and its ClOrdID was used for this very order.
 #[tactic(auto, unfolding(machine::specs::Amend::already_taken))]
-fn already_taken(t: &Target, e: Record) -> bool
-    ensures { result ≡ already_taken t.now.findings t.now.used e }
+fn already_taken(target: &Target, e: Record) -> bool
+    ensures { result ≡ already_taken target.now.findings target.now.used e }
 {
-    has(e, bit::REDELIVERED) && t.used != 0 && t.used == t.findings.place
+    has(e, bit::REDELIVERED) && target.used != 0 && target.used == target.findings.place
 }
 
 #[tactic(auto, unfolding(machine::specs::Amend::cancel_refusal), using(orders::specs::Laws::Choices::choices))]
-fn check_cancel(t: &Target, e: Record) -> Result<(), Why>
-    ensures { reject_in result ≡ amend_refusal t.now.findings t.now.used t.now.full t.now.order e (cancel_refusal t.now.findings t.now.order) }
+fn check_cancel(target: &Target, e: Record) -> Result<(), Why>
+    ensures { reject_in result ≡ amend_refusal target.now.findings target.now.used target.now.full target.now.order e (cancel_refusal target.now.findings target.now.order) }
 {
-    check_shared(t, e)?;
-    if gateway_cancel::gateway_cancel_in_flight(t.findings, t.order) {
+    check_shared(target, e)?;
+    if gateway_cancel::gateway_cancel_in_flight(target.findings, target.order) {
         return Err(Why::Cancelling);
     }
     Ok(())
@@ -140,33 +135,39 @@ fn check_cancel(t: &Target, e: Record) -> Result<(), Why>
 
 // The request is recorded under the order's next numbered downstream ClOrdID, and the order is left
 // as given.
-fn number(t: &Target, kind: u8, e: Record, left: Order) -> Change
-    ensures { result ≡ number t.now.findings kind t.now.order e left }
+fn number(target: &Target, kind: u8, e: Record, left: Order) -> Change
+    ensures { result ≡ number target.now.findings kind target.now.order e left }
 {
-    let request = change::next_request(t.findings, t.order, kind, e.ids.clordid, e.ids.origclordid);
-    change::adding(request, change::unchanged(t.findings.place, left))
+    let request = change::next_request(
+        target.findings,
+        target.order,
+        kind,
+        e.ids.clordid,
+        e.ids.origclordid,
+    );
+    change::adding(request, change::unchanged(target.findings.place, left))
 }
 
-// The cancel goes out.
+// The cancel goes out to the venue.
 #[tactic(auto, unfolding(machine::specs::Amend::cancel_goes))]
-fn cancel_goes(t: &Target, e: Record) -> Change
-    ensures { result ≡ cancel_goes t.now.findings t.now.order e }
+fn cancel_goes(target: &Target, e: Record) -> Change
+    ensures { result ≡ cancel_goes target.now.findings target.now.order e }
 {
-    let order = change::numbered_order(t.findings, true, t.order);
-    let m = message::cancel_request(order, change::next_downstream(t.order));
-    change::telling(m, number(t, kinds::CANCEL, e, order))
+    let order = change::numbered_order(target.findings, true, target.order);
+    let m = message::cancel_request(order, change::next_downstream(target.order));
+    change::telling(m, number(target, kinds::CANCEL, e, order))
 }
 
 #[tactic(auto, unfolding(machine::specs::Amend::cancel), using(orders::specs::Laws::Choices::choices, crate::specs::Laws::Why::told))]
-pub fn cancel(t: &Target, e: Record) -> Change
-    ensures { result ≡ cancel t.now.findings t.now.used t.now.full t.now.order e }
+pub fn cancel(target: &Target, e: Record) -> Change
+    ensures { result ≡ cancel target.now.findings target.now.used target.now.full target.now.order e }
 {
-    if already_taken(t, e) {
-        return redelivered_report(t, e);
+    if already_taken(target, e) {
+        return redelivered_report(target, e);
     }
-    match check_cancel(t, e) {
-        Ok(()) => cancel_goes(t, e),
-        Err(why) => refuse(t, kinds::CANCEL, e, why),
+    match check_cancel(target, e) {
+        Ok(()) => cancel_goes(target, e),
+        Err(why) => refuse(target, kinds::CANCEL, e, why),
     }
 }
 
@@ -195,7 +196,7 @@ fn price_of(e: Record) -> Option<u64>
     has(e, bit::PRICE).then_some(e.terms.price)
 }
 
-// `check_replace` of src/book/amend.rs: the verdict that the event brings, passed over where no risk is
+// `check_replace` of src/book/amend.rs: the verdict that the event brings, passed over if no risk is
 // added.
 #[tactic(auto, unfolding(machine::specs::Amend::check_replace), using(orders::specs::Laws::Choices::choices))]
 fn check_replace(o: Order, e: Record) -> Result<(), Why>
@@ -215,30 +216,30 @@ fn check_replace(o: Order, e: Record) -> Result<(), Why>
 
 // What refuses a replace beside what it shares with a cancel.
 #[tactic(auto, unfolding(machine::specs::Amend::replace_refusal), using(orders::specs::Laws::Choices::choices))]
-fn check_terms(t: &Target, e: Record) -> Result<(), Why>
-    ensures { reject_in result ≡ replace_refusal t.now.findings t.now.order e }
+fn check_terms(target: &Target, e: Record) -> Result<(), Why>
+    ensures { reject_in result ≡ replace_refusal target.now.findings target.now.order e }
 {
-    if gateway_cancel::gateway_cancel_in_flight(t.findings, t.order) {
+    if gateway_cancel::gateway_cancel_in_flight(target.findings, target.order) {
         return Err(Why::Cancelling);
     }
-    if order::has_pending(t.order) {
+    if order::has_pending(target.order) {
         return Err(Why::ReplacePending);
     }
-    if e.terms.qty < t.order.state.cumqty {
+    if e.terms.qty < target.order.state.cumqty {
         return Err(Why::BelowFilled);
     }
-    if t.order.terms.qty < e.terms.qty && has(e, bit::BLOCKED) {
+    if target.order.terms.qty < e.terms.qty && has(e, bit::BLOCKED) {
         return Err(Why::Blocked);
     }
-    check_replace(t.order, e)
+    check_replace(target.order, e)
 }
 
 // All that refuses a replace.
-fn check_replace_request(t: &Target, e: Record) -> Result<(), Why>
-    ensures { reject_in result ≡ amend_refusal t.now.findings t.now.used t.now.full t.now.order e (replace_refusal t.now.findings t.now.order e) }
+fn check_replace_request(target: &Target, e: Record) -> Result<(), Why>
+    ensures { reject_in result ≡ amend_refusal target.now.findings target.now.used target.now.full target.now.order e (replace_refusal target.now.findings target.now.order e) }
 {
-    check_shared(t, e)?;
-    check_terms(t, e)
+    check_shared(target, e)?;
+    check_terms(target, e)
 }
 
 // The terms that the replace asks for.
@@ -254,7 +255,7 @@ fn new_terms(o: Order, e: Record) -> Terms
     }
 }
 
-// Question 6: a price exactly where the type is limit.
+// Question 6: there is a price exactly if the type is limit.
 #[tactic(auto, unfolding(machine::specs::Amend::priced_right), using(orders::specs::Laws::Choices::choices))]
 pub fn priced_right(ordtype: u8, e: Record) -> bool
     ensures { result ≡ priced_right ordtype e }
@@ -265,42 +266,42 @@ pub fn priced_right(ordtype: u8, e: Record) -> bool
 // The replace as the order keeps it. Field by field, as orders' `pending_terms` is on the way back: there
 // it says why.
 #[tactic(auto, unfolding(machine::specs::Amend::new_pending))]
-fn new_pending(f: Findings, t: Terms) -> Pending
-    ensures { result ≡ new_pending f t }
+fn new_pending(findings: Findings, terms: Terms) -> Pending
+    ensures { result ≡ new_pending findings terms }
 {
     Pending {
-        request: change::next_link(f),
-        qty: t.qty,
-        price: t.price,
-        ordtype: t.ordtype,
-        timeinforce: t.timeinforce,
+        request: change::next_link(findings),
+        qty: terms.qty,
+        price: terms.price,
+        ordtype: terms.ordtype,
+        timeinforce: terms.timeinforce,
     }
 }
 
 #[tactic(auto, unfolding(machine::specs::Amend::replace_goes))]
-fn replace_goes(t: &Target, e: Record) -> Change
-    ensures { result ≡ replace_goes t.now.findings t.now.order e }
+fn replace_goes(target: &Target, e: Record) -> Change
+    ensures { result ≡ replace_goes target.now.findings target.now.order e }
 {
-    let terms = new_terms(t.order, e);
-    let mut order = change::numbered_order(t.findings, false, t.order);
-    order.pending = new_pending(t.findings, terms);
-    let m = message::replace_request(order, change::next_downstream(t.order), terms);
-    change::telling(m, number(t, kinds::REPLACE, e, order))
+    let terms = new_terms(target.order, e);
+    let mut order = change::numbered_order(target.findings, false, target.order);
+    order.pending = new_pending(target.findings, terms);
+    let m = message::replace_request(order, change::next_downstream(target.order), terms);
+    change::telling(m, number(target, kinds::REPLACE, e, order))
 }
 
 #[tactic(auto, unfolding(machine::specs::Amend::replace), using(orders::specs::Laws::Choices::choices, crate::specs::Laws::Why::told, crate::specs::Laws::Taken::amend_taken))]
-pub fn replace(t: &Target, e: Record) -> Result<Change, Refusal>
-    ensures is { change_in result ≡ replace t.now.findings t.now.used t.now.full t.now.order e }
+pub fn replace(target: &Target, e: Record) -> Result<Change, Refusal>
+    ensures is { change_in result ≡ replace target.now.findings target.now.used target.now.full target.now.order e }
     ensures taken { IfOk result (λ c. c.refusal ≡ 0) }
 {
-    if already_taken(t, e) {
-        return Ok(redelivered_report(t, e));
+    if already_taken(target, e) {
+        return Ok(redelivered_report(target, e));
     }
-    if let Err(why) = check_replace_request(t, e) {
-        return Ok(refuse(t, kinds::REPLACE, e, why));
+    if let Err(why) = check_replace_request(target, e) {
+        return Ok(refuse(target, kinds::REPLACE, e, why));
     }
-    if !priced_right(or_own(e.terms.ordtype, t.order.terms.ordtype), e) {
+    if !priced_right(or_own(e.terms.ordtype, target.order.terms.ordtype), e) {
         return Err(Refusal::WrongPrice);
     }
-    Ok(replace_goes(t, e))
+    Ok(replace_goes(target, e))
 }

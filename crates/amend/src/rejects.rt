@@ -8,11 +8,12 @@ ghost use Rattle.machine.specs.Changes.{unchanged, answering, alarming};
 ghost use Rattle.machine.specs.Amend.{not_pending, refused_order, refused_alarm, refused_note, refuse_request, venue_note, venue_cancel_reject, first_failed, send_failed, resendable, unsent};
 ghost use Rattle.orders.specs.Alarms.{alarm_in};
 
-use crate::{has, texts};
+use crate::texts;
 use format::{bit, codes};
 use gateway_cancel::tries;
 use machine::{Change, Note, Refused};
 use orders::alarm::Alarm;
+use orders::change::has;
 use orders::{Known, change, message, order, reasons};
 use records::Record;
 use store::{Order, Pending, Request, kinds, outcomes};
@@ -29,55 +30,55 @@ fn not_pending(o: Order) -> Order
     }
 }
 
-// What is pending, but for the request k.
+// What is pending, unless it is the request of this link.
 #[tactic(auto, using(orders::specs::Laws::Choices::choices))]
-fn pending_but(k: u16, p: Pending) -> Pending
-    ensures { result ≡ (if eqb p.request k then no_pending otherwise p) }
+fn pending_but(link: u16, pending: Pending) -> Pending
+    ensures { result ≡ (if eqb pending.request link then no_pending otherwise pending) }
 {
-    if p.request == k {
+    if pending.request == link {
         store::no_pending()
     } else {
-        p
+        pending
     }
 }
 
-// The order once its request k is refused: done stays done.
+// The order once its request of this link is refused: done stays done.
 #[tactic(auto, unfolding(machine::specs::Amend::refused_order), using(orders::specs::Laws::Choices::choices))]
-fn refused_order(k: u16, r: Refused, o: Order) -> Order
-    ensures { result ≡ refused_order k r o }
+fn refused_order(link: u16, refused: Refused, o: Order) -> Order
+    ensures { result ≡ refused_order link refused o }
 {
-    let mut out = order::record_venue_order_id(r.venueorderid, false, o);
-    out.pending = pending_but(k, o.pending);
+    let mut out = order::record_venue_order_id(refused.venueorderid, false, o);
+    out.pending = pending_but(link, o.pending);
     if order::is_done(o.state.status) {
         return out;
     }
-    if r.status != 0 {
-        return order::set_status(r.status, out);
+    if refused.status != 0 {
+        return order::set_status(refused.status, out);
     }
     not_pending(out)
 }
 
 // The alarm that a refusal raises: its status would set a short Filled.
 #[tactic(auto, unfolding(machine::specs::Amend::refused_alarm), using(orders::specs::Laws::Choices::choices))]
-fn refused_alarm(r: Refused, o: Order) -> Option<Alarm>
-    ensures { alarm_in result ≡ refused_alarm r o }
+fn refused_alarm(refused: Refused, o: Order) -> Option<Alarm>
+    ensures { alarm_in result ≡ refused_alarm refused o }
 {
     if order::is_done(o.state.status) {
         return None;
     }
-    order::short_alarm(o.terms.qty, o.state.cumqty, r.status)
+    order::short_alarm(o.terms.qty, o.state.cumqty, refused.status)
 }
 
 // The change of a refusal: the request is answered, the order is left as it is given, and that alarm is
 // raised.
 #[tactic(auto, unfolding(machine::specs::Changes::alarming, machine::specs::Changes::answering, machine::specs::Changes::unchanged), using(orders::specs::Laws::Choices::choices))]
-fn refused_change(known: &Known, r: Refused, left: Order) -> Change
-    ensures { result ≡ alarming (refused_alarm r known.now.order) (answering known.now.link r.outcome (unchanged known.now.findings.place left)) }
+fn refused_change(known: &Known, refused: Refused, left: Order) -> Change
+    ensures { result ≡ alarming (refused_alarm refused known.now.order) (answering known.now.link refused.outcome (unchanged known.now.findings.place left)) }
 {
-    let alarm = refused_alarm(r, known.order);
+    let alarm = refused_alarm(refused, known.order);
     change::answering(
         known.link,
-        r.outcome,
+        refused.outcome,
         change::raising_if(alarm, known.findings.place, left),
     )
 }
@@ -85,14 +86,14 @@ fn refused_change(known: &Known, r: Refused, left: Order) -> Change
 // What the client is told: the text that came, or that the venue rejected it; the venue's reason,
 // or Other.
 #[tactic(auto, unfolding(machine::specs::Amend::refused_note), using(orders::specs::Laws::Choices::choices))]
-fn refused_note(n: Note) -> Note
-    ensures { result ≡ refused_note n }
+fn refused_note(note: Note) -> Note
+    ensures { result ≡ refused_note note }
 {
-    let mut out = n;
-    if n.text.len == 0 && n.fixedtext == 0 {
+    let mut out = note;
+    if note.text.len == 0 && note.fixedtext == 0 {
         out.fixedtext = texts::REJECTED;
     }
-    if n.origin == 0 {
+    if note.origin == 0 {
         out.reason = reasons::OTHER;
         out.origin = reasons::OURS;
     }
@@ -100,37 +101,37 @@ fn refused_note(n: Note) -> Note
 }
 
 // The message that tells the client of a refusal, with the status that the order is left at.
-fn refused_message(q: Request, status: u8, n: Note, o: Order) -> Record
-    ensures { result ≡ cancel_reject o.client o.names.name status q.clordid q.origclordid q.kind (refused_note n) }
+fn refused_message(request: Request, status: u8, note: Note, o: Order) -> Record
+    ensures { result ≡ cancel_reject o.client o.names.name status request.clordid request.origclordid request.kind (refused_note note) }
 {
     message::cancel_reject(
         o.client,
         o.names.name,
         status,
-        q.clordid,
-        q.origclordid,
-        q.kind,
-        refused_note(n),
+        request.clordid,
+        request.origclordid,
+        request.kind,
+        refused_note(note),
     )
 }
 
 #[tactic(auto, unfolding(machine::specs::Amend::refuse_request), using(orders::specs::Laws::Choices::choices))]
-pub fn refuse_request(known: &Known, venue: u16, r: Refused) -> Change
-    ensures { result ≡ refuse_request known.now.findings known.now.link known.now.request venue r known.now.order }
+pub fn refuse_request(known: &Known, venue: u16, refused: Refused) -> Change
+    ensures { result ≡ refuse_request known.now.findings known.now.link known.now.request venue refused known.now.order }
 {
     let o = known.order;
     if change::is_first(known.request) || o.venue != venue || change::is_answered(known.request) {
         return known.leaving(o);
     }
-    let order = refused_order(known.link, r, o);
-    let c = refused_change(known, r, order);
+    let order = refused_order(known.link, refused, o);
+    let c = refused_change(known, refused, order);
     if change::is_gateway(known.request) {
         if o.links.cancel != known.link {
             return c;
         }
-        return gateway_cancel::gateway_cancel_refused(known.findings, r.note, c);
+        return gateway_cancel::gateway_cancel_refused(known.findings, refused.note, c);
     }
-    let m = refused_message(known.request, order.state.status, r.note, o);
+    let m = refused_message(known.request, order.state.status, refused.note, o);
     change::telling(m, c)
 }
 
@@ -168,14 +169,14 @@ pub fn venue_cancel_reject(known: &Known, e: Record) -> Change
 
 // The first send failed: the order is rejected, for a reason of ours.
 #[tactic(auto, unfolding(machine::specs::Amend::first_failed))]
-fn first_failed(known: &Known, outcome: u8, n: Note) -> Change
-    ensures { result ≡ first_failed known.now.findings known.now.link outcome n known.now.order }
+fn first_failed(known: &Known, outcome: u8, note: Note) -> Change
+    ensures { result ≡ first_failed known.now.findings known.now.link outcome note known.now.order }
 {
     let order = order::next_exec(order::set_status(codes::REJECTED, known.order));
-    let note = Note {
+    let failed = Note {
         reason: reasons::OTHER,
         origin: reasons::OURS,
-        ..n
+        ..note
     };
     let m = message::report(
         order,
@@ -184,15 +185,15 @@ fn first_failed(known: &Known, outcome: u8, n: Note) -> Change
         codes::EXEC_REJECTED,
         0,
         message::NO_PRICE,
-        note,
+        failed,
     );
     let c = change::settled(known.link, outcome, known.findings.place, order);
     change::telling(m, c)
 }
 
 #[tactic(auto, unfolding(machine::specs::Amend::send_failed, machine::specs::Changes::is_first, machine::specs::Changes::is_gateway), using(orders::specs::Laws::Choices::choices))]
-pub fn send_failed(known: &Known, venue: u16, outcome: u8, n: Note) -> Change
-    ensures { result ≡ send_failed known.now.findings known.now.link known.now.request venue outcome n known.now.order }
+pub fn send_failed(known: &Known, venue: u16, outcome: u8, note: Note) -> Change
+    ensures { result ≡ send_failed known.now.findings known.now.link known.now.request venue outcome note known.now.order }
 {
     let o = known.order;
     let place = known.findings.place;
@@ -208,12 +209,12 @@ pub fn send_failed(known: &Known, venue: u16, outcome: u8, n: Note) -> Change
             change::settled(known.link, outcome, place, Order { gateway, ..o })
         }
         kinds::FIRST if answered || o.state.status != codes::PENDING_NEW => known.leaving(o),
-        kinds::FIRST => first_failed(known, outcome, n),
+        kinds::FIRST => first_failed(known, outcome, note),
         _ => {
             let r = Refused {
                 status: o.state.status,
                 venueorderid: text::no_text(),
-                note: n,
+                note,
                 outcome,
             };
             refuse_request(known, venue, r)
@@ -222,10 +223,10 @@ pub fn send_failed(known: &Known, venue: u16, outcome: u8, n: Note) -> Change
 }
 
 #[tactic(auto, unfolding(machine::specs::Amend::resendable))]
-fn resendable(q: Request, venue: u16, o: Order) -> bool
-    ensures { result ≡ resendable q venue o }
+fn resendable(request: Request, venue: u16, o: Order) -> bool
+    ensures { result ≡ resendable request venue o }
 {
-    !change::is_answered(q) && !order::is_done(o.state.status) && o.venue == venue
+    !change::is_answered(request) && !order::is_done(o.state.status) && o.venue == venue
 }
 
 // A request is sent again, or its send has failed.

@@ -5,8 +5,8 @@ use Rattle.std.specs.List.{concat}
 use Rattle.prelude.specs.Cases.{if◌then◌otherwise◌}
 use Rattle.prelude.specs.Span.{splice}
 use Rattle.prelude.specs.Texts.{contents, text_of}
-use Rattle.counted.specs.declared.Counted.{Counted}
-use Rattle.counted.specs.Counted.{refusing, counting}
+use Rattle.prelude.specs.declared.Counted.{Counted}
+use Rattle.prelude.specs.Counted.{refusing, counting}
 use Rattle.store.specs.Book.{Book, request_in, book_of}
 use Rattle.store.specs.Finds.{find_clordid}
 use Rattle.rules.specs.Keeps.{keeps_of}
@@ -20,7 +20,7 @@ chain_from x client zero at = []
 chain_from x client (suc n) None = []
 chain_from x client (suc n) (Some k) = k ∷ chain_from x client n (find_clordid x client (request_in x k).origclordid)
 
--- the request in which that client used that name. A name of no byte, or of more than 32, was never used.
+-- the request in which that client used that name. A name that is empty, or longer than 32 bytes, was never used.
 unfoldable pub called_by : Book → (client : ℕ) → (name : List ℕ) → Option ℕ
 called_by x client name = if leb 1 (length name) && leb (length name) 32 then find_clordid x client (text_of name) otherwise None
 
@@ -55,7 +55,7 @@ pub record Chained : Type 0 where
 abbrev pub chained : Counted → List ℕ → Chained
 chained r list = record { returned = r; list = list }
 
--- 1 where the book does not keep its rules, then 12 where "the lent list cannot hold the whole chain": nothing is written. Else the entries stand at the
+-- 1 if the book does not keep its rules, then 12 if "the lent list cannot hold the whole chain": nothing is written. Else the entries stand at the
 -- front of the list, every other byte is as it was, and their count is returned.
 unfoldable pub chain_call : (book : List ℕ) (client : ℕ) (name list : List ℕ) → Chained
 chain_call book client name list =

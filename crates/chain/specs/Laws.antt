@@ -2,4 +2,5 @@
 pub mod Walk
 pub mod Entries
 pub mod Sound
+pub mod Called
 pub mod Call

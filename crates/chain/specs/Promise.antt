@@ -1,9 +1,9 @@
--- What the chain of a name is, of a book that keeps its rules; and how the call ends, said of any book, name and list. Rests on Chain. All of it is proved
--- in Laws/Sound.
+-- What the chain of a name is, of a book that keeps its rules; and how the call ends, said of any book, name and list. Rests on Chain. It is proved in
+-- Laws/Sound, and what is said of the call in Laws/Called.
 use Rattle.std.specs.Prelude.{ℕ, suc, ◌+◌, ◌-◌, ◌*◌, ◌≤◌, ◌<◌, ◌≡◌, true, false, List, [], ◌∷◌, length, get_or}
 use Rattle.prelude.specs.Span.{span}
 use Rattle.prelude.specs.Texts.{contents}
-use Rattle.counted.specs.Counted.{refusing, counting}
+use Rattle.prelude.specs.Counted.{refusing, counting}
 use Rattle.store.specs.Book.{Book, book_of, order_in, request_in}
 use Rattle.machine.specs.Changes.{is_first}
 use Rattle.machine.specs.Rules.{number_in, client_of}
@@ -37,8 +37,8 @@ pub record IsChain (x : Book) (client : ℕ) (name : List ℕ) (k : ℕ) (ks : L
   -- and there are no more than the order has requests
   pub few : length ks ≤ (order_in x (request_in x k).order).links.amendments + 1
 
--- a name that the client used has a chain, and from its second entry on it is that entry's own. "A name never used by that client gives an empty chain", as does one
--- of no byte.
+-- a name that the client used has a chain, and from its second entry on it is that entry's own. "A name never used by that client gives an empty chain", as does the
+-- empty name.
 pub record Chains (x : Book) : Type 0 where
   pub used : (client : ℕ) (name : List ℕ) (k : ℕ) → 0 < length name → Uses x client name k → IsChain x client name k (chain_of x client name)
   pub rest : (client : ℕ) (name : List ℕ) (k j : ℕ) (ks : List ℕ) → chain_of x client name ≡ k ∷ j ∷ ks → chain_of x client (contents (request_in x j).clordid) ≡ j ∷ ks
@@ -64,8 +64,8 @@ pub record IsWritten (book : List ℕ) (ks list : List ℕ) (r : Chained) : Type
   pub entries : (i : ℕ) → i < length ks → IsEntry book (get_or ks i 0) (span r.list (entry_size * i) entry_size)
   pub rest : (k : ℕ) → entry_size * length ks ≤ k → get_or r.list k 0 ≡ get_or list k 0
 
--- 1 for a book that does not keep its rules, whatever is lent; then 12 for a list that is too short, be it by one: nothing is written. A list that is exactly
--- long enough is taken, and for an empty chain any is.
+-- 1 for a book that does not keep its rules, whatever is lent; then 12 for a list that is too short, even by one byte: nothing is written. A list that is
+-- exactly long enough is taken, and for an empty chain any list is.
 pub record IsCall (book : List ℕ) (client : ℕ) (name list : List ℕ) : Type 0 where
   pub bad : keeps_of book ≡ false → chain_call book client name list ≡ chained (refusing 1) list
   pub short : keeps_of book ≡ true → length list < entry_size * length (chain_of (book_of book) client name) → chain_call book client name list ≡ chained (refusing 12) list

@@ -8,7 +8,7 @@ ghost use Rattle.std.specs.Prelude.{◌≡◌, ◌+◌, ◌*◌, ◌≤◌, ◌<
 ghost use Rattle.prelude.specs.Span.{splice};
 ghost use Rattle.prelude.specs.Texts.{text_of};
 ghost use Rattle.store.specs.Book.{book_of, request_count};
-ghost use Rattle.counted.specs.Counted.{counted_of};
+ghost use Rattle.prelude.specs.Counted.{counted_of};
 ghost use Rattle.chain.specs.Chain.{called_by, entry_size, entries_of, chained, chain_call};
 ghost use Rattle.chain.specs.Laws.Entries.{stored_entry};
 ghost use Rattle.chain.specs.Laws.Walk.{earlier, walk};
@@ -22,7 +22,7 @@ const ENTRY: usize = 34;
 
 const NAME: usize = 32;
 
-// A name as a text. Its length by `as`, which is proved to lose nothing.
+// A name as a text. Its length is cast by `as`, which is proved to lose nothing.
 #[tactic(auto, unfolding(prelude::specs::Texts::text_of))]
 fn text_of(name: &[u8]) -> Text
     requires { length name.now ≤ 32 }
@@ -54,8 +54,8 @@ struct Used<'a> {
 }
 
 impl Used<'_> {
-    // The request that its OrigClOrdID names. In place, by the layout, here and in `put_entry`: `load_request`
-    // would read a record whole for two of its fields.
+    // The request that its OrigClOrdID names. Here and in `put_entry` fields are read in the book's bytes, by the
+    // layout: `load_request` would read a whole record for two of them.
     #[tactic(auto, using(store::specs::Laws::Stored::count_most, store::specs::Laws::Beside::load_origin_in, crate::specs::Laws::Walk::linked))]
     fn earlier(&self) -> Option<usize>
         ensures { result ≡ earlier self.now.book.bytes.now self.now.k }
@@ -69,9 +69,9 @@ impl Used<'_> {
         Some(link - 1)
     }
 
-    // How many entries its chain has. Each step goes to a request numbered lower. By recursion, here and in
-    // `put`, which docs/SCOPE.md has as the chain's form: `successors` says nothing of how long it runs, so a
-    // `count` of it is not proved.
+    // How many entries its chain has. Each step goes to a request numbered lower. The walk is a recursion here
+    // and in `put`, as docs/SCOPE.md asks: `successors` says nothing of how long it runs, so a `count` of it
+    // is not proved.
     #[tactic(auto, using(store::specs::Laws::Stored::count_most, crate::specs::Laws::Walk::walked))]
     fn count(&self) -> usize
         ensures { result ≡ length (walk self.now.book.bytes.now self.now.k) }
@@ -129,6 +129,6 @@ pub fn chain(book: &[u8], client: u16, name: &[u8], list: &mut [u8]) -> Result<u
         return Err(Refusal::ShortList);
     }
     first.put(list, 0);
-    // By `as`, which is proved to lose nothing.
+    // The cast by `as` is proved to lose nothing.
     Ok(n as u32)
 }

@@ -1,7 +1,8 @@
 -- Demand 3 on bytes: each call on a book that keeps its rules is the machine's, so every list of calls is. Rests on Taken and machine's Calls.
 use Rattle.std.proofs.Common.{ℕ, ◌≤◌, ◌<◌, arith, ◌≡◌, refl, sym, ap, ◌∙◌, subst, Bool, true, false, not, List, [], eqb, length, eqb-true, eq-eqb, lt-ltb, le-ltb, ne_eqb}
 use Rattle.std.proofs.lemmas.Bool.{eqb-false, not-false}
-use Rattle.prelude.specs.Cases.{if◌then◌otherwise◌, split_if, if_true, if_false, clash}
+use Rattle.prelude.specs.Cases.{if◌then◌otherwise◌}
+use Rattle.prelude.specs.Laws.Cases.{split_if, if_true, if_false, clash}
 use Rattle.prelude.specs.Number.{Bytes}
 use Rattle.records.specs.Record.{event_in}
 use Rattle.records.specs.Answer.{answer_messages}
@@ -22,8 +23,8 @@ use Rattle.machine.proofs.Claim.OneOrder.{stays_one}
 use Rattle.rules.specs.Keeps.{keeps_of}
 use Rattle.claims.specs.Claims.{Call, read_call, heard_of, entries, AnswersOnBytes, Demand3OnBytes, FilledWholeOnBytes, Passes, SinceOnBytes, StaysOneOnBytes}
 use Rattle.claims.proofs.Header.{blank_keeps}
-use Rattle.claims.proofs.Taken.{Asked, broken, short, unreadable, stepped, asked, Taken, call_taken, left, event_refused, returned_is, outcome_taken, either_way, whole, writes, check_kept, kept_check, keeps_after, keeps_sizes}
-use Rattle.step.specs.Entries.{Outcome, call_of, event_of, start_refusal, start_of}
+use Rattle.claims.proofs.Taken.{Asked, broken, short, unreadable, stepped, asked, Taken, call_taken, left, event_refused, returned_is, returned_taken, either_way, whole, writes, check_kept, kept_check, keeps_after, keeps_sizes}
+use Rattle.step.specs.Entries.{Returned, call_of, event_of, start_refusal, start_of}
 use Rattle.format.specs.Refusal.{event_refusal}
 use Rattle.records.specs.Laws.Accepted.{event_right}
 use Rattle.store.specs.Laws.Adds.{blank_book}
@@ -52,7 +53,7 @@ read_back b r a bytes bytes' t =
 -- OUR READER reads what `event` writes
 pub answers_on_bytes : AnswersOnBytes
 answers_on_bytes b r a bytes bytes' =
-    either_way (λ (o : Outcome). o.returned ≡ 0 → Answers (step_of (book_of b) (event_in r)) o.answer) b r a
+    either_way (λ (o : Returned). o.returned ≡ 0 → Answers (step_of (book_of b) (event_in r)) o.answer) b r a
     (λ t z. read_back b r a bytes bytes' t) (λ e z. absurd (eqb-false _ 0 e z))
 
 pub record Good (b : List ℕ) : Type 0 where
@@ -63,10 +64,10 @@ module _ (b : List ℕ) (i : Call) (g : Good b) where
   abbrev c : Change
   c = call_of b i.event (length i.answer)
 
-  abbrev o : Outcome
+  abbrev o : Returned
   o = event_of b i.event i.answer
 
-  -- the outcome as the change says it
+  -- what the call returns, as the change says it
   record Alike : Type 0 where
     refusal : o.returned ≡ c.refusal
     messages : heard_of b i ≡ messages_of c
@@ -80,17 +81,17 @@ module _ (b : List ℕ) (i : Call) (g : Good b) where
       go true e =
           let t : Taken b i.event i.answer = call_taken b i.event i.answer (eqb-true c.refusal 0 e) in
           let d : Change = step_of (book_of b) (event_in i.event) in
-          let is : o ≡ left b i.event i.answer d = outcome_taken b i.event i.answer t in
+          let is : o ≡ left b i.event i.answer d = returned_taken b i.event i.answer t in
           let zero : eqb d.refusal 0 ≡ true = eq-eqb d.refusal 0 t.taken in
           record {
-            refusal = ap (λ (x : Outcome). x.returned) is ∙ sym (eqb-true c.refusal 0 e);
+            refusal = ap (λ (x : Returned). x.returned) is ∙ sym (eqb-true c.refusal 0 e);
             messages =
-                ap (λ (x : Outcome). if eqb x.returned 0 then answer_messages x.answer otherwise []) is
+                ap (λ (x : Returned). if eqb x.returned 0 then answer_messages x.answer otherwise []) is
                 ∙ if_true _ _ _ refl
                 ∙ (read_back b i.event i.answer g.bytes i.bytes t).messages
                 ∙ ap messages_of (sym t.is);
             left' =
-                ap (λ (x : Outcome). book_of x.book) is
+                ap (λ (x : Returned). book_of x.book) is
                 ∙ (writes b i.event g.bytes i.bytes g.keeps t.reads t.taken).is
                 ∙ ap (after (book_of b)) (sym t.is)
                 ∙ sym (if_true _ _ _ e);
@@ -98,12 +99,12 @@ module _ (b : List ℕ) (i : Call) (g : Good b) where
       go false e =
           let is = event_refused b i.event i.answer e in
           record {
-            refusal = ap (λ (x : Outcome). x.returned) is;
+            refusal = ap (λ (x : Returned). x.returned) is;
             messages =
-                ap (λ (x : Outcome). if eqb x.returned 0 then answer_messages x.answer otherwise []) is
+                ap (λ (x : Returned). if eqb x.returned 0 then answer_messages x.answer otherwise []) is
                 ∙ if_false _ _ _ e
                 ∙ sym (if_false _ _ _ e);
-            left' = ap (λ (x : Outcome). book_of x.book) is ∙ sym (if_false _ _ _ e);
+            left' = ap (λ (x : Returned). book_of x.book) is ∙ sym (if_false _ _ _ e);
           }
 
   -- the line of the call is the machine's
@@ -120,14 +121,14 @@ stays b i g = record { keeps = keeps; bytes = (keeps_sizes b i.event i.answer).b
   where
     keeps : keeps_of (event_of b i.event i.answer).book ≡ true
     keeps =
-        either_way (λ (x : Outcome). keeps_of x.book ≡ true) b i.event i.answer
+        either_way (λ (x : Returned). keeps_of x.book ≡ true) b i.event i.answer
         (λ t. keeps_after b i.event g.bytes i.bytes t.keeps t.reads t.taken)
         (λ e. g.keeps)
 
 pub faithful : Faithful entries Good
 faithful = record { same = same_line; stays = stays }
 
--- a kind, and one that is fine where there is none
+-- the kind of the event, or 1 if the record was not read
 kind_of : Decoded → ℕ
 kind_of (unread n) = 1
 kind_of (read_as e) = e.kind

@@ -1,9 +1,10 @@
--- The chain of a ClOrdID after any calls: each call leaves a book that check passes. Rests on Calls and chain's Sound.
+-- The chain of a ClOrdID after any calls: each call leaves a book that check passes. Rests on Calls, and on chain's Sound and Called.
 use Rattle.std.proofs.Common.{sym, subst, List, [], ◌∷◌, ℕ}
 use Rattle.store.specs.Book.{book_of, blank}
 use Rattle.store.specs.Laws.Kept.{bytes_blank}
 use Rattle.chain.specs.Promise.{Chains}
-use Rattle.chain.specs.Laws.Sound.{sound_chain, sound_call}
+use Rattle.chain.specs.Laws.Sound.{sound_chain}
+use Rattle.chain.specs.Laws.Called.{sound_call}
 use Rattle.step.specs.Entries.{event_of}
 use Rattle.claims.specs.Claims.{Call}
 use Rattle.claims.specs.Opens.{bytes_after}

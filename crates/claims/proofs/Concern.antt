@@ -3,10 +3,13 @@
 use Rattle.std.proofs.Common.{ℕ, ◌+◌, ◌≤◌, ◌<◌, arith, ◌≡◌, refl, sym, ap, ◌∙◌, ◌⊎◌, inl, inr, Bool, true, not, ◌&&◌, Option, None, Some, List, eqb, leb, ltb, length, eqb-true, eq-eqb, ne_eqb, leb-true, lt-ltb}
 use Rattle.std.proofs.Math.Decide.{ℕ_discrete, dec_lt}
 use Rattle.std.proofs.lemmas.Bool.{and_parts, and_from}
-use Rattle.prelude.specs.Below.{first_below, First, first_elim, first_some}
-use Rattle.prelude.specs.Cases.{maybe, if_true, if_false, maybe_some, clash}
+use Rattle.prelude.specs.Below.{first_below}
+use Rattle.prelude.specs.Laws.Below.{First, first_elim, first_some}
+use Rattle.prelude.specs.Cases.{maybe}
+use Rattle.prelude.specs.Laws.Cases.{if_true, if_false, maybe_some, clash}
 use Rattle.prelude.specs.Number.{Bytes}
-use Rattle.prelude.specs.Texts.{is_text, same_text, same_back, same_trans, same_length}
+use Rattle.prelude.specs.Texts.{is_text, same_text}
+use Rattle.prelude.specs.Laws.Texts.{same_back, same_trans, same_length}
 use Rattle.prelude.specs.declared.Text.{Text}
 use Rattle.records.specs.Record.{event_in}
 use Rattle.store.specs.Book.{Book, book_of, order_in, request_in}
@@ -18,7 +21,7 @@ use Rattle.machine.specs.Ranges.{text_within}
 use Rattle.machine.specs.Rules.{client_of, same_key}
 use Rattle.machine.specs.Exchange.{concerns}
 use Rattle.machine.proofs.Numbered.{numbered_laws}
-use Rattle.machine.proofs.Kept.Lift.{BookKept, book_kept}
+use Rattle.machine.proofs.Kept.Indexed.{BookKept, book_kept}
 use Rattle.machine.proofs.Kept.Consequences.{names_apart_lem, downstreams_apart}
 use Rattle.machine.proofs.Said.Reads.{event_ranged, event_kind}
 use Rattle.rules.specs.Laws.Keeps.{keeps_held}

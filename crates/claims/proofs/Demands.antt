@@ -2,21 +2,22 @@
 use Rattle.std.proofs.Common.{ℕ, zero, suc, ◌≤◌, ◌<◌, arith, ◌≡◌, refl, sym, ap, ◌∙◌, subst, ◌⊎◌, inl, inr, ⊎_elim, Bool, true, false, not, ◌&&◌, List, eqb, leb, ltb, length, eqb-true, eq-eqb, leb-true, ltb-true, ltb-false, lt-ltb, le-ltb}
 use Rattle.std.proofs.lemmas.Bool.{eqb-false, not-true, not-false, and_parts, or_cases}
 use Rattle.std.proofs.Math.Bool.{or-true}
-use Rattle.prelude.specs.Cases.{if◌then◌otherwise◌, split_if, if_true, if_false, clash}
+use Rattle.prelude.specs.Cases.{if◌then◌otherwise◌}
+use Rattle.prelude.specs.Laws.Cases.{split_if, if_true, if_false, clash}
 use Rattle.records.specs.Record.{event_in}
 use Rattle.store.specs.Layout.{most_orders, most_requests}
 use Rattle.store.specs.Book.{Book, is_book, book_of, blank}
 use Rattle.machine.specs.declared.Change.{Change}
 use Rattle.machine.specs.Changes.{Event, refusing}
 use Rattle.machine.proofs.Claim.Ruled.{ruled}
-use Rattle.machine.proofs.Kept.Lift.{BookKept, book_kept}
+use Rattle.machine.proofs.Kept.Indexed.{BookKept, book_kept}
 use Rattle.rules.specs.Keeps.{keeps_of}
 use Rattle.claims.specs.Questions.{is_booking, used, mispriced, adds, full, first_no}
 use Rattle.claims.specs.Claims.{Reads, Numbers, Grown, Counted, Demand1}
 use Rattle.claims.proofs.Header.{blank_keeps}
 use Rattle.claims.proofs.Refusals.{step_number, step_grown}
 use Rattle.claims.proofs.Taken.{Asked, broken, short, unreadable, stepped, asked, returned_is, writes, keeps_after, check_kept, check_broken, kept_check, either_way}
-use Rattle.step.specs.Entries.{Outcome, call_of, event_of, start_refusal, start_of, check_of}
+use Rattle.step.specs.Entries.{Returned, call_of, event_of, start_refusal, start_of, check_of}
 use Rattle.format.specs.Refusal.{event_refusal}
 use Rattle.rules.specs.Laws.Keeps.{keeps_held}
 
@@ -140,7 +141,7 @@ started b setting = go (is_book b) refl
 -- a refused one leaves what it found
 refused : (b r a : List ℕ) → ((event_of b r a).returned ≡ 0 → ⊥) → ((event_of b r a).book ≡ b) × ((event_of b r a).answer ≡ a)
 refused b r a =
-    either_way (λ (o : Outcome). (o.returned ≡ 0 → ⊥) → (o.book ≡ b) × (o.answer ≡ a)) b r a (λ t n. absurd (n refl)) (λ e n. (refl, refl))
+    either_way (λ (o : Returned). (o.returned ≡ 0 → ⊥) → (o.book ≡ b) × (o.answer ≡ a)) b r a (λ t n. absurd (n refl)) (λ e n. (refl, refl))
 
 counted : (b : List ℕ) → check_of b ≡ 0 → Counted b
 counted b z = let h = keeps_held b (kept_check b z) in record { long = h.long; orders = omega (arith, h.orders, h.few_orders); requests = omega (arith, h.requests, h.few_requests) }
@@ -150,14 +151,14 @@ demand1 = record {
   counted = counted;
   started = started;
   kept = λ b r a bytes bytes'.
-      either_way (λ (o : Outcome). o.returned ≡ 0 → check_of o.book ≡ 0) b r a
+      either_way (λ (o : Returned). o.returned ≡ 0 → check_of o.book ≡ 0) b r a
       (λ t z. check_kept _ (keeps_after b r bytes bytes' t.keeps t.reads t.taken))
       (λ e z. absurd (eqb-false _ 0 e z));
   refused = refused;
   first = first_no_lem;
   numbers = λ b r a. subst (Numbers b r a) (sym (first_no_lem b r a)) (numbers b r a);
   grown = λ b r a bytes bytes'.
-      either_way (λ (o : Outcome). o.returned ≡ 0 → Grown (book_of b) (event_in r) (book_of o.book)) b r a
+      either_way (λ (o : Returned). o.returned ≡ 0 → Grown (book_of b) (event_in r) (book_of o.book)) b r a
       (λ t z. subst (Grown (book_of b) (event_in r)) (sym (writes b r bytes bytes' t.keeps t.reads t.taken).is)
       (step_grown (book_of b) (ruled (book_of b) (keeps_held b t.keeps).rules) (event_in r) t.taken))
       (λ e z. absurd (eqb-false _ 0 e z));

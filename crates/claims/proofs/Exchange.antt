@@ -1,38 +1,28 @@
--- Wish 12 on bytes: each call on a book that keeps its rules is the machine's, and where at most one adds a request the writes commute.
--- Rests on Taken, Concern, Swapped, OpenQuantity and machine's Exchange.
-use Rattle.std.proofs.Common.{ℕ, ◌≤◌, ◌+◌, ◌-◌, ◌<◌, ◌≡◌, sym, ap, ◌∙◌, subst, ap₂, true, not, ◌||◌, List, [], ◌∷◌, eqb, leb, ltb, length, eq-eqb, le-ltb, eqb-true, ne_eqb, ltb-true, lt-ltb, arith, ◌⊎◌, inl, inr, ⊎_elim}
+-- Two clients, either order, on bytes: each call on a book that keeps its rules is the machine's, and if at most one adds a request the writes commute.
+-- Rests on Steps, Concern, Swapped, OpenQuantity and machine's Exchange.
+use Rattle.std.proofs.Common.{ℕ, ◌≤◌, ◌+◌, ◌-◌, ◌<◌, ◌≡◌, sym, ap, ◌∙◌, subst, ap₂, List, [], ◌∷◌, length, eq-eqb, lt-ltb, arith, ◌⊎◌, inl, inr}
 use Rattle.std.proofs.Math.Decide.{ℕ_discrete}
-use Rattle.std.proofs.lemmas.Bool.{and_parts, or_cases, and_from}
-use Rattle.prelude.specs.Cases.{if_true, if_false}
-use Rattle.prelude.specs.Number.{Bytes}
+use Rattle.std.proofs.lemmas.Bool.{and_from}
+use Rattle.prelude.specs.Laws.Cases.{if_true}
 use Rattle.prelude.specs.Span.{span, splice}
 use Rattle.prelude.specs.Totals.{every[], every∷}
-use Rattle.records.specs.Answer.{answer_bytes}
 use Rattle.store.specs.Book.{Book, book_of, order_in, request_count, put_order, store_order}
 use Rattle.store.specs.Requests.{WholeRequest, encode_request}
-use Rattle.machine.specs.declared.Output.{Output}
 use Rattle.machine.specs.declared.Change.{Change}
-use Rattle.machine.specs.Changes.{Event, refusing}
-use Rattle.machine.specs.Machine.{step_of, after, book_after, has_room, change_of}
-use Rattle.machine.specs.History.{messages_of}
+use Rattle.machine.specs.Machine.{step_of, after, book_after, change_of}
 use Rattle.machine.specs.Exchange.{SameOrder, open_of, Turned, OfTwoClients, Exchanged, concerns, client_at, turned_order}
 use Rattle.machine.proofs.Exchange.Whole.{two_clients}
 use Rattle.machine.proofs.Exchange.Places.{turned_book}
-use Rattle.rules.specs.Keeps.{keeps_of}
 use Rattle.opens.specs.Opens.{opened}
 use Rattle.claims.specs.Claims.{Call}
 use Rattle.claims.specs.Exchange.{called, CallsOfTwoClients, CallsExchanged, TwoClientsOnBytes, after_two, lent, SameBooks, turned_bytes}
-use Rattle.claims.proofs.Taken.{Taken, call_taken, left, returned_is, outcome_taken, writes, keeps_after, keeps_sizes, step_room, whole_after, small, check_kept}
-use Rattle.step.specs.Entries.{Outcome, call_of, book_with}
-use Rattle.format.specs.Refusal.{event_refusal}
+use Rattle.claims.proofs.Taken.{Taken, call_taken, returned_is, check_kept}
+use Rattle.step.specs.Entries.{Returned, book_with}
 use Rattle.rules.specs.Laws.Keeps.{keeps_held}
-use Rattle.records.specs.Record.{event_in}
-use Rattle.records.specs.Laws.Writing.{answer_most}
 use Rattle.store.specs.Layout.{most_requests, book_size, most_orders, request_size, request_base}
 use Rattle.store.specs.Laws.Stored.{length_requests}
 use Rattle.machine.specs.declared.Requests.{Requests}
-use Rattle.machine.proofs.Kept.Lift.{BookKept, book_kept}
-use Rattle.machine.proofs.Said.Steps.{messages_few}
+use Rattle.machine.proofs.Kept.Indexed.{BookKept, book_kept}
 use Rattle.machine.proofs.Claim.Ruled.{ruled}
 use Rattle.machine.proofs.Claim.Records.{added_long, none_kept}
 use Rattle.machine.proofs.Exchange.Links.{same_requests, same_place}
@@ -40,88 +30,17 @@ use Rattle.machine.proofs.Exchange.Frame.{Owned}
 use Rattle.machine.proofs.Exchange.Handled.{handled, owned_of}
 use Rattle.machine.proofs.Exchange.Both.{Both, both_ways, Crossed}
 use Rattle.claims.specs.Opens.{OpenRight}
-use Rattle.claims.proofs.Written.{order_written, request_written}
 use Rattle.claims.proofs.OpenQuantity.{right}
 use Rattle.claims.proofs.Concern.{link_of, kinds_of}
-use Rattle.claims.proofs.Swapped.{first_of, Fit, Pair, bytes_same, room_two, bytes_turned, records}
+use Rattle.claims.proofs.Paired.{first_of, Fit, Pair}
+use Rattle.claims.proofs.Swapped.{bytes_same, room_two, bytes_turned, records}
 use Rattle.store.specs.declared.Order.{Order}
 use Rattle.store.specs.declared.Request.{Request}
 use Rattle.store.specs.Laws.Kept.{store_order_keeps}
 use Rattle.machine.proofs.Exchange.Commute.{first_at, second_at}
 use Rattle.claims.proofs.Splices.{Write, put, length_all}
 use Rattle.claims.proofs.Placed.{order_write, request_write, origin_by, zone_inside, request_zone}
-
--- what a call's record reads as
-abbrev call_event : Call → Event
-call_event c = event_in c.event
-
--- ---- a call that gets to the machine
-
-steps : (b : List ℕ) (i : Call) → keeps_of b ≡ true → 1024 ≤ length i.answer → event_refusal i.event ≡ 0 → call_of b i.event (length i.answer) ≡ step_of (book_of b) (call_event i)
-unfolding call_of
-steps b i k l z = if_false _ _ _ (ap not k) ∙ if_false _ _ _ (le-ltb (length i.answer) 1024 l) ∙ if_false _ _ _ (ap not (eq-eqb (event_refusal i.event) 0 z))
-
-taken_here : (b : List ℕ) (i : Call) → keeps_of b ≡ true → 1024 ≤ length i.answer → event_refusal i.event ≡ 0 → (step_of (book_of b) (call_event i)).refusal ≡ 0
-    → Taken b i.event i.answer
-taken_here b i k l z t = record { keeps = k; room = l; reads = z; is = steps b i k l z; taken = t }
-
-after_is : (b : Book) (e : Event) → (step_of b e).refusal ≡ 0 → after b (step_of b e) ≡ book_after b e
-unfolding book_after
-after_is b e z = sym (if_true _ _ _ (eq-eqb (step_of b e).refusal 0 z))
-
--- what a call that is taken leaves
-module _ (b : List ℕ) (i : Call) (bytes : Bytes b) (t : Taken b i.event i.answer) where
-  outcome_is : called b i ≡ left b i.event i.answer (step_of (book_of b) (call_event i))
-  outcome_is = outcome_taken b i.event i.answer t
-
-  left_is : book_of (called b i).book ≡ book_after (book_of b) (call_event i)
-  left_is =
-      ap (λ (o : Outcome). book_of o.book) outcome_is ∙ (writes b i.event bytes i.bytes t.keeps t.reads t.taken).is
-      ∙ after_is (book_of b) (call_event i) t.taken
-
-  left_keeps : keeps_of (called b i).book ≡ true
-  left_keeps = ap (λ (o : Outcome). keeps_of o.book) outcome_is ∙ keeps_after b i.event bytes i.bytes t.keeps t.reads t.taken
-
-  left_bytes : Bytes (called b i).book
-  left_bytes = (keeps_sizes b i.event i.answer).bytes bytes i.bytes
-
-  returned_none : (called b i).returned ≡ 0
-  returned_none = ap (λ (o : Outcome). o.returned) outcome_is
-
-  -- the change of an order, as its writes want it
-  fit : ((step_of (book_of b) (call_event i)).place ≡ 0 → ⊥) → Fit b (step_of (book_of b) (call_event i))
-  fit n =
-      let c : Change = step_of (book_of b) (call_event i) in
-      let whole = whole_after b i.event bytes i.bytes t.keeps t.reads t.taken in
-      record {
-        room = room_of (step_room (book_of b) (call_event i) t.taken);
-        writes = writes b i.event bytes i.bytes t.keeps t.reads t.taken;
-        small = small b i.event bytes i.bytes t.keeps t.reads t.taken;
-        order = order_written (book_of b) c whole (ne_eqb c.place 0 n);
-        request = λ m. request_written (book_of b) c whole (ne_eqb c.requests.added 0 m);
-      }
-    where
-      room_of : has_room (book_of b) (step_of (book_of b) (call_event i)) ≡ true → ((step_of (book_of b) (call_event i)).requests.added ≡ 0) ⊎ (length (book_of b).requests < most_requests)
-      room_of h =
-          let c : Change = step_of (book_of b) (call_event i) in
-          let n : ℕ = length (book_of b).orders in
-          ⊎_elim (λ z. inl (eqb-true c.requests.added 0 z)) (λ z. inr (ltb-true (length (book_of b).requests) most_requests z))
-          (or_cases _ _ (and_parts (leb c.place n || ltb n 64) (eqb c.requests.added 0 || ltb (length (book_of b).requests) most_requests) (unfold has_room in h)).1)
-
--- ---- the answer is in the change's output
-
-abbrev answer_of : Change → List ℕ
-answer_of c = answer_bytes c.output.alarm c.output.alarm2 (messages_of c)
-
-answer_fits : (c : Change) → length (answer_of c) ≤ 1024
-answer_fits c = omega (arith, answer_most c.output.alarm c.output.alarm2 (messages_of c) (messages_few c))
-
-abbrev telling : ℕ → Output → Change
-telling n o = record { refusal = n; place = 0; order = (refusing 0).order; requests = (refusing 0).requests; output = o }
-
-answer_same : (c d : Change) → c.refusal ≡ 0 → d.refusal ≡ 0 → c.output ≡ d.output → answer_of c ≡ answer_of d
-unfolding messages_of
-answer_same c d p q e = ap (λ (n : ℕ). answer_of (telling n c.output)) (p ∙ sym q) ∙ ap (λ (o : Output). answer_of (telling d.refusal o)) e
+use Rattle.claims.proofs.Steps.{call_event, taken_here, called_is, left_is, left_keeps, left_bytes, returned_none, fit, answer_of, answer_fits, answer_same}
 
 -- ---- the two calls
 
@@ -259,10 +178,10 @@ module _ (b : List ℕ) (d e : Call) (i j : ℕ) (h : CallsOfTwoClients b d e i 
       (subst (λ (m : ℕ). Crossed x ways.i m first_change last_change second_change next_change) one-j ways.crossed)
 
   left_first : (called b d).book ≡ book_with b first_change
-  left_first = ap (λ (o : Outcome). o.book) (outcome_is b d h.bytes first) ∙ ap (book_with b) ways.first.step
+  left_first = ap (λ (o : Returned). o.book) (called_is b d h.bytes first) ∙ ap (book_with b) ways.first.step
 
   left_second : (called b e').book ≡ book_with b second_change
-  left_second = ap (λ (o : Outcome). o.book) (outcome_is b e' h.bytes earlier) ∙ ap (book_with b) ways.earlier.step
+  left_second = ap (λ (o : Returned). o.book) (called_is b e' h.bytes earlier) ∙ ap (book_with b) ways.earlier.step
 
   step_next : step_of (book_of (called b d).book) (call_event e) ≡ next_change
   step_next = ap (λ (y : Book). step_of y (call_event e)) (left_is b d h.bytes first ∙ ways.first.left) ∙ ways.second.step
@@ -271,10 +190,10 @@ module _ (b : List ℕ) (d e : Call) (i j : ℕ) (h : CallsOfTwoClients b d e i 
   step_last = ap (λ (y : Book). step_of y (call_event d)) (left_is b e' h.bytes earlier ∙ ways.earlier.left) ∙ ways.later.step
 
   one_writes : one ≡ book_with (book_with b first_change) next_change
-  one_writes = ap (λ (o : Outcome). o.book) (outcome_is (called b d).book e (left_bytes b d h.bytes first) second) ∙ ap₂ book_with left_first step_next
+  one_writes = ap (λ (o : Returned). o.book) (called_is (called b d).book e (left_bytes b d h.bytes first) second) ∙ ap₂ book_with left_first step_next
 
   two_writes : two ≡ book_with (book_with b second_change) last_change
-  two_writes = ap (λ (o : Outcome). o.book) (outcome_is (called b e').book d' (left_bytes b e' h.bytes earlier) later) ∙ ap₂ book_with left_second step_last
+  two_writes = ap (λ (o : Returned). o.book) (called_is (called b e').book d' (left_bytes b e' h.bytes earlier) later) ∙ ap₂ book_with left_second step_last
 
   -- a place is the order's
   placed : (c f : Change) (k : ℕ) → c.place ≡ f.place → f.place ≡ k + 1 → c.place ≡ 0 → ⊥
@@ -413,18 +332,18 @@ module _ (b : List ℕ) (d e : Call) (i j : ℕ) (h : CallsOfTwoClients b d e i 
     first_answer = record {
       written = answer_of by_first;
       fits = answer_fits by_first;
-      one = ap (λ (o : Outcome). o.answer) (outcome_is b d h.bytes first);
+      one = ap (λ (o : Returned). o.answer) (called_is b d h.bytes first);
       two =
-          ap (λ (o : Outcome). o.answer) (outcome_is (called b e').book d' (left_bytes b e' h.bytes earlier) later)
+          ap (λ (o : Returned). o.answer) (called_is (called b e').book d' (left_bytes b e' h.bytes earlier) later)
           ∙ ap (splice p 0) (answer_same _ by_first later.taken first.taken (ap (λ (y : Book). (step_of y (call_event d)).output) (left_is b e' h.bytes earlier) ∙ machine.first_answer));
     };
     second_answer = record {
       written = answer_of by_second;
       fits = answer_fits by_second;
       one =
-          ap (λ (o : Outcome). o.answer) (outcome_is (called b d).book e (left_bytes b d h.bytes first) second)
+          ap (λ (o : Returned). o.answer) (called_is (called b d).book e (left_bytes b d h.bytes first) second)
           ∙ ap (splice e.answer 0) (answer_same _ by_second second.taken earlier.taken (ap (λ (y : Book). (step_of y (call_event e)).output) (left_is b d h.bytes first) ∙ machine.second_answer));
-      two = ap (λ (o : Outcome). o.answer) (outcome_is b e' h.bytes earlier);
+      two = ap (λ (o : Returned). o.answer) (called_is b e' h.bytes earlier);
     };
     books = books;
     few = λ l. same_of l added;

@@ -1,8 +1,10 @@
 -- Every field that stands in a message's map has bytes in its record: the bits without a byte are no message's. Rests on format's tables and records' Right.
 use Rattle.std.proofs.Common.{ℕ, ◌+◌, ◌≤◌, ◌<◌, arith, ◌≡◌, refl, ⊎_elim, Bool, true, false, not, ◌||◌, List, [], ◌∷◌, map, leb, ltb, length, get_or, leb-true, ltb-true, lt-ltb}
 use Rattle.std.proofs.lemmas.Bool.{not-true, and_parts, or_cases}
-use Rattle.prelude.specs.Below.{all_below, all_elim, count_ext}
-use Rattle.prelude.specs.Cases.{if◌then◌otherwise◌, clash}
+use Rattle.prelude.specs.Below.{all_below}
+use Rattle.prelude.specs.Laws.Below.{all_elim, count_ext}
+use Rattle.prelude.specs.Cases.{if◌then◌otherwise◌}
+use Rattle.prelude.specs.Laws.Cases.{clash}
 use Rattle.bits.specs.Map.{bit, standing, contains}
 use Rattle.bits.specs.Laws.Map.{contains_bit}
 use Rattle.format.specs.Format.{fields, size, is_text_bit, is_kind, required_bits, allowed_bits, required, allowed, joined, bits_right}

@@ -1,12 +1,16 @@
 -- The header's counts: no write takes them past their tables, and start's are 0. Rests on store's laws.
 use Rattle.std.proofs.Common.{ℕ, ◌+◌, ◌-◌, ◌≤◌, arith, ◌≡◌, refl, ap, ◌∙◌, inl, inr, true, false, List, [], ◌∷◌, eqb, length, eq-eqb}
 use Rattle.std.proofs.Math.ListN.{length-replicate}
-use Rattle.prelude.specs.Below.{all_below, all_none}
-use Rattle.prelude.specs.Cases.{if◌then◌otherwise◌, split_if, split_maybe}
+use Rattle.prelude.specs.Below.{all_below}
+use Rattle.prelude.specs.Laws.Below.{all_none}
+use Rattle.prelude.specs.Cases.{if◌then◌otherwise◌}
+use Rattle.prelude.specs.Laws.Cases.{split_if, split_maybe}
 use Rattle.prelude.specs.Lists.{list_below}
 use Rattle.prelude.specs.Number.{bytes_of, word16}
-use Rattle.prelude.specs.Span.{span, splice, length_splice, span_splice_before}
-use Rattle.prelude.specs.Bytes.{zeros, get_zeros}
+use Rattle.prelude.specs.Span.{span, splice}
+use Rattle.prelude.specs.Laws.Span.{length_splice, span_splice_before}
+use Rattle.prelude.specs.Bytes.{zeros}
+use Rattle.prelude.specs.Laws.Bytes.{get_zeros}
 use Rattle.store.specs.declared.Order.{Order}
 use Rattle.store.specs.declared.Request.{Request}
 use Rattle.store.specs.Layout.{book_size, request_base, request·answered, request·outcome}

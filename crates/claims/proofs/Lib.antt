@@ -8,12 +8,15 @@ pub mod Taken
 pub mod Demands
 pub mod Calls
 pub mod OpenQuantity
+pub mod Rules
 pub mod Outcomes
 pub mod Chain
 pub mod Splices
 pub mod Placed
+pub mod Paired
 pub mod Swapped
 pub mod Concern
+pub mod Steps
 pub mod Exchange
 pub mod Net
 pub mod Marks

@@ -4,9 +4,10 @@ use Rattle.std.specs.Prelude.{ℕ, ◌+◌, ◌-◌, ◌≤◌, ◌<◌, ◌≡�
 use Rattle.std.proofs.Common.{arith, sym, ap, ap₂, subst, ◌∙◌, eq-eqb, ne_eqb}
 use Rattle.std.proofs.Math.Decide.{ℕ_discrete, dec_lt}
 use Rattle.std.proofs.lemmas.Bool.{and_parts, or_left, or_right}
-use Rattle.prelude.specs.Below.{all_elim, all_intro}
-use Rattle.prelude.specs.Cases.{split_if, split_maybe, if_true, if_false, maybe_some}
-use Rattle.prelude.specs.Texts.{same_text, same_length}
+use Rattle.prelude.specs.Laws.Below.{all_elim, all_intro}
+use Rattle.prelude.specs.Laws.Cases.{split_if, split_maybe, if_true, if_false, maybe_some}
+use Rattle.prelude.specs.Texts.{same_text}
+use Rattle.prelude.specs.Laws.Texts.{same_length}
 use Rattle.prelude.specs.declared.Text.{Text}
 use Rattle.store.specs.declared.Order.{Order}
 use Rattle.store.specs.declared.Request.{Request}
@@ -21,7 +22,7 @@ use Rattle.machine.specs.Orders.{is_empty}
 use Rattle.machine.specs.Machine.{has_room, after}
 use Rattle.machine.specs.Rules.{client_of}
 use Rattle.machine.specs.Whole.{WholeBook}
-use Rattle.machine.proofs.Kept.Lift.{BookKept}
+use Rattle.machine.proofs.Kept.Indexed.{BookKept}
 use Rattle.machine.proofs.Claim.Records.{added_at, added_long, none_kept, longer}
 use Rattle.index.specs.Index.{origin_of, link_right, links_right}
 use Rattle.index.specs.Laws.Named.{Bears, bears_found}

@@ -2,7 +2,8 @@
 -- and marks' laws.
 use Rattle.std.proofs.Common.{ℕ, arith, ◌≡◌, refl, sym, ap, ◌∙◌, subst, Bool, true, false, List, [], ◌∷◌, ◌++◌, eqb, length, eqb-true, eq-eqb}
 use Rattle.std.proofs.lemmas.Bool.{eqb-false}
-use Rattle.prelude.specs.Cases.{if◌then◌otherwise◌, split_if, if_true}
+use Rattle.prelude.specs.Cases.{if◌then◌otherwise◌}
+use Rattle.prelude.specs.Laws.Cases.{split_if, if_true}
 use Rattle.prelude.specs.Number.{Bytes}
 use Rattle.store.specs.Book.{Book, book_of, empty_book}
 use Rattle.store.specs.Laws.Adds.{blank_book}

@@ -17,7 +17,7 @@ use Rattle.machine.specs.Said.{Answers}
 use Rattle.machine.proofs.Said.Steps.{messages_few, messages_right}
 use Rattle.rules.specs.Laws.Keeps.{keeps_held}
 use Rattle.page.specs.Laws.Sound.{behind_front}
-use Rattle.step.specs.Entries.{Outcome, call_of, event_of}
+use Rattle.step.specs.Entries.{Returned, call_of, event_of}
 use Rattle.needs.specs.declared.Needs.{Needs}
 use Rattle.needs.specs.Needs.{answer_length, field_count, fields_of, added_count, needed, refused, needs_of, needs_call}
 use Rattle.needs.specs.Laws.Needs.{needs_taken, needs_refused}
@@ -124,13 +124,13 @@ module _ (b r a : List ℕ) (bytes : Bytes b) (bytes' : Bytes r) (room : 1024 �
 
   when_taken : (event_of b r a).returned ≡ 0 → Used b a (event_of b r a) n
   when_taken =
-      either_way (λ (o : Outcome). o.returned ≡ 0 → Used b a o n) b r a
+      either_way (λ (o : Returned). o.returned ≡ 0 → Used b a o n) b r a
       (λ t z. subst (Used b a (left b r a c)) (sym (ap needs_of t.is ∙ needs_taken c (eq-eqb c.refusal 0 t.taken))) (used t))
       (λ e z. absurd (eqb-false _ 0 e z))
 
   when_refused : ((event_of b r a).returned ≡ 0 → ⊥) → n ≡ refused (event_of b r a).returned
   when_refused =
-      either_way (λ (o : Outcome). (o.returned ≡ 0 → ⊥) → n ≡ refused o.returned) b r a
+      either_way (λ (o : Returned). (o.returned ≡ 0 → ⊥) → n ≡ refused o.returned) b r a
       (λ t z. absurd (z refl))
       (λ e z. needs_refused (call_of b r (length a)) e)
 

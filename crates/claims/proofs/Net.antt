@@ -1,7 +1,7 @@
 -- The net position over lists: the machine's law of bought and sold apart, tied to the lines of the call. Rests on Calls and net's laws.
 use Rattle.std.proofs.Common.{ℕ, zero-add, ◌≡◌, refl, sym, ap, ◌∙◌, subst, true, false, List, [], ◌∷◌}
 use Rattle.prelude.specs.declared.Text.{Text}
-use Rattle.counted.specs.declared.Counted.{Counted}
+use Rattle.prelude.specs.declared.Counted.{Counted}
 use Rattle.store.specs.Book.{Book, book_of, blank, empty_book}
 use Rattle.store.specs.Laws.Adds.{blank_book}
 use Rattle.store.specs.Laws.Kept.{bytes_blank}
@@ -14,7 +14,7 @@ use Rattle.net.specs.Promise.{IsWritten}
 use Rattle.net.proofs.Laws.Sound.{net_right}
 use Rattle.net.proofs.Laws.Ends.{sound_call}
 use Rattle.claims.specs.Claims.{Call, entries, Passes}
-use Rattle.claims.specs.Net.{told, plus, Says, only_calls, start_calls, NetSinceOnBytes, NetOnBytes}
+use Rattle.claims.specs.Net.{reported, plus, Says, only_calls, start_calls, NetSinceOnBytes, NetOnBytes}
 use Rattle.claims.proofs.Header.{blank_keeps}
 use Rattle.claims.proofs.Taken.{check_kept, kept_check}
 use Rattle.claims.proofs.Calls.{start_is, passing, since_on_bytes}
@@ -46,14 +46,14 @@ says_same b x y e f scratch lines g h = let r = f scratch lines g h in (r.0, λ 
 -- ---- the machine's law
 
 held_is : (image : Book) (s : SinceReturn entries) → Net image (state_of entries s) → (client : ℕ) (symbol : Text)
-    → filled_in (book_of s.held) client symbol ≡ plus (filled_in image client symbol) (told client symbol s.past)
+    → filled_in (book_of s.held) client symbol ≡ plus (filled_in image client symbol) (reported client symbol s.past)
 unfolding filled_in
 held_is image s n client symbol = λ i. record { bought = sym (n true client symbol) i; sold = sym (n false client symbol) i }
 
 pub net_since_on_bytes : NetSinceOnBytes
 net_since_on_bytes b p is =
     let s = follow entries (just_returned entries b) is in
-    says_same s.held (filled_in (book_of s.held)) (λ client symbol. plus (filled_in (book_of s.image) client symbol) (told client symbol s.past))
+    says_same s.held (filled_in (book_of s.held)) (λ client symbol. plus (filled_in (book_of s.image) client symbol) (reported client symbol s.past))
     (held_is (book_of s.image) s (since_on_bytes b p is).1) (says s.held (held_passes is (just_returned entries b) p))
 
 -- ---- from the empty book
@@ -75,6 +75,6 @@ pub net_on_bytes : NetOnBytes
 net_on_bytes b setting small z cs =
     let s = start_calls b setting cs in
     let e : book_of s.image ≡ empty_book setting = ap book_of (calls_image cs (just_returned entries (start_of b setting)) ∙ start_is b setting z) ∙ blank_book setting small in
-    says_same s.held (λ client symbol. plus (filled_in (book_of s.image) client symbol) (told client symbol s.past)) (λ client symbol. told client symbol s.past)
-    (λ client symbol. ap (λ (x : Book). plus (filled_in x client symbol) (told client symbol s.past)) e ∙ empty_filled setting client symbol (told client symbol s.past))
+    says_same s.held (λ client symbol. plus (filled_in (book_of s.image) client symbol) (reported client symbol s.past)) (λ client symbol. reported client symbol s.past)
+    (λ client symbol. ap (λ (x : Book). plus (filled_in x client symbol) (reported client symbol s.past)) e ∙ empty_filled setting client symbol (reported client symbol s.past))
     (net_since_on_bytes (start_of b setting) (start_passes b setting z) (only_calls cs))

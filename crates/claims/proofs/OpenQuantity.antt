@@ -1,8 +1,8 @@
--- Wish 4 on bytes: each call leaves a book that keeps its rules, and on such a book the call gives the sum. Rests on Calls and Demands.
+-- The open quantity, on bytes: each call leaves a book that keeps its rules, and on such a book the call gives the sum. Rests on Calls and Demands.
 use Rattle.std.proofs.Common.{ℕ, ◌<◌, ◌^◌, arith, ◌≡◌, refl, sym, ap, ◌∙◌, subst, Bool, true, false, Some, List, [], ◌∷◌, length, eq-eqb}
 use Rattle.std.proofs.lemmas.Bool.{and_from}
-use Rattle.prelude.specs.Below.{all_intro}
-use Rattle.prelude.specs.Cases.{if_true, if_false, maybe_some}
+use Rattle.prelude.specs.Laws.Below.{all_intro}
+use Rattle.prelude.specs.Laws.Cases.{if_true, if_false, maybe_some}
 use Rattle.prelude.specs.Number.{Bytes}
 use Rattle.store.specs.Layout.{book_size, header·orders, most_orders}
 use Rattle.store.specs.Book.{Book, book_of, order_in, order_count, open_at, store_open, blank}
@@ -16,7 +16,7 @@ use Rattle.index.specs.Index.{links_right, stored_open, open_right, opens_right}
 use Rattle.rules.specs.Keeps.{ruled_of, keeps_of}
 use Rattle.opens.specs.Opens.{opened, open_call}
 use Rattle.rules.specs.Laws.Keeps.{keeps_stored, keeps_then}
-use Rattle.step.specs.Entries.{Outcome, event_of, check_of}
+use Rattle.step.specs.Entries.{Returned, event_of, check_of}
 use Rattle.claims.specs.Claims.{Call, Exactly}
 use Rattle.claims.specs.Opens.{bytes_after, OpenRight, OpenOnBytes}
 use Rattle.claims.proofs.Header.{blank_keeps}
@@ -58,7 +58,7 @@ event_right b r a bytes bytes' n = right (event_of b r a).book (kept (keeps_of b
   where
     kept : (t : Bool) → keeps_of b ≡ t → keeps_of (event_of b r a).book ≡ true
     kept true k =
-        either_way (λ (o : Outcome). keeps_of o.book ≡ true) b r a (λ t. keeps_after b r bytes bytes' t.keeps t.reads t.taken) (λ e. k)
+        either_way (λ (o : Returned). keeps_of o.book ≡ true) b r a (λ t. keeps_after b r bytes bytes' t.keeps t.reads t.taken) (λ e. k)
     kept false k = absurd (n ((demand1.numbers b r a).one.1 (check_broken b k)))
 
 other : (b : List ℕ) (client : ℕ) → (stored_open b client ≡ open_of (book_of b) client → ⊥) → (check_of b ≡ 1) × ((r a : List ℕ) → (event_of b r a).returned ≡ 1)

@@ -1,7 +1,7 @@
 -- The request that an event adds: without an OrigClOrdID, or of the order that the change places, whose client the order keeps. And what an event never changes of the
 -- requests that were there. Rests on machine's walk over the handlers, and on Records.
 use Rattle.std.proofs.Common.{ℕ, ◌+◌, ◌-◌, ◌<◌, arith, ◌≡◌, refl, ap, ◌⊎◌, inl, inr, true, false, eqb, length, eq-eqb}
-use Rattle.prelude.specs.Cases.{clash}
+use Rattle.prelude.specs.Laws.Cases.{clash}
 use Rattle.store.specs.declared.Request.{Request}
 use Rattle.store.specs.Book.{Book, order_in, request_in}
 use Rattle.machine.specs.declared.Change.{Change}

@@ -1,19 +1,20 @@
--- Wish 9 on bytes: an event sets an outcome once, so over a list of calls it stays; and what `check` asks of each request. Rests on Taken, Calls and Demands, on
--- machine's theorem of what an event makes of an outcome, and on index's Links.
-use Rattle.std.proofs.Common.{ℕ, ◌+◌, ◌-◌, ◌≤◌, ◌<◌, arith, ◌≡◌, refl, sym, ap, subst, ◌∙◌, ◌⊎◌, inl, inr, Bool, true, false, not, ◌&&◌, List, [], ◌∷◌, eqb, leb, ltb, length, eqb-true, eq-eqb, le-leb, lt-ltb}
+-- What came of each request, on bytes: an event sets an outcome once, so over a list of calls it stays; and another outcome byte is refused. Rests on Rules,
+-- Taken, Calls and Demands, and on machine's theorem of what an event makes of an outcome.
+use Rattle.std.proofs.Common.{ℕ, ◌+◌, ◌≤◌, ◌<◌, arith, ◌≡◌, refl, sym, ap, subst, ◌∙◌, ◌⊎◌, inl, inr, Bool, true, false, not, List, [], ◌∷◌, eqb, length, eqb-true}
 use Rattle.std.proofs.Math.Decide.{ℕ_discrete, dec_lt}
 use Rattle.std.proofs.Math.ListN.{get_or-eq_default}
-use Rattle.std.proofs.lemmas.Bool.{eqb-false, and_from, and_parts, or_left, cases_Bool}
-use Rattle.prelude.specs.Below.{count_below, all_elim, all_intro}
-use Rattle.prelude.specs.Cases.{if◌then◌otherwise◌, if_true, if_false, clash}
+use Rattle.std.proofs.lemmas.Bool.{eqb-false, cases_Bool}
+use Rattle.prelude.specs.Cases.{if◌then◌otherwise◌}
+use Rattle.prelude.specs.Laws.Cases.{if_true, if_false, clash}
 use Rattle.prelude.specs.Number.{Bytes}
-use Rattle.prelude.specs.Span.{splice, length_splice, span_byte, span_splice_same, span_splice_before}
+use Rattle.prelude.specs.Span.{splice}
+use Rattle.prelude.specs.Laws.Span.{length_splice, span_byte, span_splice_same, span_splice_before}
 use Rattle.format.specs.Codes.{rejected, exec_rejected}
 use Rattle.records.specs.Record.{event_in}
 use Rattle.store.specs.declared.Request.{Request}
 use Rattle.store.specs.Layout.{book_size, header·requests, most_requests, request_base, request·answered, request·outcome}
 use Rattle.store.specs.Requests.{no_request}
-use Rattle.store.specs.Book.{Book, book_of, request_in, request_count, origin_at}
+use Rattle.store.specs.Book.{Book, book_of, request_in, request_count}
 use Rattle.store.specs.Laws.Cells.{same_8}
 use Rattle.store.specs.Laws.Fields.{request_answered, request_outcome}
 use Rattle.store.specs.Laws.Tables.{same_count}
@@ -21,38 +22,23 @@ use Rattle.store.specs.Laws.Stored.{count_book, count_most, length_requests, req
 use Rattle.machine.specs.declared.Change.{Change}
 use Rattle.machine.specs.Changes.{Event, is_answered}
 use Rattle.machine.specs.Machine.{step_of, after}
-use Rattle.machine.specs.Orders.{is_empty}
-use Rattle.machine.specs.Rules.{of_order, number_in, outcome_rule, origin_rule, rules}
 use Rattle.machine.specs.Outcomes.{outcome_by, outcome_after}
-use Rattle.index.specs.Index.{link_right, links_right, opens_right, indexed}
-use Rattle.index.specs.Laws.Links.{Lower, Named, rule_lower, lower_rule, link_lower, lower_right}
-use Rattle.rules.specs.Keeps.{ruled_of, keeps_of}
-use Rattle.rules.specs.Laws.Ruled.{ruled_held}
-use Rattle.rules.specs.Laws.Keeps.{keeps_held, keeps_links}
-use Rattle.step.specs.Entries.{Outcome, book_with, event_of, check_of}
-use Rattle.claims.specs.Claims.{Call, Exactly}
+use Rattle.rules.specs.Keeps.{keeps_of}
+use Rattle.rules.specs.Laws.Keeps.{keeps_held}
+use Rattle.step.specs.Entries.{Returned, book_with, event_of, check_of}
+use Rattle.claims.specs.Claims.{Call}
 use Rattle.claims.specs.Opens.{bytes_after}
-use Rattle.claims.specs.Outcomes.{answered_in, outcome_in, Spelled, SettledBy, RightOutcome, RightOrigin, Borne, Wrong, OutcomesOnBytes}
-use Rattle.claims.proofs.Taken.{Taken, check_kept, check_broken, kept_check, either_way, writes, after_is}
+use Rattle.claims.specs.Outcomes.{answered_in, outcome_in, Spelled, SettledBy, Wrong, OutcomesOnBytes}
+use Rattle.claims.proofs.Taken.{Taken, check_broken, kept_check, either_way, writes, after_is}
 use Rattle.claims.proofs.Calls.{Good, faithful}
 use Rattle.claims.proofs.Demands.{demand1}
-use Rattle.machine.proofs.Kept.Consequences.{count_passed}
-use Rattle.machine.proofs.Kept.Lift.{OutcomeKept, outcome_kept, BookKept, book_kept}
+use Rattle.machine.proofs.Kept.Indexed.{OutcomeKept}
 use Rattle.machine.proofs.Claim.Records.{added_at, added_long, none_kept}
 use Rattle.machine.proofs.Outcomes.Set.{step_sets}
 use Rattle.machine.proofs.Outcomes.After.{outcomes_after}
+use Rattle.claims.proofs.Rules.{ruled, settled, alone, borne, rule, links, exact}
 
--- ---- a request of a book that keeps its rules
-
-outcome_ruled : (b : List ℕ) → keeps_of b ≡ true → (k : ℕ) → k < request_count b → outcome_rule (request_in (book_of b) k) ≡ true
-outcome_ruled b g k l = ((book_kept (book_of b) (keeps_held b g).rules).request k (omega (arith, l, length_requests b))).outcome
-
-ruled : (b : List ℕ) → keeps_of b ≡ true → (k : ℕ) → k < request_count b → OutcomeKept (request_in (book_of b) k)
-ruled b g k l = outcome_kept (request_in (book_of b) k) (outcome_ruled b g k l)
-
--- so that one that is answered has another than 0
-settled : (q : Request) → OutcomeKept q → is_answered q ≡ true → q.outcome ≡ 0 → ⊥
-settled q r a z = let low : 0 < q.outcome = r.some a in omega arith
+-- ---- a request that is not there
 
 -- a request that is not there is unanswered
 past_unanswered : (b : List ℕ) (k : ℕ) → request_count b ≤ k → answered_in b k ≡ false
@@ -64,7 +50,7 @@ past_unanswered b k h = ap (λ (q : Request). is_answered q) (get_or-eq_default 
 line : (b r a : List ℕ) → Bytes b → Bytes r → (event_of b r a).returned ≡ 0 → (k : ℕ)
     → outcome_in (event_of b r a).book k ≡ outcome_after (book_of b) (book_of (event_of b r a).book) (event_in r) k
 line b r a bytes bytes' z k =
-    either_way (λ (o : Outcome). o.returned ≡ 0 → outcome_in o.book k ≡ outcome_after (book_of b) (book_of o.book) (event_in r) k) b r a
+    either_way (λ (o : Returned). o.returned ≡ 0 → outcome_in o.book k ≡ outcome_after (book_of b) (book_of o.book) (event_in r) k) b r a
     (λ t y.
     let left = (writes b r bytes bytes' t.keeps t.reads t.taken).is ∙ sym (after_is (book_of b) (event_in r) t.taken) in
     subst (λ (x : Book). (request_in x k).outcome ≡ outcome_after (book_of b) x (event_in r) k) (sym left)
@@ -74,7 +60,7 @@ line b r a bytes bytes' z k =
 added : (b r a : List ℕ) → Bytes b → Bytes r → (event_of b r a).returned ≡ 0 → (k : ℕ) → request_count b ≤ k → k < request_count (event_of b r a).book
     → outcome_in (event_of b r a).book k ≡ 0
 added b r a bytes bytes' z k h l =
-    either_way (λ (o : Outcome). o.returned ≡ 0 → k < request_count o.book → outcome_in o.book k ≡ 0) b r a (λ t y m. new t m) (λ e y m. absurd (eqb-false _ 0 e y)) z l
+    either_way (λ (o : Returned). o.returned ≡ 0 → k < request_count o.book → outcome_in o.book k ≡ 0) b r a (λ t y m. new t m) (λ e y m. absurd (eqb-false _ 0 e y)) z l
   where
     new : (t : Taken b r a) → k < request_count (book_with b (step_of (book_of b) (event_in r))) → outcome_in (book_with b (step_of (book_of b) (event_in r))) k ≡ 0
     new t m =
@@ -112,7 +98,7 @@ module _ (b : List ℕ) (g : Good b) (i : Call) where
       go (yes z) = omega (arith, length_requests b, length_requests next, (demand1.grown b i.event i.answer g.bytes i.bytes z).requests)
       go (no n) = omega (arith, ap request_count (refused_same n))
 
-  -- an outcome stays where the request was answered
+  -- an outcome stays if the request was answered
   kept : (k : ℕ) → k < request_count b → answered_in b k ≡ true → outcome_in next k ≡ outcome_in b k
   kept k l a = go (ℕ_discrete returned 0)
     where
@@ -232,108 +218,6 @@ spelled e = go (eqb e.kind 7) (eqb e.kind 4) (eqb e.exec.status rejected) (eqb e
           failed = (λ z. absurd (omega arith), λ z. absurd (eqb-false e.kind 7 p z));
           refused = λ y z. is;
         }
-
--- ---- what check asks
-
--- machine's rule of an outcome, as it is spelled out
-right_outcome : (q : Request) → outcome_rule q ≡ true → RightOutcome q
-right_outcome q e = let r : OutcomeKept q = outcome_kept q e in record { none = (λ z. unanswered r (is_answered q) refl z, r.none); most = r.most }
-  where
-    unanswered : OutcomeKept q → (a : Bool) → is_answered q ≡ a → q.outcome ≡ 0 → is_answered q ≡ false
-    unanswered r true e z = absurd (settled q r e z)
-    unanswered r false e z = e
-
-outcome_right : (q : Request) → RightOutcome q → outcome_rule q ≡ true
-unfolding outcome_rule
-outcome_right q r = go (is_answered q) refl (ℕ_discrete q.outcome 0)
-  where
-    go : (a : Bool) → is_answered q ≡ a → Dec (q.outcome ≡ 0) → (if is_answered q then ltb 0 q.outcome && leb q.outcome 3 otherwise eqb q.outcome 0) ≡ true
-    go true e (yes z) = clash _ e (r.none.0 z)
-    go true e (no z) = if_true _ _ _ e ∙ and_from _ _ (lt-ltb 0 q.outcome (omega arith)) (le-leb q.outcome 3 r.most)
-    go false e z = if_false _ _ _ e ∙ eq-eqb q.outcome 0 (r.none.1 e)
-
-alone : (q : Request) → Exactly (outcome_rule q ≡ true) (RightOutcome q)
-alone q = (right_outcome q, outcome_right q)
-
--- machine's rule of an OrigClOrdID, too
-borne : (b : List ℕ) (k : ℕ) → Exactly (origin_rule (book_of b).requests k ≡ true) ((is_empty (request_in (book_of b) k).origclordid ≡ true) ⊎ Borne b k)
-borne b k = (λ e. go e (is_empty (request_in (book_of b) k).origclordid) refl, back)
-  where
-    go : origin_rule (book_of b).requests k ≡ true → (v : Bool) → is_empty (request_in (book_of b) k).origclordid ≡ v
-        → (is_empty (request_in (book_of b) k).origclordid ≡ true) ⊎ Borne b k
-    go e true z = inl z
-    go e false z =
-        let n : Named (book_of b) k = rule_lower (book_of b) k z e in
-        inr (record { at = n.at; below = n.lower.below; order = n.lower.order; text = n.lower.text })
-
-    back : (is_empty (request_in (book_of b) k).origclordid ≡ true) ⊎ Borne b k → origin_rule (book_of b).requests k ≡ true
-    back (inl z) = unfold origin_rule in or_left _ _ z
-    back (inr n) = lower_rule (book_of b) k n.at (record { below = n.below; order = n.order; text = n.text })
-
--- ---- the links of a book that keeps machine's rules
-
-module _ (b : List ℕ) (r : rules (book_of b) ≡ true) where
-  abbrev x : Book
-  x = book_of b
-
-  of_book : BookKept x
-  of_book = book_kept x r
-
-  booked : (j : ℕ) → j < length x.requests → (request_in x j).order < length x.orders
-  booked j l = (of_book.request j l).order
-
-  right_link : links_right b ≡ true → (k : ℕ) → k < request_count b → RightOrigin b k
-  unfolding links_right
-  right_link t k l = go (is_empty (request_in x k).origclordid) refl
-    where
-      go : (v : Bool) → is_empty (request_in x k).origclordid ≡ v → RightOrigin b k
-      go true z = inl z
-      go false z =
-          let here : k < length x.requests = omega (arith, l, length_requests b) in
-          let (above, low) = link_lower b booked of_book.keys k here z (of_book.request k here).origin (all_elim (link_right b) (request_count b) t k l) in
-          let j : ℕ = origin_at b k - 1 in
-          inr (record {
-            at = j;
-            link = omega (arith, above);
-            below = low.below;
-            order = low.order;
-            number = unfold number_in in
-                subst (λ (o : ℕ). count_below (of_order x.requests o) j < count_below (of_order x.requests (request_in x k).order) k) (sym low.order)
-                (count_passed (of_order x.requests (request_in x k).order) j k low.below (eq-eqb _ _ low.order));
-            text = low.text;
-          })
-
-  link_is_right : ((k : ℕ) → k < request_count b → RightOrigin b k) → links_right b ≡ true
-  unfolding links_right
-  link_is_right t = all_intro (link_right b) (request_count b) (λ k l. go k l (is_empty (request_in x k).origclordid) refl (t k l))
-    where
-      go : (k : ℕ) → k < request_count b → (v : Bool) → is_empty (request_in x k).origclordid ≡ v → RightOrigin b k → link_right b k ≡ true
-      go k l true z q = unfold link_right in or_left _ _ z
-      go k l false z (inl e) = clash _ e z
-      go k l false z (inr e) =
-          let is : e.at ≡ origin_at b k - 1 = omega (arith, e.link) in
-          lower_right b booked of_book.keys k (omega (arith, l, length_requests b)) z (omega (arith, e.link))
-          (subst (Lower x k) is (record { below = e.below; order = e.order; text = e.text }))
-
-rule : (b : List ℕ) → check_of b ≡ 0 → (k : ℕ) → k < request_count b → RightOutcome (request_in (book_of b) k) × RightOrigin b k
-rule b z k l =
-    let g : keeps_of b ≡ true = kept_check b z in
-    (right_outcome (request_in (book_of b) k) (outcome_ruled b g k l), right_link b (keeps_held b g).rules (keeps_links b g) k l)
-
-links : (b : List ℕ) → ruled_of b ≡ true → Exactly (links_right b ≡ true) ((k : ℕ) → k < request_count b → RightOrigin b k)
-links b r = (right_link b (ruled_held b r).rules, link_is_right b (ruled_held b r).rules)
-
--- ---- no more is asked
-
-exact : (b : List ℕ) → Exactly (check_of b ≡ 0) ((ruled_of b ≡ true) × (opens_right b ≡ true) × (links_right b ≡ true))
-unfolding keeps_of indexed
-exact b = (λ z. parts (kept_check b z), λ (r, o, t). check_kept b (and_from (ruled_of b) (links_right b && opens_right b) r (and_from (links_right b) (opens_right b) t o)))
-  where
-    parts : ruled_of b && (links_right b && opens_right b) ≡ true → (ruled_of b ≡ true) × (opens_right b ≡ true) × (links_right b ≡ true)
-    parts e =
-        let p = and_parts (ruled_of b) (links_right b && opens_right b) e in
-        let q = and_parts (links_right b) (opens_right b) p.1 in
-        (p.0, q.1, q.0)
 
 -- ---- another byte
 

@@ -3,9 +3,11 @@
 use Rattle.std.proofs.Common.{ℕ, ◌+◌, ◌-◌, ◌≤◌, ◌<◌, arith, ◌≡◌, refl, sym, ap, ap₂, subst, ◌∙◌, ◌⊎◌, inl, inr, ⊎_elim, ◌&&◌, Some, List, [], ◌∷◌, ◌++◌, eqb, ltb, length, eq-eqb, ne_eqb, le-leb, lt-ltb}
 use Rattle.std.proofs.Math.Decide.{ℕ_discrete}
 use Rattle.std.proofs.lemmas.Bool.{eqb-false, and_from, or_left}
-use Rattle.prelude.specs.Cases.{if◌then◌otherwise◌, split_if, if_true, if_false, maybe_some}
+use Rattle.prelude.specs.Cases.{if◌then◌otherwise◌}
+use Rattle.prelude.specs.Laws.Cases.{split_if, if_true, if_false, maybe_some}
 use Rattle.prelude.specs.Number.{bytes_of}
-use Rattle.prelude.specs.Totals.{Every, every[], every∷, every_map, every_append}
+use Rattle.prelude.specs.Totals.{Every, every[], every∷}
+use Rattle.prelude.specs.Laws.Totals.{every_map, every_append}
 use Rattle.store.specs.declared.Order.{Order}
 use Rattle.store.specs.declared.Request.{Request}
 use Rattle.store.specs.Layout.{book_size, header·orders, header·requests, order_size, most_orders, request_size, most_requests, order_base, request_base, request·answered, request·outcome, open_size, open_base}
@@ -36,7 +38,7 @@ order_write i o = write (order_base i) (encode_order o)
 unfoldable mark_writes : (link outcome : ℕ) → List Write
 mark_writes k v = if eqb k 0 then [] otherwise write (request_base (k - 1) + request·answered) (1 ∷ []) ∷ write (request_base (k - 1) + request·outcome) (v ∷ []) ∷ []
 
--- where there is no link the outcome is no matter
+-- if there is no link, the outcome does not matter
 mark_values : (k v u : ℕ) → ((k ≡ 0 → ⊥) → v ≡ u) → mark_writes k v ≡ mark_writes k u
 mark_values k v u h = go (ℕ_discrete k 0)
   where
@@ -75,7 +77,7 @@ one_added t origin r z = if_false _ _ _ (ne_eqb r.added 0 z)
 
 -- ---- where they stand
 
--- a write in the record of an order of O or of a request of R, in the count where C, or in a word of P
+-- a write in the record of an order of O or of a request of R, in the count if C, or in a word of P
 pub data Zone (O R : ℕ → Type 0) (C : Type 0) (P : ℕ → Type 0) (w : Write) : Type 0 where
   in_order : (k : ℕ) → O k → k < most_orders → w.at ≡ order_base k → length w.bytes ≡ order_size → Zone O R C P w
   in_request : (k : ℕ) → R k → k < most_requests → request_base k ≤ w.at → ends w ≤ request_base k + request_size → Zone O R C P w
@@ -213,7 +215,7 @@ module _ (b : List ℕ) (long : length b ≡ book_size) where
 abbrev settled : List ℕ → (f s : ℕ) → Requests → List ℕ
 settled b f s r = put_all (put_all b (mark_writes r.answered f)) (mark_writes r.superseded s)
 
--- what the request of a link comes to where it is settled
+-- what the request of a link comes to if it is settled
 abbrev pub value_of : List ℕ → Requests → (link : ℕ) → ℕ
 value_of b r link = settled_as r.outcome (request_in (book_of b) (link - 1))
 

@@ -3,8 +3,9 @@ use Rattle.std.proofs.Common.{ℕ, ◌+◌, ◌-◌, ◌≤◌, ◌<◌, arith, 
 use Rattle.std.proofs.lemmas.Bool.{lt-leb, not-true, not-false}
 use Rattle.std.proofs.Math.Bool.{or-false}
 use Rattle.std.proofs.lemmas.Bool.Decides.{nat_tests}
-use Rattle.prelude.specs.Below.{first_some}
-use Rattle.prelude.specs.Cases.{if◌then◌otherwise◌, split_if, split_maybe, if_true, if_false, clash}
+use Rattle.prelude.specs.Laws.Below.{first_some}
+use Rattle.prelude.specs.Cases.{if◌then◌otherwise◌}
+use Rattle.prelude.specs.Laws.Cases.{split_if, split_maybe, if_true, if_false, clash}
 use Rattle.prelude.specs.declared.Text.{Text}
 use Rattle.store.specs.declared.Order.{Order}
 use Rattle.store.specs.declared.Request.{Request}
@@ -14,7 +15,7 @@ use Rattle.machine.specs.declared.Change.{Change}
 use Rattle.machine.specs.Changes.{Event, unchanged, refusing, adding, alarming}
 use Rattle.machine.specs.Amend.{amend_refusal, already_taken, or_own, replace_refusal, priced_right, cancel, replace}
 use Rattle.machine.specs.Machine.{order_link, order_of, unused, book_order, amending, on_request, nothing, unknown_report, on_name, change_of, has_room, step_of, answer_link, orders_after, requests_after, after, findings_of}
-use Rattle.machine.proofs.Made.{not_kind, on_report_made, unknown_made, reject_made, failed_made, unsent_made, asked_made}
+use Rattle.machine.proofs.Walked.{not_kind, on_report_made, unknown_made, reject_made, failed_made, unsent_made, asked_made}
 use Rattle.machine.proofs.Claim.Moves.{Moves, made_moves, asked_moves, told_refusal, status_moves, cancel_goes_moves, replace_goes_moves}
 use Rattle.machine.proofs.Claim.Ruled.{Ruled, request_ruled}
 use Rattle.machine.proofs.Claim.Walk.{found_request, found_order}
@@ -218,7 +219,7 @@ module _ (b : Book) (r : Ruled b) (e : Event) where
 
 -- ---- what an event taken adds
 
--- n more exactly where the test holds
+-- n more exactly if the test holds
 orders_grow : (os : List Order) (c : Change) (t : Bool) → leb c.place (length os) ≡ not t → length (orders_after os c) ≡ length os + (if t then 1 otherwise 0)
 unfolding orders_after if◌then◌otherwise◌
 orders_grow os c true h =

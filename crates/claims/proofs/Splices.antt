@@ -1,6 +1,7 @@
 -- Splices of a buffer in either order: those beside each other commute, one by one and list by list. Rests on prelude's Span.
 use Rattle.std.proofs.Common.{ℕ, ◌+◌, ◌-◌, ◌≤◌, ◌<◌, arith, ◌≡◌, refl, sym, ap, ◌∙◌, ◌⊎◌, ⊎_elim, List, [], ◌∷◌, ◌++◌, length, take, drop, length-drop, take-append-drop, take_at, drop_at, length-take-le}
-use Rattle.prelude.specs.Span.{span, splice, length_span, length_splice, span_splice_same, span_splice_after, splice_append, splice_before}
+use Rattle.prelude.specs.Span.{span, splice}
+use Rattle.prelude.specs.Laws.Span.{length_span, length_splice, span_splice_same, span_splice_after, splice_append, splice_before}
 use Rattle.prelude.specs.Totals.{Every, every[], every∷}
 
 -- what stands there, written again
@@ -116,7 +117,7 @@ put_over n s w v post l h a e ks ds =
     ∙ ap (λ (x : List ℕ). put_all x post)
     (ap (λ (k : ℕ). splice (put s w) k v.bytes) a ∙ splice_over s w.at w.bytes v.bytes (sym e) (omega (arith, h)) ∙ ap (λ (k : ℕ). splice s k v.bytes) (sym a))
 
--- what stands where a write was, with none behind it that touches it
+-- what stands at the index of a write that no later one touches
 pub span_put : (n : ℕ) (s : List ℕ) (w : Write) (post : List Write) (k : ℕ) → length s ≡ n → Inside n w → length w.bytes ≡ k → Every (Inside n) post → Every (Beside w) post
     → span (put_all s (w ∷ post)) w.at k ≡ w.bytes
 span_put n s w post k l h e ks ds =

@@ -2,9 +2,10 @@
 -- Rests on Written and Header, and on machine's step_keeps and whole_kept.
 use Rattle.std.proofs.Common.{ℕ, ◌≤◌, ◌<◌, arith, ◌≡◌, refl, sym, ap, ◌∙◌, subst, ⊎_elim, Bool, true, false, not, List, eqb, ltb, length, eqb-true, eq-eqb, ltb-true, ltb-false}
 use Rattle.std.proofs.lemmas.Bool.{eqb-false, not-true, not-false}
-use Rattle.prelude.specs.Cases.{split_if, if_true, if_false, clash}
+use Rattle.prelude.specs.Laws.Cases.{split_if, if_true, if_false, clash}
 use Rattle.prelude.specs.Number.{Bytes}
-use Rattle.prelude.specs.Span.{splice, length_splice}
+use Rattle.prelude.specs.Span.{splice}
+use Rattle.prelude.specs.Laws.Span.{length_splice}
 use Rattle.records.specs.Record.{event_in}
 use Rattle.records.specs.Answer.{answer_bytes}
 use Rattle.store.specs.Book.{Book, book_of}
@@ -17,14 +18,14 @@ use Rattle.machine.specs.Events.{Ranged}
 use Rattle.machine.specs.Outcomes.{outcome_by}
 use Rattle.machine.specs.Whole.{WholeBook}
 use Rattle.machine.proofs.Claim.Ruled.{ruled}
-use Rattle.machine.proofs.Kept.Lift.{book_kept}
+use Rattle.machine.proofs.Kept.Indexed.{book_kept}
 use Rattle.machine.proofs.Kept.Steps.{step_keeps}
 use Rattle.machine.proofs.Kept.Whole.{whole_kept}
 use Rattle.machine.proofs.Outcomes.Set.{outcome_set}
 use Rattle.machine.proofs.Said.Reads.{event_ranged, event_whole}
 use Rattle.machine.proofs.Said.Steps.{messages_few}
 use Rattle.rules.specs.Keeps.{keeps_of}
-use Rattle.step.specs.Entries.{book_with, Outcome, outcome, call_of, event_of, check_of}
+use Rattle.step.specs.Entries.{book_with, Returned, returned, call_of, event_of, check_of}
 use Rattle.claims.specs.Claims.{WritesChange, Sizes, KeepsSizes}
 use Rattle.claims.proofs.Written.{whole_held, order_written, request_written, Writes, change_writes}
 use Rattle.claims.proofs.Header.{Headed, change_head}
@@ -73,22 +74,22 @@ taken_by b r a c w (stepped k l e) z = record { keeps = k; room = l; reads = e; 
 pub call_taken : (b r a : List ℕ) → (call_of b r (length a)).refusal ≡ 0 → Taken b r a
 call_taken b r a z = taken_by b r a (call_of b r (length a)) refl (asked b r a) z
 
--- ---- the outcome
+-- ---- what a call returns
 
-abbrev pub left : (b r a : List ℕ) → Change → Outcome
-left b r a c = outcome 0 (book_with b c) (splice a 0 (answer_bytes c.output.alarm c.output.alarm2 (messages_of c)))
+abbrev pub left : (b r a : List ℕ) → Change → Returned
+left b r a c = returned 0 (book_with b c) (splice a 0 (answer_bytes c.output.alarm c.output.alarm2 (messages_of c)))
 
 pub event_taken : (b r a : List ℕ) → eqb (call_of b r (length a)).refusal 0 ≡ true → event_of b r a ≡ left b r a (call_of b r (length a))
 unfolding event_of
 event_taken b r a e = if_true _ _ _ e
 
-pub event_refused : (b r a : List ℕ) → eqb (call_of b r (length a)).refusal 0 ≡ false → event_of b r a ≡ outcome (call_of b r (length a)).refusal b a
+pub event_refused : (b r a : List ℕ) → eqb (call_of b r (length a)).refusal 0 ≡ false → event_of b r a ≡ returned (call_of b r (length a)).refusal b a
 unfolding event_of
 event_refused b r a e = if_false _ _ _ e
 
 pub returned_is : (b r a : List ℕ) → (event_of b r a).returned ≡ (call_of b r (length a)).refusal
 unfolding event_of
-returned_is b r a = split_if (λ (o : Outcome). o.returned ≡ (call_of b r (length a)).refusal) _ (λ e. sym (eqb-true _ 0 e)) (λ e. refl)
+returned_is b r a = split_if (λ (o : Returned). o.returned ≡ (call_of b r (length a)).refusal) _ (λ e. sym (eqb-true _ 0 e)) (λ e. refl)
 
 -- ---- the book that is left
 
@@ -174,16 +175,16 @@ writes_change b r bytes bytes' z reads taken = (writes b r bytes bytes' (kept_ch
 
 -- ---- one call, taken or refused
 
-pub outcome_taken : (b r a : List ℕ) → Taken b r a → event_of b r a ≡ left b r a (step_of (book_of b) (event_in r))
-outcome_taken b r a t = event_taken b r a (eq-eqb _ 0 (ap (λ (c : Change). c.refusal) t.is ∙ t.taken)) ∙ ap (left b r a) t.is
+pub returned_taken : (b r a : List ℕ) → Taken b r a → event_of b r a ≡ left b r a (step_of (book_of b) (event_in r))
+returned_taken b r a t = event_taken b r a (eq-eqb _ 0 (ap (λ (c : Change). c.refusal) t.is ∙ t.taken)) ∙ ap (left b r a) t.is
 
--- what holds where the call is taken and where it is refused holds
-pub either_way : (P : Outcome → Type 0) (b r a : List ℕ) → (Taken b r a → P (left b r a (step_of (book_of b) (event_in r))))
-    → (eqb (call_of b r (length a)).refusal 0 ≡ false → P (outcome (call_of b r (length a)).refusal b a)) → P (event_of b r a)
+-- what holds both of a call that is taken and of one that is refused, holds
+pub either_way : (P : Returned → Type 0) (b r a : List ℕ) → (Taken b r a → P (left b r a (step_of (book_of b) (event_in r))))
+    → (eqb (call_of b r (length a)).refusal 0 ≡ false → P (returned (call_of b r (length a)).refusal b a)) → P (event_of b r a)
 either_way P b r a f g = go (eqb (call_of b r (length a)).refusal 0) refl
   where
     go : (t : Bool) → eqb (call_of b r (length a)).refusal 0 ≡ t → P (event_of b r a)
-    go true e = let t : Taken b r a = call_taken b r a (eqb-true _ 0 e) in subst P (sym (outcome_taken b r a t)) (f t)
+    go true e = let t : Taken b r a = call_taken b r a (eqb-true _ 0 e) in subst P (sym (returned_taken b r a t)) (f t)
     go false e = subst P (sym (event_refused b r a e)) (g e)
 
 pub keeps_sizes : KeepsSizes

@@ -14,9 +14,9 @@ use Rattle.machine.specs.Sources.{Sourced}
 use Rattle.machine.specs.declared.Change.{Change}
 use Rattle.machine.proofs.Venue.Books.{status_set, six_right, sources_right}
 use Rattle.rules.specs.Laws.Keeps.{keeps_held}
-use Rattle.step.specs.Entries.{Outcome, event_of}
+use Rattle.step.specs.Entries.{Returned, event_of}
 use Rattle.claims.specs.Venue.{StatusOnBytes, SixOnBytes, SourcesOnBytes}
-use Rattle.claims.proofs.Taken.{Taken, call_taken, returned_is, outcome_taken, writes}
+use Rattle.claims.proofs.Taken.{Taken, call_taken, returned_is, returned_taken, writes}
 use Rattle.claims.proofs.Calls.{answers_on_bytes}
 
 module _ (b r a : List ℕ) (bytes : Bytes b) (bytes' : Bytes r) (z : (event_of b r a).returned ≡ 0) where
@@ -31,7 +31,7 @@ module _ (b r a : List ℕ) (bytes : Bytes b) (bytes' : Bytes r) (z : (event_of 
 
   book_left : book_of (event_of b r a).book ≡ after (book_of b) c
   book_left =
-      ap (λ (x : Outcome). book_of x.book) (outcome_taken b r a taken) ∙ (writes b r bytes bytes' taken.keeps taken.reads taken.taken).is
+      ap (λ (x : Returned). book_of x.book) (returned_taken b r a taken) ∙ (writes b r bytes bytes' taken.keeps taken.reads taken.taken).is
 
   answer : Answers c (event_of b r a).answer
   answer = answers_on_bytes b r a bytes bytes' z

@@ -3,8 +3,9 @@
 use Rattle.std.proofs.Common.{ℕ, ◌-◌, ◌<◌, arith, ◌≡◌, refl, sym, ap, ◌∙◌, Bool, true, false, Option, None, Some, List, eqb, length, eqb-true, eq-eqb}
 use Rattle.std.proofs.Math.Decide.{ℕ_discrete}
 use Rattle.std.proofs.lemmas.Bool.{eqb-false}
-use Rattle.prelude.specs.Below.{First, first_some, all_intro}
-use Rattle.prelude.specs.Cases.{if◌then◌otherwise◌, maybe, split_if, if_true, if_false, maybe_some}
+use Rattle.prelude.specs.Laws.Below.{First, first_some, all_intro}
+use Rattle.prelude.specs.Cases.{if◌then◌otherwise◌, maybe}
+use Rattle.prelude.specs.Laws.Cases.{split_if, if_true, if_false, maybe_some}
 use Rattle.prelude.specs.Lists.{first_in}
 use Rattle.prelude.specs.Totals.{total_of}
 use Rattle.store.specs.declared.Order.{Order}
@@ -21,7 +22,7 @@ use Rattle.machine.specs.Machine.{after}
 use Rattle.machine.specs.Rules.{rules}
 use Rattle.machine.specs.Whole.{WholeBook}
 use Rattle.machine.specs.Exchange.{open_of}
-use Rattle.machine.proofs.Kept.Lift.{book_kept}
+use Rattle.machine.proofs.Kept.Indexed.{book_kept}
 use Rattle.machine.proofs.Claim.Filled.{after_orders, orders_same}
 use Rattle.index.specs.Index.{stored_open, open_right, opens_right}
 use Rattle.rules.specs.Keeps.{keeps_of}
@@ -94,7 +95,7 @@ module _ (b : List ℕ) (c : Change) (keeps : keeps_of b ≡ true) (w : Writes b
       requests_word j k (place_order b c.place c.order) _ c.requests (request_written (book_of b) c whole)
       ∙ place_word j k b c.place c.order (order_written (book_of b) c whole)
 
-  -- a client whose first order, sum and word are as they were
+  -- a client's word stays right if its first order, its sum and the word are as they were
   calm : (k : ℕ) → find_client left k ≡ find_client (book_of b) k → open_of left k ≡ open_of (book_of b) k → ((j : ℕ) → find_client left k ≡ Some j → open_at f j ≡ open_at b j)
       → maybe 0 (open_at f) (find_client left k) ≡ open_of left k
   unfolding stored_open

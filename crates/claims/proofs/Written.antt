@@ -2,7 +2,8 @@
 use Rattle.std.proofs.Common.{ℕ, ◌-◌, ◌^◌, ◌≤◌, ◌<◌, arith, ◌≡◌, refl, sym, ap, ◌∙◌, subst, ⊎_elim, Bool, true, false, not, ◌&&◌, ◌||◌, List, [], ◌∷◌, ◌++◌, eqb, leb, ltb, length, get_or, set, length-append, length-set, get_or-set_same, leb-true, ltb-true}
 use Rattle.std.proofs.Math.Seq.{get_or_at}
 use Rattle.std.proofs.lemmas.Bool.{eqb-false, not-true, and_parts, or_cases}
-use Rattle.prelude.specs.Cases.{if◌then◌otherwise◌, split_if, split_maybe, if_true, if_false, clash}
+use Rattle.prelude.specs.Cases.{if◌then◌otherwise◌}
+use Rattle.prelude.specs.Laws.Cases.{split_if, split_maybe, if_true, if_false, clash}
 use Rattle.prelude.specs.Number.{Bytes}
 use Rattle.store.specs.declared.Order.{Order}
 use Rattle.store.specs.declared.Request.{Request}
@@ -17,7 +18,7 @@ use Rattle.machine.specs.declared.Change.{Change}
 use Rattle.machine.specs.Machine.{has_room, answer_link, orders_after, requests_after, after}
 use Rattle.machine.specs.Rules.{gateway_range}
 use Rattle.machine.specs.Whole.{WholeBook}
-use Rattle.machine.proofs.Kept.Lift.{BookKept, book_kept}
+use Rattle.machine.proofs.Kept.Indexed.{BookKept, book_kept}
 use Rattle.machine.proofs.Kept.Tables.{length_answer}
 use Rattle.step.specs.Entries.{place_order, mark_link, place_requests, place_open, tables_with, book_with}
 use Rattle.store.specs.Laws.Cells.{fits_32}

@@ -1,4 +1,4 @@
--- Wish 9 on bytes: the chain of a ClOrdID after any calls. Rests on Claims, Opens (`bytes_after`) and chain's promises.
+-- The chain of a ClOrdID after any calls (change request 9), on bytes. Rests on Claims, Opens (`bytes_after`) and chain's promises.
 use Rattle.std.specs.Prelude.{ℕ, ◌≡◌, List}
 use Rattle.store.specs.Book.{book_of}
 use Rattle.chain.specs.Promise.{Chains, IsCall}

@@ -17,7 +17,7 @@ use Rattle.machine.specs.Claim.{Demand3, OneOrder, Each}
 use Rattle.machine.specs.Short.{IsWhole}
 use Rattle.machine.specs.Since.{Demand3From, Net}
 use Rattle.claims.specs.Questions.{is_booking, used, mispriced, adds, first_no}
-use Rattle.step.specs.Entries.{book_with, Outcome, event_of, start_of, start_refusal, check_of}
+use Rattle.step.specs.Entries.{book_with, Returned, event_of, start_of, start_refusal, check_of}
 use Rattle.format.specs.Refusal.{event_refusal}
 
 -- ---- demand 1
@@ -32,20 +32,20 @@ Reads b r a = (check_of b ≡ 0) × (1024 ≤ length a) × (event_refusal r ≡ 
 -- "each number has its one condition": n is what the call returns. That n is `first_no` says all of it; this is what each number means.
 pub record Numbers (b r a : List ℕ) (n : ℕ) : Type 0 where
   pub most : n ≤ 7
-  -- 1 where check gives 1, 2 where the answer buffer is short, 3 and 4 where the record's shape or a range is wrong
+  -- 1 if check gives 1, 2 if the answer buffer is short, 3 and 4 if the record's shape or a range is wrong
   pub one : Exactly (n ≡ 1) (check_of b ≡ 1)
   pub two : Exactly (n ≡ 2) ((check_of b ≡ 0) × (length a < 1024))
   pub three : Exactly (n ≡ 3) ((check_of b ≡ 0) × (1024 ≤ length a) × (event_refusal r ≡ 3))
   pub four : Exactly (n ≡ 4) ((check_of b ≡ 0) × (1024 ≤ length a) × (event_refusal r ≡ 4))
-  -- 5 where a booking's name or ClOrdID is used, 6 where else the price does not fit the type
+  -- 5 if a booking's name or ClOrdID is used, else 6 if the price does not fit the type
   pub five : Exactly (n ≡ 5) (Reads b r a × (used (book_of b) (event_in r) ≡ true))
   pub six : Exactly (n ≡ 6) (Reads b r a × (used (book_of b) (event_in r) ≡ false) × (mispriced (book_of b) (event_in r) ≡ true))
-  -- 7 is never early: where none of these is so, a booking on 64 orders, or an event that adds a request on 256
+  -- 7 is never early: none of these is so, and it is a booking on 64 orders, or an event that adds a request on 256
   pub seven : Exactly (n ≡ 7)
       (Reads b r a × (used (book_of b) (event_in r) ≡ false) × (mispriced (book_of b) (event_in r) ≡ false)
       × ((((event_in r).kind ≡ 1) × (length (book_of b).orders ≡ most_orders)) ⊎ ((adds (book_of b) (event_in r) ≡ true) × (length (book_of b).requests ≡ most_requests))))
 
--- what an event taken adds to the tables: an order exactly at a booking, a request exactly where `adds` says so
+-- what an event taken adds to the tables: an order exactly if it is a booking, a request exactly if `adds` says so
 pub record Grown (b : Book) (e : Event) (left : Book) : Type 0 where
   pub orders : length left.orders ≡ length b.orders + (if is_booking e then 1 otherwise 0)
   pub requests : length left.requests ≡ length b.requests + (if adds b e then 1 otherwise 0)
@@ -70,7 +70,7 @@ pub record Demand1 : Type 0 where
   -- the records that question 7 is asked about are those that the event adds
   pub grown : (b r a : List ℕ) → Bytes b → Bytes r → (event_of b r a).returned ≡ 0 → Grown (book_of b) (event_in r) (book_of (event_of b r a).book)
 
--- our reader reads the answer of an event taken: its messages and its two alarms are the machine's own; none, one of the paper's alone, or 6 and then 1
+-- our reader reads the answer of an event taken: its messages and its two alarms are the machine's own; none, one alone, or 6 and then 1
 abbrev pub AnswersOnBytes : Type 0
 AnswersOnBytes = (b r a : List ℕ) → Bytes b → Bytes r → (event_of b r a).returned ≡ 0 → Answers (step_of (book_of b) (event_in r)) (event_of b r a).answer
 
@@ -82,7 +82,7 @@ WritesChange = (b r : List ℕ) → Bytes b → Bytes r → check_of b ≡ 0 →
     → book_of (book_with b (step_of (book_of b) (event_in r))) ≡ after (book_of b) (step_of (book_of b) (event_in r))
 
 -- no call changes a length, and the book's bytes stay bytes
-pub record Sizes (b r a : List ℕ) (o : Outcome) : Type 0 where
+pub record Sizes (b r a : List ℕ) (o : Returned) : Type 0 where
   pub answer : length o.answer ≡ length a
   pub book : Bytes b → Bytes r → length o.book ≡ length b
   pub bytes : Bytes b → Bytes r → Bytes o.book
@@ -98,7 +98,7 @@ pub record Call : Type 0 where
   pub answer : List ℕ
   pub bytes : Bytes event
 
--- what the call's record reads as, where the answer buffer is long enough
+-- what the call's record reads as, if the answer buffer is long enough
 unfoldable pub read_call : Call → Decoded
 read_call c =
     if ltb (length c.answer) 1024 then unread 2
@@ -125,13 +125,13 @@ entries = record {
 abbrev pub Demand3OnBytes : Type 0
 Demand3OnBytes = (b : List ℕ) (setting : ℕ) → setting < 2 ^ 32 → start_refusal b ≡ 0 → (cs : List Call) → Demand3 (calls entries (start_of b setting) [] cs)
 
--- ---- wish 8
+-- ---- Filled, but short (change request 8)
 
--- A FILLED ORDER IS FILLED WHOLE: after start with any setting and any list of calls. It is no rule: a book from before may hold one that is short
+-- A FILLED ORDER IS FILLED WHOLE: after start with any setting and any list of calls. It is no rule: an older book may hold one that is short
 abbrev pub FilledWholeOnBytes : Type 0
 FilledWholeOnBytes = (b : List ℕ) (setting : ℕ) → setting < 2 ^ 32 → start_refusal b ≡ 0 → (cs : List Call) → Each (calls entries (start_of b setting) [] cs) IsWhole
 
--- ---- wish 10: since a return
+-- ---- since a return (change request 10)
 
 -- bytes that check passes
 pub record Passes (b : List ℕ) : Type 0 where

@@ -1,5 +1,5 @@
--- Wish 12 on bytes: two calls of `event` whose records concern orders of different clients may be exchanged. Rests on Concern, Claims, machine's Exchange
--- (what "the same record and requests" means) and opens.
+-- Two calls of `event` whose records concern orders of different clients may be exchanged (change request 12), on bytes. Rests on Concern, Claims, machine's
+-- Exchange (what "the same record and requests" means) and opens.
 use Rattle.std.specs.Prelude.{ℕ, ◌+◌, ◌≤◌, ◌<◌, ◌≡◌, List, length}
 use Rattle.prelude.specs.Number.{Bytes}
 use Rattle.prelude.specs.Span.{span, splice}
@@ -8,11 +8,11 @@ use Rattle.store.specs.Book.{book_of, order_in, request_count, store_order}
 use Rattle.machine.specs.Exchange.{open_of, SameOrder, turned_order, Turned}
 use Rattle.index.specs.Index.{stored_open}
 use Rattle.opens.specs.Opens.{opened, open_call}
-use Rattle.step.specs.Entries.{Outcome, event_of}
+use Rattle.step.specs.Entries.{Returned, event_of}
 use Rattle.claims.specs.Claims.{Call}
 use Rattle.claims.specs.Concern.{Concerns}
 
-abbrev pub called : List ℕ → Call → Outcome
+abbrev pub called : List ℕ → Call → Returned
 called b c = event_of b c.event c.answer
 
 -- the book's bytes after two calls, one after the other

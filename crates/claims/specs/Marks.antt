@@ -12,7 +12,7 @@ use Rattle.step.specs.Entries.{event_of, start_of, start_refusal}
 use Rattle.net.specs.Net.{filled_in}
 use Rattle.marks.specs.Marks.{Marked, marked, set_mark_of, return_of}
 use Rattle.claims.specs.Claims.{Call, entries, Passes}
-use Rattle.claims.specs.Net.{told, plus, Says}
+use Rattle.claims.specs.Net.{reported, plus, Says}
 
 -- ---- a list of calls: the book's bytes go from call to call, and each call lends its own other buffers, of any bytes
 
@@ -48,7 +48,7 @@ abbrev pub after_calls : SinceReturn entries → List BookCall → SinceReturn e
 after_calls s [] = s
 after_calls s (c ∷ cs) = after_calls (after_call s c) cs
 
--- ---- since the last return, or since the beginning where there was none
+-- ---- since the last return, or since the beginning if there was none
 
 pub record SinceMark (s : SinceReturn entries) : Type 0 where
   -- the book keeps its rules
@@ -56,10 +56,10 @@ pub record SinceMark (s : SinceReturn entries) : Type 0 where
   -- LastQty adds up to the cumulative quantity less what the image held, at most what is ordered; done means done since; tries are the image's and the new
   -- requests less those of both whose send failed since, at most three
   pub demand : Demand3From (book_of s.image) (state_of entries s)
-  -- bought and sold: what the image held and what was told since
+  -- bought and sold: what the image held and what was reported since
   pub net : Net (book_of s.image) (state_of entries s)
   -- and so says the call
-  pub said : Says s.held (λ client symbol. plus (filled_in (book_of s.image) client symbol) (told client symbol s.past))
+  pub said : Says s.held (λ client symbol. plus (filled_in (book_of s.image) client symbol) (reported client symbol s.past))
 
 -- ---- a mark comes back
 
@@ -95,7 +95,7 @@ pub record MarksOnBytes : Type 0 where
   pub since : (b : List ℕ) → Passes b → (cs : List BookCall) → SinceMark (after_calls (just_returned entries b) cs)
   -- after start with any setting and any list of calls
   pub start : (b : List ℕ) (setting : ℕ) → start_refusal b ≡ 0 → (cs : List BookCall) → SinceMark (after_calls (just_returned entries (start_of b setting)) cs)
-  -- and demand 3 as it stands from the empty book, where that is the image
+  -- and demand 3 as it stands from the empty book, if that is the image
   pub empty : (b : List ℕ) (setting : ℕ) → setting < 2 ^ 32 → start_refusal b ≡ 0 → (cs : List BookCall)
       → let s = after_calls (just_returned entries (start_of b setting)) cs in s.image ≡ start_of b setting → Demand3 (state_of entries s)
   -- a mark set, then anything but a set of that name on that buffer, then a return: the book is, byte for byte, the one that was marked

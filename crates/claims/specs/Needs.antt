@@ -8,7 +8,7 @@ use Rattle.records.specs.Fields.{held}
 use Rattle.records.specs.Answer.{length_in, answer_messages}
 use Rattle.machine.specs.Changes.{Message}
 use Rattle.store.specs.Book.{book_of}
-use Rattle.step.specs.Entries.{Outcome, event_of}
+use Rattle.step.specs.Entries.{Returned, event_of}
 use Rattle.needs.specs.declared.Needs.{Needs}
 use Rattle.needs.specs.Needs.{needs_call}
 
@@ -17,7 +17,7 @@ abbrev pub written_fields : Message → ℕ
 written_fields m = count_below (λ b. ltb 0 (length (field_bytes m.map (held m) b))) 32
 
 -- an event that was taken: what it wrote, in a buffer that was a, over a book that was b
-pub record Used (b a : List ℕ) (o : Outcome) (n : Needs) : Type 0 where
+pub record Used (b a : List ℕ) (o : Returned) (n : Needs) : Type 0 where
   -- the answer's own first two bytes say its length, and every byte past it is as it was
   pub long : length_in o.answer ≡ n.length
   pub behind : (k : ℕ) → n.length ≤ k → get_or o.answer k 0 ≡ get_or a k 0
@@ -28,7 +28,7 @@ pub record Used (b a : List ℕ) (o : Outcome) (n : Needs) : Type 0 where
   -- by how many the table of requests has grown
   pub requests : length (book_of o.book).requests ≡ length (book_of b).requests + n.requests
 
-pub record Foretold (b a : List ℕ) (o : Outcome) (n : Needs) : Type 0 where
+pub record Foretold (b a : List ℕ) (o : Returned) (n : Needs) : Type 0 where
   -- the event's own number, and never that of a short answer buffer
   pub refusal : n.refusal ≡ o.returned
   pub never : n.refusal ≡ 2 → ⊥

@@ -12,14 +12,14 @@ use Rattle.net.specs.declared.Amounts.{Amounts}
 use Rattle.net.specs.Net.{Signed, netted, filled_in, net_for, read_lines, least_scratch, least_lines, Written, net_call}
 use Rattle.claims.specs.Claims.{Call, entries, Passes}
 
--- ---- what was told
+-- ---- what was reported
 
 -- the LastQty of the messages 16 that our reader read, on one side, by each message's own client, symbol and side
-abbrev pub told_on : (bought : Bool) (client : ℕ) (symbol : Text) → List Entry → ℕ
-told_on bought client symbol past = total_of (λ e. total_of (last_qty_on bought client symbol) e.messages) past
+abbrev pub reported_on : (bought : Bool) (client : ℕ) (symbol : Text) → List Entry → ℕ
+reported_on bought client symbol past = total_of (λ e. total_of (last_qty_on bought client symbol) e.messages) past
 
-abbrev pub told : (client : ℕ) (symbol : Text) → List Entry → Amounts
-told client symbol past = record { bought = told_on true client symbol past; sold = told_on false client symbol past }
+abbrev pub reported : (client : ℕ) (symbol : Text) → List Entry → Amounts
+reported client symbol past = record { bought = reported_on true client symbol past; sold = reported_on false client symbol past }
 
 abbrev pub plus : Amounts → Amounts → Amounts
 plus x y = record { bought = x.bought + y.bought; sold = x.sold + y.sold }
@@ -37,10 +37,10 @@ Says held amounts = (scratch : ℕ) (lines : List ℕ) → least_scratch ≤ scr
 
 -- ---- the theorem
 
--- SINCE A RETURN: from any bytes that check passes, after any list of calls and returns to such bytes: what the image last returned to holds, and what was told since
+-- SINCE A RETURN: from any bytes that check passes, after any list of calls and returns to such bytes: what the image last returned to holds, and what was reported since
 abbrev pub NetSinceOnBytes : Type 0
 NetSinceOnBytes = (b : List ℕ) → Passes b → (is : List (Step entries Passes))
-    → let s = follow entries (just_returned entries b) is in Says s.held (λ client symbol. plus (filled_in (book_of s.image) client symbol) (told client symbol s.past))
+    → let s = follow entries (just_returned entries b) is in Says s.held (λ client symbol. plus (filled_in (book_of s.image) client symbol) (reported client symbol s.past))
 
 -- calls alone
 abbrev pub only_calls : List Call → List (Step entries Passes)
@@ -50,7 +50,7 @@ only_calls (c ∷ cs) = call c ∷ only_calls cs
 abbrev pub start_calls : (b : List ℕ) (setting : ℕ) → List Call → SinceReturn entries
 start_calls b setting cs = follow entries (just_returned entries (start_of b setting)) (only_calls cs)
 
--- SINCE THE EMPTY BOOK: after start with any setting and any list of calls, what was told
+-- SINCE THE EMPTY BOOK: after start with any setting and any list of calls, what was reported
 abbrev pub NetOnBytes : Type 0
 NetOnBytes = (b : List ℕ) (setting : ℕ) → setting < 2 ^ 32 → start_refusal b ≡ 0 → (cs : List Call)
-    → let s = start_calls b setting cs in Says s.held (λ client symbol. told client symbol s.past)
+    → let s = start_calls b setting cs in Says s.held (λ client symbol. reported client symbol s.past)

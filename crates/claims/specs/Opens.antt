@@ -1,4 +1,4 @@
--- Wish 4 on bytes: what `open_quantity` gives of each client is the sum of `leaves_qty` over its orders. Rests on Claims, opens and index.
+-- What `open_quantity` gives of each client is the sum of `leaves_qty` over its orders (change request 4), on bytes. Rests on Claims, opens and index.
 use Rattle.std.specs.Prelude.{ℕ, ◌<◌, ◌^◌, ◌≡◌, true, List, [], ◌∷◌, Some}
 use Rattle.prelude.specs.Number.{Bytes}
 use Rattle.store.specs.Book.{book_of, order_in, order_count, store_open}
@@ -25,7 +25,7 @@ pub record OpenOnBytes : Type 0 where
   pub calls : (b : List ℕ) (setting : ℕ) → start_refusal b ≡ 0 → (cs : List Call) → OpenRight (bytes_after (start_of b setting) cs)
   -- after any event, taken or refused, on any book that it does not refuse with 1
   pub event : (b r a : List ℕ) → Bytes b → Bytes r → ((event_of b r a).returned ≡ 1 → ⊥) → OpenRight (event_of b r a).book
-  -- the call refuses with 1 exactly where check gives 1, and then gives 0; it has no other refusal
+  -- the call refuses with 1 exactly if check gives 1, and then gives 0; it has no other refusal
   pub one : (b : List ℕ) (client : ℕ) → Exactly (open_call b client ≡ opened 1 0) (check_of b ≡ 1)
   -- a book with another sum is refused with 1
   pub other : (b : List ℕ) (client : ℕ) → (stored_open b client ≡ open_of (book_of b) client → ⊥) → (check_of b ≡ 1) × ((r a : List ℕ) → (event_of b r a).returned ≡ 1)

@@ -1,4 +1,4 @@
--- Wish 9 on bytes: what came of each request, and what `check` asks of it. Rests on Claims, Opens (`bytes_after`) and machine's Outcomes.
+-- What came of each request, and what `check` asks of it (change request 9), on bytes. Rests on Claims, Opens (`bytes_after`) and machine's Outcomes.
 use Rattle.std.specs.Prelude.{ℕ, ◌+◌, ◌≤◌, ◌<◌, ◌≡◌, ◌⊎◌, Bool, true, false, List, [], ◌∷◌, ◌++◌}
 use Rattle.prelude.specs.Number.{Bytes}
 use Rattle.prelude.specs.Span.{splice}
@@ -49,7 +49,7 @@ pub record SettledBy (b : List ℕ) (cs : List Call) (k : ℕ) : Type 0 where
 
 -- what came of a request
 pub record RightOutcome (q : Request) : Type 0 where
-  -- 0 exactly where unanswered
+  -- 0 exactly if it is unanswered
   pub none : Exactly (q.outcome ≡ 0) (is_answered q ≡ false)
   pub most : q.outcome ≤ 3
 
@@ -63,7 +63,7 @@ pub record Earlier (b : List ℕ) (k : ℕ) : Type 0 where
   pub number : number_in (book_of b).requests at < number_in (book_of b).requests k
   pub text : same_text (request_in (book_of b) at).clordid (request_in (book_of b) k).origclordid ≡ true
 
--- what stands beside request k: the link, where it has an OrigClOrdID
+-- what stands beside request k: the link, if it has an OrigClOrdID
 abbrev pub RightOrigin : List ℕ → ℕ → Type 0
 RightOrigin b k = (is_empty (request_in (book_of b) k).origclordid ≡ true) ⊎ Earlier b k
 
@@ -91,7 +91,7 @@ pub record OutcomesOnBytes : Type 0 where
   -- and so a request that was unanswered, or not there, and is answered at the end has what the first call made of it after which it is answered
   pub first : (b : List ℕ) → Passes b → (cs : List Call) (k : ℕ) → answered_in b k ≡ false → answered_in (bytes_after b cs) k ≡ true → SettledBy b cs k
   pub spelled : (e : Event) → Spelled e
-  -- check passes bytes only where what came of each request and what stands beside it are right
+  -- check passes bytes only if what came of each request and what stands beside it are right
   pub rule : (b : List ℕ) → check_of b ≡ 0 → (k : ℕ) → k < request_count b → RightOutcome (request_in (book_of b) k) × RightOrigin b k
   -- and no more is asked: machine's rules of what came of a request and of its OrigClOrdID are just these
   pub alone : (q : Request) → Exactly (outcome_rule q ≡ true) (RightOutcome q)

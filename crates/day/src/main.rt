@@ -9,7 +9,7 @@ use prelude::Refusal;
 use std::{fmt, io};
 use store::layout;
 
-// The most ClOrdIDs that a client may use: this program's choice, as evening and limits have theirs.
+// The most ClOrdIDs that a client may use: this program's choice, as evening and try_limits have theirs.
 const SETTING: u32 = 10000;
 
 // A line: what is told of an event. The refusal is printed as the number that the call gives, 0 for none.
@@ -47,7 +47,7 @@ impl fmt::Display for Line {
 
 // One event, and its line.
 fn taken(book: &mut [u8], event: u64, record: &[u8]) -> Line {
-    let mut answer = [0u8; step::SHORTEST_ANSWER];
+    let mut answer = [0u8; records::SHORTEST_ANSWER];
     match gateway::event(book, record, &mut answer) {
         0 => {
             let [_, _, messages, alarm, alarm2, ..] = answer;

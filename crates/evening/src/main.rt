@@ -11,7 +11,7 @@ use store::layout;
 
 mod position; // the net position's lines
 
-// The most ClOrdIDs that a client may use: this program's choice, as day and limits have theirs.
+// The most ClOrdIDs that a client may use: this program's choice, as day and try_limits have theirs.
 const SETTING: u32 = 10000;
 
 // 64 lines of 81 bytes, a number of the C header.
@@ -21,7 +21,7 @@ const PAGE: usize = 5184;
 fn take_all<R: Read>(input: &mut R, book: &mut [u8]) -> io::Result<()> {
     // As much as a length of two bytes can say, and a byte more: `read_record` is lent so many.
     let mut space = [0u8; 65536];
-    let mut answer = [0u8; step::SHORTEST_ANSWER];
+    let mut answer = [0u8; records::SHORTEST_ANSWER];
     // A proved loop ends: this one after more events than an input can have.
     for _ in 0..u64::MAX {
         let Next::Record(size) = input::read_record(input, &mut space)? else {

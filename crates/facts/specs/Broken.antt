@@ -8,7 +8,7 @@ use Rattle.prelude.specs.Texts.{text_of}
 use Rattle.prelude.specs.declared.Text.{Text}
 use Rattle.prelude.specs.declared.Terms.{Terms}
 use Rattle.text.specs.Numbered.{numbered_text}
-use Rattle.text.specs.Words.{no_text}
+use Rattle.text.specs.Stored.{no_text}
 use Rattle.store.specs.declared.Names.{Names}
 use Rattle.store.specs.declared.State.{State}
 use Rattle.store.specs.declared.Links.{Links}
@@ -191,14 +191,14 @@ record Table : Type 0 where
       (gateway 1 false false)))
       ≡ breaking termsRanged
   pending_price : judged (with_order (order (names (text 87)) (terms 49) (state new 0 0) (links 2 1 3) (pending 2 market) (gateway 1 false false))) ≡ breaking pendingRanged
-  -- a request has one of four kinds, and its mark is 0 or 1
+  -- a request has one of four kinds, and its `answered` is 0 or 1
   kind : judged (plain 1 (first ∷ (request 0 4 0 (text 68) (text 67) (numbered_text (text 88) 1) ∷ []))) ≡ breaking requestRanged
   mark : judged (plain 0 (marked 2 2 first ∷ [])) ≡ breaking requestRanged
-  -- what came of a request is 0 exactly where it is unanswered, and 3 at most
+  -- what came of a request is 0 exactly if it is unanswered, and 3 at most
   outcome_open : judged (plain 0 (marked 0 1 first ∷ [])) ≡ breaking outcomeIs
   outcome_none : judged (plain 0 (marked 1 0 first ∷ [])) ≡ breaking outcomeIs
   outcome_most : judged (plain 0 (marked 1 4 first ∷ [])) ≡ breaking outcomeIs
-  -- of any request, not of the first alone: here of a replace
+  -- this holds of any request, not of the first alone: here of a replace
   outcome_later : judged (plain 1 (first ∷ (marked 1 0 (replacing (text 68) (text 67)) ∷ []))) ≡ breaking outcomeIs
   -- each request names a booked order: one of order 5, by its empty name
   booked : judged (with_requests (first ∷ (replacing (text 68) (text 67) ∷ (cancelling 0 2 ∷ (request 5 first_kind 0 (text 90) no_text no_text ∷ []))))) ≡ breaking isBooked
@@ -239,11 +239,11 @@ record Table : Type 0 where
   -- amendments are the request records less one; downstream ClOrdIDs are numbered
   amendments : judged (with_order (order (names (text 87)) (terms 49) (state new 0 0) (links 3 1 3) (pending 2 limit) (gateway 1 false false))) ≡ breaking amendmentsAre
   numbered : judged (with_requests (first ∷ (replacing (text 68) (text 67) ∷ (cancelling 0 3 ∷ [])))) ≡ breaking isNumbered
-  -- just number 0 is a first request: a second one; and none
+  -- number 0 of an order, and no other, is a first request: here there is a second one; here there is none
   first_again : judged (plain 1 (first ∷ (request 0 first_kind 0 (text 68) no_text (numbered_text (text 88) 1) ∷ []))) ≡ breaking isNumbered
-  -- (then a replace names nothing before it)
+  -- (without a first request, a replace also names nothing before it)
   first_missing : judged (plain 0 (request 0 replace_kind 0 (text 67) (text 68) (text 88) ∷ [])) ≡ record { keeps = false; broken = isNumbered ∷ originIs ∷ [] }
-  -- tries are at most 3, and at most 2 where unsent
+  -- tries are at most 3, and at most 2 if the last is unsent
   tries : judged (with_order (order (names (text 87)) (terms 49) (state new 0 0) (links 2 1 3) (pending 2 limit) (gateway 4 false false))) ≡ breaking triesAtMost
   tries_unsent : judged (answered (links 2 1 3) (gateway 3 true false)) ≡ breaking triesAtMost
   -- an unanswered gateway cancel of a live order is its latest cancel, with tries above 0, sent and not stuck
@@ -253,7 +253,7 @@ record Table : Type 0 where
   free : judged (with_order (order (names (text 87)) (terms 49) (state new 0 0) (links 2 1 3) (pending 2 limit) (gateway 1 false true))) ≡ breaking inFlightIs
   -- an OrigClOrdID names a request of the same order that is numbered lower: the first, or one that is refused
   origin : (judged (replacing_twice (text 67) (text 67)) ≡ keeping) × (judged (replacing_twice (text 67) (text 68)) ≡ keeping)
-  -- not one that no request bears, nor a later one, itself, or one of another order
+  -- it may not be one that no request bears, nor name a later request, the request itself, or one of another order
   origin_unknown : judged (replacing_twice (text 67) (text 70)) ≡ breaking originIs
   origin_later : judged (replacing_twice (text 69) (text 67)) ≡ breaking originIs
   origin_itself : judged (replacing_twice (text 67) (text 69)) ≡ breaking originIs

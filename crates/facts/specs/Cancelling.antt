@@ -1,6 +1,6 @@
 -- The gateway's own cancels, by smallest lists of events, each beside the message, the alarm and the whole record of the gateway cancel that are left: when a
--- refusal is final, when it is tried again, and when one that waits goes. Rests on Play.
--- Near readings that are wrong are ruled out: given up for the reason alone, whatever became of the downstream; no reason taken for reason 0; resumed while
+-- refusal is final, when the cancel is tried again, and when one that waits goes out. Rests on Play.
+-- Near readings that are wrong are ruled out: the cancel is given up for the reason alone, whatever became of the downstream; no reason is taken for reason 0; the cancel is resumed while
 -- the client's own cancel is out.
 use Rattle.std.specs.Prelude.{ℕ, ◌≡◌, refl, Bool, true, false, List, [], ◌∷◌, map}
 use Rattle.store.specs.declared.GatewayCancel.{GatewayCancel}
@@ -28,7 +28,7 @@ came_of b c = record { kinds = map kind_of (messages_of c); alarm = c.output.ala
 abbrev comes : List (List ℕ) → (event : List ℕ) → Came
 comes before event = let b = playing (empty 10000) (books ∷ before) in came_of b (called b event)
 
--- as it should be: that many tries, the request that the last one named, by its place in the table from 1 on, and refused sends
+-- as it should be: that many tries, the request that the last one named, by its link, and refused sends
 abbrev cancel : (unsent stuck : Bool) (tries named refusedsends : ℕ) → GatewayCancel
 cancel unsent stuck tries named refusedsends = record { tries = tries; unsent = unsent; stuck = stuck; origdownstream = named; refusedsends = refusedsends }
 
@@ -54,16 +54,16 @@ rejects_plainly downstream = reject_of downstream []
 record Reasons : Type 0 where
   too_late : comes (gateway_cancels ∷ []) (rejects (X_ 1) 0) ≡ gives_up 1 1
   unknown : comes (gateway_cancels ∷ []) (rejects (X_ 1) 1) ≡ gives_up 1 1
-  -- a replace that was accepted since is another downstream: tried again, naming that, and no alarm
+  -- once a replace was accepted the downstream is another: the cancel is tried again and names that one, without an alarm
   moved_too_late : comes (replaces D 150 ∷ gateway_cancels ∷ accepts ∷ []) (rejects (X_ 2) 0) ≡ sends (19 ∷ []) 2 2
   moved : comes (replaces D 150 ∷ gateway_cancels ∷ accepts ∷ []) (rejects (X_ 2) 1) ≡ sends (19 ∷ []) 2 2
-  -- the next try named it: final
+  -- the next try named that downstream: the refusal is final
   named_anew : comes (replaces D 150 ∷ gateway_cancels ∷ accepts ∷ rejects (X_ 2) 1 ∷ []) (rejects (X_ 3) 1) ≡ gives_up 2 2
   -- a replace that is out, one that was refused, and one that was accepted before leave the downstream as it was named
   replacing : comes (replaces D 150 ∷ gateway_cancels ∷ []) (rejects (X_ 2) 1) ≡ gives_up 1 1
   not_replaced : comes (replaces D 150 ∷ gateway_cancels ∷ rejects (X_ 1) 99 ∷ []) (rejects (X_ 2) 1) ≡ gives_up 1 1
   replaced : comes (replaces D 150 ∷ accepts ∷ gateway_cancels ∷ []) (rejects (X_ 2) 1) ≡ gives_up 1 2
-  -- any other reason: tried again; the third try is the last, another downstream or not
+  -- with any other reason the cancel is tried again; the third try is the last, even if the downstream is another
   reason_2 : comes (gateway_cancels ∷ []) (rejects (X_ 1) 2) ≡ sends (19 ∷ []) 2 1
   reason_99 : comes (gateway_cancels ∷ []) (rejects (X_ 1) 99) ≡ sends (19 ∷ []) 2 1
   moved_99 : comes (replaces D 150 ∷ gateway_cancels ∷ accepts ∷ []) (rejects (X_ 2) 99) ≡ sends (19 ∷ []) 2 2
@@ -100,7 +100,7 @@ without : Without
 unfolding called
 without = record { plainly = refl; plainly_third = refl; by_report = refl; by_report_for = refl }
 
--- ---- one that waits goes after a refusal, and not while the client's own cancel is out
+-- ---- a gateway cancel that waits goes out after a refusal, and not while the client's own cancel is out
 
 record Waiting : Type 0 where
   begins : comes (cancels D ∷ []) gateway_cancels ≡ waits [] 0 1 0
@@ -108,7 +108,7 @@ record Waiting : Type 0 where
   -- a reject that names the order, or comes from another venue, leaves the cancel out: no message
   by_order : comes (cancels D ∷ gateway_cancels ∷ []) (rejects_plainly X) ≡ waits [] 0 1 0
   by_another : comes (cancels D ∷ gateway_cancels ∷ []) (bytes 6 (number 1 2 4 ∷ spelled 5 (X_ 1) ∷ [])) ≡ waits [] 0 1 0
-  -- so does the refusal of a replace, and that of an earlier cancel; the latest cancel counts
+  -- the refusal of a replace, or of an earlier cancel, leaves it out too: the latest cancel counts
   by_replace : comes (replaces D 150 ∷ cancels E ∷ gateway_cancels ∷ []) (rejects (X_ 1) 99) ≡ waits (17 ∷ []) 0 1 0
   after_replace : comes (replaces D 150 ∷ cancels E ∷ gateway_cancels ∷ rejects (X_ 1) 99 ∷ []) (rejects (X_ 2) 99) ≡ sends (17 ∷ 19 ∷ []) 1 1
   by_earlier : comes (cancels D ∷ cancels E ∷ gateway_cancels ∷ []) (rejects (X_ 1) 99) ≡ waits (17 ∷ []) 0 1 0
@@ -120,7 +120,7 @@ record Waiting : Type 0 where
   client_failed : comes (cancels D ∷ gateway_cancels ∷ send_fails (X_ 1) ∷ []) (rejects_plainly X) ≡ sends (19 ∷ []) 1 1
   fails : comes (gateway_cancels ∷ []) (send_fails (X_ 1)) ≡ waits [] 0 1 1
   failed : comes (gateway_cancels ∷ send_fails (X_ 1) ∷ []) (rejects_plainly X) ≡ record { kinds = 19 ∷ []; alarm = 0; gateway = cancel false false 1 1 1 }
-  -- one that was given up, and one that is out, do not go again
+  -- a gateway cancel that was given up does not go out again, and neither does one that is out
   given_up_lem : comes (gateway_cancels ∷ rejects (X_ 1) 1 ∷ []) (rejects_plainly X) ≡ record { kinds = []; alarm = 0; gateway = cancel false true 1 1 0 }
   out : comes (gateway_cancels ∷ []) (rejects_plainly X) ≡ sends [] 1 1
 

@@ -2,7 +2,7 @@
 -- they shut out: a chain without the first request, one that goes from entry to entry by number, another client's name, and an empty name that finds a gateway cancel.
 use Rattle.std.specs.Prelude.{ℕ, ◌≡◌, refl, List, [], ◌∷◌, ◌++◌, replicate, None}
 use Rattle.std.specs.List.{concat}
-use Rattle.text.specs.Words.{no_text}
+use Rattle.text.specs.Stored.{no_text}
 use Rattle.store.specs.Finds.{find_clordid}
 use Rattle.chain.specs.Chain.{chain_from, called_by, chain_of, entry_fields}
 use Rattle.facts.specs.Play.{number, spelled, bytes, shares, money, X_, C, D, E, W, books, acknowledges, turns, rejects, gateway_cancels, called, empty, playing}

@@ -1,4 +1,4 @@
--- The claim's words on small lists of calls, by computation: what is counted, what failed, the tries, and what was told. Rests on Claim, Since and Play.
+-- The claim's words on small lists of calls, by computation: what is counted, what failed, the tries, and what was reported. Rests on Claim, Since and Play.
 use Rattle.std.specs.Prelude.{ℕ, ◌+◌, ◌≡◌, refl, Bool, true, false, List, [], ◌∷◌, ◌++◌, map}
 use Rattle.prelude.specs.Texts.{text_of, contents}
 use Rattle.prelude.specs.Totals.{how_many}
@@ -31,7 +31,7 @@ record Counts : Type 0 where
   failures : ℕ
   tries : ℕ
   stands : Bool
-  told : ℕ
+  lastqty : ℕ
   cumulative : ℕ
 
 abbrev counts_of : List (List ℕ) → Counts
@@ -43,23 +43,23 @@ counts_of is =
       failures = how_many (failed s.past) out;
       tries = (order_in s.book 0).gateway.tries;
       stands = has_gateway (order_in s.book 0);
-      told = last_qty_of 7 (text_of X) s.past;
+      lastqty = last_qty_of 7 (text_of X) s.past;
       cumulative = (order_in s.book 0).state.cumqty;
     }
 
 -- a gateway cancel stands, with these requests put out
 abbrev standing : (putout : List (List ℕ)) (failures tries : ℕ) → Counts
-standing putout failures tries = record { putout = putout; failures = failures; tries = tries; stands = true; told = 0; cumulative = 0 }
+standing putout failures tries = record { putout = putout; failures = failures; tries = tries; stands = true; lastqty = 0; cumulative = 0 }
 
-abbrev filled : (told cumulative : ℕ) → Counts
-filled told cumulative = record { putout = []; failures = 0; tries = 0; stands = false; told = told; cumulative = cumulative }
+abbrev filled : (lastqty cumulative : ℕ) → Counts
+filled lastqty cumulative = record { putout = []; failures = 0; tries = 0; stands = false; lastqty = lastqty; cumulative = cumulative }
 
 record Facts : Type 0 where
-  -- asked twice, the second while the first is in flight: no new beginning
+  -- a gateway cancel that is asked for while one is in flight does not begin anew
   twice : counts_of (books ∷ gateway_cancels ∷ gateway_cancels ∷ []) ≡ standing (X_ 1 ∷ []) 0 1
-  -- sent again: one request
+  -- a request that is sent again is one request
   again : counts_of (books ∷ gateway_cancels ∷ sends_again (X_ 1) ∷ []) ≡ standing (X_ 1 ∷ []) 0 1
-  -- its send failed, told twice; and asked again after it: the tries start over
+  -- its send failed, which is reported twice; it is asked for again afterwards: the tries start over
   unsent! : counts_of (books ∷ gateway_cancels ∷ send_fails (X_ 1) ∷ send_fails (X_ 1) ∷ []) ≡ standing (X_ 1 ∷ []) 1 0
   over : counts_of (books ∷ gateway_cancels ∷ send_fails (X_ 1) ∷ gateway_cancels ∷ []) ≡ standing (X_ 2 ∷ []) 0 1
   -- behind the client's cancel it waits, and goes when that is refused
@@ -72,9 +72,9 @@ record Facts : Type 0 where
   clients_again : counts_of (books ∷ gateway_cancels ∷ rejects (X_ 1) 1 ∷ cancels D ∷ sends_again (X_ 2) ∷ []) ≡ standing (X_ 1 ∷ []) 0 1
   -- an event 8 that answers the request of a done order is no failed send; an event 7 is
   eight : counts_of (books ∷ gateway_cancels ∷ canceled ∷ sends_again (X_ 1) ∷ [])
-      ≡ record { putout = X_ 1 ∷ []; failures = 0; tries = 0; stands = false; told = 0; cumulative = 0 }
+      ≡ record { putout = X_ 1 ∷ []; failures = 0; tries = 0; stands = false; lastqty = 0; cumulative = 0 }
   seven : counts_of (books ∷ gateway_cancels ∷ canceled ∷ send_fails (X_ 1) ∷ [])
-      ≡ record { putout = X_ 1 ∷ []; failures = 1; tries = 0; stands = false; told = 0; cumulative = 0 }
+      ≡ record { putout = X_ 1 ∷ []; failures = 1; tries = 0; stands = false; lastqty = 0; cumulative = 0 }
   -- a fill of 40, a call that does not read, a booking that is refused, and the same fill again
   refused : counts_of (books ∷ fills40 ∷ unreadable ∷ books ∷ fills40 ∷ []) ≡ filled (shares 40) (shares 40)
 
@@ -134,7 +134,7 @@ record SinceFacts : Type 0 where
   again : since_of (books ∷ gateway_cancels ∷ []) (sends_again (X_ 1) ∷ []) ≡ counted [] (X_ 1 ∷ []) 1 0 1
   -- the send of an image's request fails: it comes off the image's tries
   unsent! : since_of (books ∷ gateway_cancels ∷ []) (send_fails (X_ 1) ∷ []) ≡ counted [] (X_ 1 ∷ []) 1 1 0
-  -- a client's does not
+  -- the failed send of a client's request does not
   client : since_of (books ∷ cancels D ∷ gateway_cancels ∷ []) (send_fails (X_ 1) ∷ []) ≡ counted [] [] 0 0 0
   -- begun again, nothing of the image counts
   over : since_of (books ∷ gateway_cancels ∷ rejects (X_ 1) 1 ∷ []) (gateway_cancels ∷ []) ≡ counted (X_ 2 ∷ []) [] 0 0 1
@@ -142,10 +142,10 @@ record SinceFacts : Type 0 where
   before : since_of (books ∷ gateway_cancels ∷ send_fails (X_ 1) ∷ []) [] ≡ counted [] (X_ 1 ∷ []) 0 0 0
   -- a refusal is no failed send
   refused : since_of (books ∷ gateway_cancels ∷ []) (rejects (X_ 1) 99 ∷ []) ≡ counted (X_ 2 ∷ []) (X_ 1 ∷ []) 1 0 2
-  -- nor is an event 8; and the client's cancel is not the gateway's
+  -- an event 8 is no failed send either; and the client's cancel is not the gateway's
   eight : since_of (books ∷ gateway_cancels ∷ []) (canceled ∷ sends_again (X_ 1) ∷ []) ≡ counted [] (X_ 1 ∷ []) 1 0 0
   clients : since_of (books ∷ gateway_cancels ∷ rejects (X_ 1) 1 ∷ []) (cancels D ∷ []) ≡ counted [] (X_ 1 ∷ []) 1 0 1
-  -- a request that is not in the image is new, even where its downstream ClOrdID went out between the mark and the return: one try, which the messages of
+  -- a request that is not in the image is new, even if its downstream ClOrdID went out between the mark and the return: one try, which the messages of
   -- both would not account for
   meanwhile : since_of (books ∷ []) (gateway_cancels ∷ []) ≡ counted (X_ 1 ∷ []) [] 0 0 1
   both : new_of_both (books ∷ []) (gateway_cancels ∷ []) (gateway_cancels ∷ []) ≡ []

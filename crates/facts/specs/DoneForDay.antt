@@ -6,12 +6,11 @@ use Rattle.prelude.specs.Cases.{if◌then◌otherwise◌}
 use Rattle.store.specs.Book.{Book}
 use Rattle.store.specs.Orders.{no_pending}
 use Rattle.machine.specs.Orders.{as_asked}
-use Rattle.machine.specs.Exchange.{open_of}
 use Rattle.machine.specs.Rules.{rules}
 use Rattle.facts.specs.Play.{number, spelled, mark, bytes, shares, money, X, X_, C, D, W, books, cancel_of, cancels, replaces, report_of, acknowledges, turns, unknown_to_venue, reject_of, rejects, send_fails, sends_again, gateway_cancels, called, empty, playing, order_x, state, links, request, standing, first, cancelling, replace_of}
-use Rattle.facts.specs.Short.{Told, comes_on, comes, came, report, reject, sent, left, alone, filled_at, partly}
+use Rattle.facts.specs.Short.{Summary, comes_on, comes, came, report, reject, sent, left, alone, filled_at, partly}
 
--- ---- as the questions take it: New where nothing is filled, PartiallyFilled above; any other status is asked as it is
+-- ---- as the questions take it: New if nothing is filled, else PartiallyFilled; any other status is asked as it is
 
 record Asked : Type 0 where
   at_zero : as_asked 0 51 ≡ 48
@@ -47,7 +46,7 @@ abbrev refused_as : (downstream : List ℕ) (status : ℕ) → List ℕ
 refused_as downstream status = reject_of downstream (number 13 1 status ∷ [])
 
 -- a replace goes out
-abbrev replace_sent : Told
+abbrev replace_sent : Summary
 replace_sent = record { kind = 20; exectype = 0; status = 0; last = 0; leaves = 0 }
 
 -- ---- set by a report: told as 3, with nothing left
@@ -56,7 +55,7 @@ record Reports : Type 0 where
   at_zero : comes [] ends ≡ came (report 51 51 0 0 ∷ []) 0 0 (alone 51 0 0)
   after_new : comes (acknowledges ∷ []) ends ≡ came (report 51 51 0 0 ∷ []) 0 0 (alone 51 0 0)
   above : comes (partly 40 ∷ []) (day_at X 51 0 40) ≡ came (report 51 51 0 0 ∷ []) 0 0 (alone 51 40 0)
-  -- with a fill, be it of all that is ordered: a Trade, and no other status
+  -- with a fill, even of all that is ordered, it is a Trade, and the status is no other
   trade : comes [] (day_at X 51 40 40) ≡ came (report 70 51 40 0 ∷ []) 0 0 (alone 51 40 0)
   all : comes [] (day_at X 70 100 100) ≡ came (report 70 51 100 0 ∷ []) 0 0 (alone 51 100 0)
   -- 3/3 again is told again; 0/3 repeats it, at a cumulative above 0 too
@@ -149,7 +148,7 @@ record Later : Type 0 where
   -- Filled, but short, is New or PartiallyFilled with alarm 6: not a 3 again
   short : comes (ends ∷ []) (turns X 48 50) ≡ came (report 48 48 0 100 ∷ []) 6 0 (alone 48 0 100)
   short_above : comes (ends ∷ []) (filled_at X 70 40 40) ≡ came (report 70 49 40 60 ∷ []) 6 0 (alone 49 40 60)
-  -- and once it is done, a 3 is nothing, or a fill on a done order
+  -- once the order is done, a 3 changes nothing, or is a fill on a done order
   done : comes (turns X 52 52 ∷ []) ends ≡ came [] 0 0 (alone 52 0 0)
   done_fill : comes (turns X 52 52 ∷ []) (day_at X 51 40 40) ≡ came [] 5 0 (alone 52 0 0)
 
@@ -189,7 +188,7 @@ record Behind : Type 0 where
   accepts_fill : comes (replaces D 150 ∷ []) (day_at (X_ 1) 53 120 120) ≡ came (report 70 51 120 0 ∷ []) 0 0 (left 51 120 150 0 false false (1 ∷ 1 ∷ []))
   -- under the request that the replace superseded it is settled
   settled : comes (replaces D 150 ∷ turns (X_ 1) 53 48 ∷ []) ends ≡ came [] 0 0 (left 48 0 150 150 false false (1 ∷ 1 ∷ []))
-  -- it is not Canceled: the cancel stays open
+  -- a 3 is not Canceled: the cancel stays open
   open_cancel : comes (cancels D ∷ []) (turns (X_ 1) 51 51) ≡ came (report 51 51 0 0 ∷ []) 0 0 (left 51 0 100 0 false false (0 ∷ 0 ∷ []))
   open_cancel_above : comes (partly 40 ∷ cancels D ∷ []) (day_at (X_ 1) 51 0 40) ≡ came (report 51 51 0 0 ∷ []) 0 0 (left 51 40 100 0 false false (0 ∷ 0 ∷ []))
   open_cancel_fill : comes (cancels D ∷ []) (day_at (X_ 1) 54 100 100) ≡ came (report 70 51 100 0 ∷ []) 0 0 (left 51 100 100 0 false false (0 ∷ 0 ∷ []))
@@ -223,7 +222,7 @@ record Requests : Type 0 where
   replace_above : comes (day_at X 70 40 40 ∷ []) (replaces D 40) ≡ came (replace_sent ∷ []) 0 0 (left 51 40 100 0 true false (0 ∷ 0 ∷ []))
   replace_below : comes (day_at X 70 40 40 ∷ []) (replaces D 39) ≡ came (reject 51 ∷ []) 0 0 (alone 51 40 0)
   gateways : comes (ends ∷ []) gateway_cancels ≡ came (sent ∷ []) 0 0 (left 51 0 100 0 false true (0 ∷ 0 ∷ []))
-  -- sent again, as of any live order
+  -- its requests are sent again, as those of any live order are
   cancel_again : comes (ends ∷ cancels D ∷ []) (sends_again (X_ 1)) ≡ came (sent ∷ []) 0 0 (left 51 0 100 0 false false (0 ∷ 0 ∷ []))
   replace_again : comes (ends ∷ replaces D 150 ∷ []) (sends_again (X_ 1)) ≡ came (replace_sent ∷ []) 0 0 (left 51 0 100 0 true false (0 ∷ 0 ∷ []))
   -- a request that was taken, redelivered
@@ -231,7 +230,7 @@ record Requests : Type 0 where
   -- a live order that the venue does not know is an alarm 4
   unknown : comes (ends ∷ []) (unknown_to_venue X) ≡ came [] 4 0 (alone 51 0 0)
   unknown_above : comes (day_at X 70 40 40 ∷ []) (unknown_to_venue X) ≡ came [] 4 0 (alone 51 40 0)
-  -- filled whole it is no more done than before: requests go out
+  -- an order that is filled whole is not done by a 3 either: requests go out
   whole_cancel : comes (day_at X 70 100 100 ∷ []) (cancels D) ≡ came (sent ∷ []) 0 0 (left 51 100 100 0 false false (0 ∷ 0 ∷ []))
   whole_replace : comes (day_at X 70 100 100 ∷ []) (replaces D 150) ≡ came (replace_sent ∷ []) 0 0 (left 51 100 100 0 true false (0 ∷ 0 ∷ []))
   whole_gateways : comes (day_at X 70 100 100 ∷ []) gateway_cancels ≡ came (sent ∷ []) 0 0 (left 51 100 100 0 false true (0 ∷ 0 ∷ []))
@@ -269,7 +268,7 @@ record Refusals : Type 0 where
   over_cancel : comes (cancels D ∷ turns (X_ 1) 54 54 ∷ []) (refused_as (X_ 1) 51) ≡ came (reject 51 ∷ []) 0 0 (left 51 0 100 0 false false (0 ∷ 1 ∷ []))
   over_replace : comes (replaces D 150 ∷ turns (X_ 1) 69 69 ∷ []) (refused_as (X_ 1) 51) ≡ came (reject 51 ∷ []) 0 0 (left 51 0 100 0 false false (0 ∷ 1 ∷ []))
   above : comes (partly 40 ∷ cancels D ∷ []) (refused_as (X_ 1) 51) ≡ came (reject 51 ∷ []) 0 0 (left 51 40 100 0 false false (0 ∷ 1 ∷ []))
-  -- on an order that is filled whole too: of a cancel, of a replace, by a report, and of the gateway's cancel, which is tried again; New is PartiallyFilled there
+  -- a refusal sets it on an order that is filled whole too: of a cancel, of a replace, by a report, and of the gateway's cancel, which is tried again; New is PartiallyFilled there
   whole : comes (partly 100 ∷ cancels D ∷ []) (refused_as (X_ 1) 51) ≡ came (reject 51 ∷ []) 0 0 (left 51 100 100 0 false false (0 ∷ 1 ∷ []))
   whole_replace : comes (partly 100 ∷ replaces D 150 ∷ []) (refused_as (X_ 1) 51) ≡ came (reject 51 ∷ []) 0 0 (left 51 100 100 0 false false (0 ∷ 1 ∷ []))
   whole_by_report : comes (partly 100 ∷ cancels D ∷ []) (turns (X_ 1) 56 51) ≡ came (reject 51 ∷ []) 0 0 (left 51 100 100 0 false false (0 ∷ 1 ∷ []))
@@ -344,22 +343,6 @@ gateway = record {
   again_above = refl;
   ack_whole = refl;
 }
-
--- ---- the open quantity counts 0 for it, told or not, and what is left again once it ends
-
-abbrev opens : List (List ℕ) → ℕ
-opens calls = open_of (playing (empty 10000) (books ∷ calls)) 7
-
-record Opens : Type 0 where
-  day : opens (ends ∷ []) ≡ 0
-  above : opens (day_at X 70 40 40 ∷ []) ≡ 0
-  untold : opens (gateway_cancels ∷ turns (X_ 1) 54 51 ∷ []) ≡ 0
-  refused : opens (cancels D ∷ refused_as (X_ 1) 51 ∷ []) ≡ 0
-  next_day : opens (day_at X 70 40 40 ∷ report_of X 73 49 0 0 40 (money 10) [] ∷ []) ≡ shares 60
-
-opened : Opens
-unfolding called
-opened = record { day = refl; above = refl; untold = refl; refused = refl; next_day = refl }
 
 -- ---- an image may hold it, at any cumulative, with pending terms and a gateway cancel; question 4 takes it in events 4 and 6, as it does no code beside the list
 

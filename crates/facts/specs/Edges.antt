@@ -35,8 +35,8 @@ first_of [] = no_message
 first_of (m ∷ ms) = m
 
 -- the first message that the last call puts out
-abbrev told : List (List ℕ) → (event : List ℕ) → Message
-told before event = first_of (messages_of (change before event))
+abbrev first_message : List (List ℕ) → (event : List ℕ) → Message
+first_message before event = first_of (messages_of (change before event))
 
 -- the kinds of its messages, the alarm, and order X as it is left: status, filled, ordered; and of each request whether it is answered
 record Came : Type 0 where
@@ -80,24 +80,24 @@ abbrev T : LongText
 T = record { bytes = 84 ∷ replicate 63 0; len = 1 }
 
 record Reports : Type 0 where
-  -- a repeat with another average is a repeat all the same: it is not told, and its average is not kept
+  -- a repeat with another average is still a repeat: the client is not told, and its average is not kept
   average : comes (partly 40 ∷ []) (report_of X 73 49 0 0 40 (money 11) []) ≡ came [] 0 49 40 100 (0 ∷ [])
   average_kept : (order_in (after 10000 (partly 40 ∷ report_of X 73 49 0 0 40 (money 11) [] ∷ [])) 0).state.avgpx ≡ money 10
   -- a LastQty at the cumulative that is booked is stale, whatever the ExecType and the status
   last_at_it : comes (partly 40 ∷ []) (report_of X 54 54 10 (money 10) 40 (money 10) []) ≡ came [] 0 49 40 100 (0 ∷ [])
   last_canceled : comes (partly 40 ∷ []) (report_of X 52 52 10 (money 10) 40 (money 10) []) ≡ came [] 0 49 40 100 (0 ∷ [])
-  -- a fill on a done order is an alarm 5, be it Expired, Rejected, or Filled, where it is no overfill
+  -- a fill on a done order, whether Expired, Rejected or Filled, is an alarm 5 if it is no overfill
   on_expired : comes (turns X 67 67 ∷ []) (partly 40) ≡ came [] 5 67 0 100 (0 ∷ [])
   on_rejected : comes (turns X 56 56 ∷ []) (partly 40) ≡ came [] 5 56 0 100 (0 ∷ [])
   on_filled : comes (report_of X 70 50 100 (money 10) 100 (money 10) [] ∷ []) (fills 110 10 (money 10) (money 10)) ≡ came [] 5 50 100 100 (0 ∷ [])
   -- a fill has its text
-  text : (told [] (report_of X 70 49 40 (money 10) 40 (money 10) (spelled 20 (84 ∷ []) ∷ []))).text ≡ T
+  text : (first_message [] (report_of X 70 49 40 (money 10) 40 (money 10) (spelled 20 (84 ∷ []) ∷ []))).text ≡ T
   -- under a client's cancel it bears the cancel's ClOrdIDs, though that was refused before
-  of_refused : (told (cancels D ∷ rejects (X_ 1) 99 ∷ []) (report_of (X_ 1) 70 49 40 (money 10) 40 (money 10) [])).ids.clordid ≡ text_of D
-  of_refused_orig : (told (cancels D ∷ rejects (X_ 1) 99 ∷ []) (report_of (X_ 1) 70 49 40 (money 10) 40 (money 10) [])).ids.origclordid ≡ text_of C
+  of_refused : (first_message (cancels D ∷ rejects (X_ 1) 99 ∷ []) (report_of (X_ 1) 70 49 40 (money 10) 40 (money 10) [])).ids.clordid ≡ text_of D
+  of_refused_orig : (first_message (cancels D ∷ rejects (X_ 1) 99 ∷ []) (report_of (X_ 1) 70 49 40 (money 10) 40 (money 10) [])).ids.origclordid ≡ text_of C
   -- under a name that a replace superseded, and under the gateway's cancel, it bears the order's
-  of_superseded : (told (replaces D 150 ∷ turns (X_ 1) 53 48 ∷ []) (partly 40)).ids.clordid ≡ text_of D
-  of_gateway : (told (gateway_cancels ∷ []) (report_of (X_ 1) 70 49 40 (money 10) 40 (money 10) [])).ids.clordid ≡ text_of C
+  of_superseded : (first_message (replaces D 150 ∷ turns (X_ 1) 53 48 ∷ []) (partly 40)).ids.clordid ≡ text_of D
+  of_gateway : (first_message (gateway_cancels ∷ []) (report_of (X_ 1) 70 49 40 (money 10) 40 (money 10) [])).ids.clordid ≡ text_of C
 
 reports : Reports
 unfolding called
@@ -222,9 +222,9 @@ record Leaves : Type 0 where
   order_id_fact : order_id (cancels D ∷ reject_of (X_ 1) (spelled 18 E ∷ []) ∷ []) ≡ text_of E
   order_id_by_report : order_id (cancels D ∷ report_of (X_ 1) 56 56 0 0 0 0 (spelled 18 E ∷ []) ∷ []) ≡ text_of E
   -- the venue's text goes on, by a report too
-  text_by_report : (told (cancels D ∷ []) (report_of (X_ 1) 56 56 0 0 0 0 (spelled 20 (84 ∷ []) ∷ []))).text ≡ T
+  text_by_report : (first_message (cancels D ∷ []) (report_of (X_ 1) 56 56 0 0 0 0 (spelled 20 (84 ∷ []) ∷ []))).text ≡ T
   -- reason 0 is the venue's, and so it is told
-  reason_0 : reason_of (told (cancels D ∷ []) (rejects (X_ 1) 0)) ≡ 0 ∷ 2 ∷ []
+  reason_0 : reason_of (first_message (cancels D ∷ []) (rejects (X_ 1) 0)) ≡ 0 ∷ 2 ∷ []
   -- by a report too it lets the gateway's cancel go that waited
   resumes : comes (cancels D ∷ gateway_cancels ∷ []) (turns (X_ 1) 56 56) ≡ came (17 ∷ 19 ∷ []) 0 65 0 100 (0 ∷ 1 ∷ 0 ∷ [])
   -- a request that was not sent leaves the status as it is: the venue said PendingCancel, or PendingReplace

@@ -1,4 +1,4 @@
--- Two orders in small: a book on which wish 12's claim says something, two readings near it that do not hold, and what an event on one order must not
+-- Two orders in small: a book on which the claim of two clients (change request 12) says something, two readings near it that do not hold, and what an event on one order must not
 -- do to another. Rests on Exchange.
 use Rattle.std.specs.Prelude.{ℕ, ◌≡◌, refl, true, List, [], ◌∷◌}
 use Rattle.prelude.specs.Below.{all_below, first_below, count_below}
@@ -7,7 +7,7 @@ use Rattle.prelude.specs.Texts.{text_of, contents, same_text, is_text}
 use Rattle.text.specs.Numbered.{numbered_text, decimal, digits_of}
 use Rattle.store.specs.Book.{Book, empty_book, order_in}
 use Rattle.store.specs.Orders.{no_pending}
-use Rattle.text.specs.Words.{no_text}
+use Rattle.text.specs.Stored.{no_text}
 use Rattle.machine.specs.Orders.{no_terms, one_more, has_pending, has_gateway, limit_price, is_done, leaves_of, leaves_qty, as_asked, status_at, is_short, unless_short, short_alarm, set_status, kept_order_id, record_venue_order_id, pending_terms, apply_replace, next_sequence, next_exec}
 use Rattle.machine.specs.Messages.{no_exec, no_told, no_long_text, bit_if, terms_bits, note_bits, report, cancel_reject, to_venue, new_order, cancel_request, replace_request}
 use Rattle.bits.specs.Map.{map_of}
@@ -118,7 +118,7 @@ record Facts : Type 0 where
   -- X is done while a replace is pending: no terms are pending any more
   pending : has_pending (order_in (book_after (booked 7 8) replace_x) 0) ≡ true
   done_pending : (order_in (book_after (book_after (booked 7 8) replace_x) fails_x) 0).pending ≡ no_pending
-  -- nor are they once the replace is refused, or accepted, which leaves the side as it was
+  -- once the replace is refused or accepted none are pending either, and the side is as it was
   refused_pending : (order_in (book_after (book_after (booked 7 8) replace_x) fails_replace) 0).pending ≡ no_pending
   accepted : (order_in (book_after (book_after (booked 7 8) replace_x) accepts_replace) 0).pending ≡ no_pending
   side : (order_in (book_after (book_after (booked 7 8) replace_x) accepts_replace) 0).terms.side ≡ buy

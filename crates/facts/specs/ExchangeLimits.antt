@@ -1,4 +1,4 @@
--- Where two events may not be exchanged: for each word of wish 12's statement a smallest list on which its conclusion fails without that word; and which order a
+-- Where two events may not be exchanged: for each word of the statement of two clients (change request 12) a smallest list on which its conclusion fails without that word; and which order a
 -- record concerns. From bytes, through the reader, the rules and the machine. Rests on Play and machine's `concerns`.
 use Rattle.std.specs.Prelude.{ℕ, ◌≡◌, refl, true, List, [], ◌∷◌, ◌++◌}
 use Rattle.prelude.specs.Lists.{list_below}
@@ -6,7 +6,7 @@ use Rattle.prelude.specs.Texts.{text_of}
 use Rattle.records.specs.Record.{event_in}
 use Rattle.store.specs.Book.{Book, order_in}
 use Rattle.store.specs.Orders.{no_pending, no_gateway}
-use Rattle.text.specs.Words.{no_text}
+use Rattle.text.specs.Stored.{no_text}
 use Rattle.machine.specs.Changes.{Message}
 use Rattle.machine.specs.Machine.{step_of, after}
 use Rattle.machine.specs.Rules.{rules}
@@ -36,23 +36,23 @@ abbrev unknown_by : (venue : ℕ) → List ℕ
 unknown_by venue = bytes 5 (number 1 2 venue ∷ spelled 5 X ∷ [])
 
 -- what a call comes to on a book: its refusal, and the kinds of its messages
-record Told : Type 0 where
+record Reply : Type 0 where
   refusal : ℕ
   kinds : List ℕ
 
-abbrev told : (refusal : ℕ) (kinds : List ℕ) → Told
-told refusal kinds = record { refusal = refusal; kinds = kinds }
+abbrev reply : (refusal : ℕ) (kinds : List ℕ) → Reply
+reply refusal kinds = record { refusal = refusal; kinds = kinds }
 
 abbrev kinds_of : List Message → List ℕ
 kinds_of [] = []
 kinds_of (m ∷ ms) = m.kind ∷ kinds_of ms
 
-abbrev tells : Book → List ℕ → Told
-tells b s = told (called b s).refusal (kinds_of (messages_of (called b s)))
+abbrev replies : Book → List ℕ → Reply
+replies b s = reply (called b s).refusal (kinds_of (messages_of (called b s)))
 
 -- after these calls, from the empty book
-abbrev tells_after : List (List ℕ) → List ℕ → Told
-tells_after calls s = tells (playing (empty 10000) calls) s
+abbrev replies_after : List (List ℕ) → List ℕ → Reply
+replies_after calls s = replies (playing (empty 10000) calls) s
 
 -- the link of the order that the record concerns after these calls, 0 for none
 abbrev concerns_after : List (List ℕ) → List ℕ → ℕ
@@ -89,20 +89,20 @@ next b s = after b (step_of b (event_in s))
 
 record Limits : Type 0 where
   -- within the words, X of client 7 and Y of client 8 under one ClOrdID each: each client's cancel goes out, whichever is first
-  within : tells_after (books ∷ another_books ∷ []) (cancel_by 7 C) ≡ told 0 (19 ∷ [])
-  within_after : tells_after (books ∷ another_books ∷ cancel_by 8 C ∷ []) (cancel_by 7 C) ≡ told 0 (19 ∷ [])
+  within : replies_after (books ∷ another_books ∷ []) (cancel_by 7 C) ≡ reply 0 (19 ∷ [])
+  within_after : replies_after (books ∷ another_books ∷ cancel_by 8 C ∷ []) (cancel_by 7 C) ≡ reply 0 (19 ∷ [])
   -- "different clients": both orders are client 7's, and the second to use ClOrdID E is refused
-  one_client : tells_after (books ∷ books_as Y D ∷ []) (cancel_by 7 C) ≡ told 0 (19 ∷ [])
-  one_client_after : tells_after (books ∷ books_as Y D ∷ cancel_by 7 D ∷ []) (cancel_by 7 C) ≡ told 0 (17 ∷ [])
+  one_client : replies_after (books ∷ books_as Y D ∷ []) (cancel_by 7 C) ≡ reply 0 (19 ∷ [])
+  one_client_after : replies_after (books ∷ books_as Y D ∷ cancel_by 7 D ∷ []) (cancel_by 7 C) ≡ reply 0 (17 ∷ [])
   -- "concern": X-1 is what the gateway's cancel of X creates; sent again it goes out, and before it is nothing
   created : concerns_after (books ∷ []) (sends_again (X_ 1)) ≡ 0
-  created_before : tells_after (books ∷ []) (sends_again (X_ 1)) ≡ told 0 []
-  created_after : tells_after (books ∷ gateway_cancels ∷ []) (sends_again (X_ 1)) ≡ told 0 (19 ∷ [])
+  created_before : replies_after (books ∷ []) (sends_again (X_ 1)) ≡ reply 0 []
+  created_after : replies_after (books ∷ gateway_cancels ∷ []) (sends_again (X_ 1)) ≡ reply 0 (19 ∷ [])
   -- "both taken": at 255 requests each is taken, and whichever is second gets 7
   full_kept : rules almost_full ≡ true
   full : (asked almost_full gateway_cancels ≡ 0) × (asked (next almost_full gateway_cancels) gateway_cancels_y ≡ 7)
   full_turned : (asked almost_full gateway_cancels_y ≡ 0) × (asked (next almost_full gateway_cancels_y) gateway_cancels ≡ 7)
-  -- "kinds 2 to 9": of two bookings the first has the first place
+  -- "kinds 2 to 9": of two bookings the first has the first record
   bookings : (order_in (playing (empty 10000) (books ∷ another_books ∷ [])) 0).client ≡ 7
   bookings_turned : (order_in (playing (empty 10000) (another_books ∷ books ∷ [])) 0).client ≡ 8
 
@@ -110,7 +110,7 @@ record Concern : Type 0 where
   -- kinds 2 and 3: by the client and the OrigClOrdID, which another client may have used too
   own : concerns_after (books ∷ another_books ∷ []) (cancel_by 7 C) ≡ 1
   another : concerns_after (books ∷ another_books ∷ []) (cancel_by 8 C) ≡ 2
-  -- not by the ClOrdID that it brings, nor by one that only another client used
+  -- it is not found by the ClOrdID that it brings, nor by one that only another client used
   brought : concerns_after (books ∷ another_books ∷ []) (cancel_by 7 E) ≡ 0
   not_its : concerns_after (books ∷ []) (cancel_by 8 C) ≡ 0
   -- kinds 4 to 8: by the downstream ClOrdID of any of the order's requests, at any venue

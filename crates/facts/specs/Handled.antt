@@ -1,5 +1,5 @@
 -- Answers that are near and wrong, each ruled out by a smallest list of events: what the definitions say of it, as facts. Rests on Play.
--- Days and Pinned have the answers that the papers spell out; here is what a gateway gets wrong first.
+-- Days and Pinned have the answers that docs/SCOPE.md spells out; here is what a gateway gets wrong first.
 use Rattle.std.specs.Prelude.{ℕ, ◌≡◌, refl, List, [], ◌∷◌}
 use Rattle.records.specs.Record.{event_in}
 use Rattle.store.specs.declared.Order.{Order}
@@ -162,7 +162,7 @@ record Requests : Type 0 where
   market_kept : outcome_in (playing (empty 10000) (books_market ∷ [])) (replaces_market 3) ≡ sends (20 ∷ []) 65
   -- a refused cancel without the venue's status takes PendingCancel back to New
   back_to_new : comes (cancels D ∷ turns (X_ 1) 54 54 ∷ []) (rejects (X_ 1) 99) ≡ sends (17 ∷ []) 48
-  -- asked twice it goes once
+  -- a gateway cancel that is asked for twice goes out once
   asked_twice : comes (gateway_cancels ∷ []) gateway_cancels ≡ sends [] 65
 
 requests_handled : Requests

@@ -4,7 +4,7 @@ use Rattle.std.specs.Prelude.{ℕ, ◌≡◌, refl, Bool, true, false, ◌||◌,
 use Rattle.std.proofs.Common.{ap, ap₂, ◌∙◌}
 use Rattle.prelude.specs.Cases.{maybe}
 use Rattle.prelude.specs.Texts.{text_of}
-use Rattle.text.specs.Words.{no_text}
+use Rattle.text.specs.Stored.{no_text}
 use Rattle.store.specs.Book.{Book, book_of, order_in, request_in, origin_at, open_at}
 use Rattle.store.specs.Finds.{find_client}
 use Rattle.machine.specs.Orders.{is_empty}
@@ -28,12 +28,12 @@ linked k link right e b is at =
     ap₂ (λ (x : Book) (l : ℕ). is_empty (request_in x k).origclordid || l == origin_of x (client_of x k) (request_in x k).origclordid) is at ∙ e
 
 record Links : Type 0 where
-  -- by value: of the client's own; none of another client, of a name that was never used, or of none though the gateway's cancel has an empty ClOrdID
+  -- by value: the client's own request is found; another client's is not, nor one of a name that was never used, nor one of the empty name, though the gateway's cancel has an empty ClOrdID
   named : (origin_of day 7 (text_of C) ≡ 1) × (origin_of day 7 (text_of D) ≡ 2)
   another : origin_of day 8 (text_of C) ≡ 0
   unused : origin_of day 7 (text_of (70 ∷ [])) ≡ 0
   nameless : origin_of (playing (empty 10000) (books ∷ gateway_cancels ∷ [])) 7 no_text ≡ 0
-  -- as it is stored: the link of C's request, though another of the order stands between; not none, that of the one between, of itself, or of none that is there
+  -- as it is stored: the link of C's request is right, though another of the order's requests stands between; 0 is wrong, and so is the link of the one between, of the request itself, or of none in use
   right : Linked 1 1 true × Linked 2 1 true
   wrong : Linked 2 0 false × Linked 2 2 false × Linked 2 3 false × Linked 2 9 false
   -- without an OrigClOrdID any link will do
@@ -70,7 +70,7 @@ stored order quantity right here e b is at =
 record Opens : Type 0 where
   -- the sum of both, of either order
   right : Stored 0 (shares 200) true × Stored 1 (shares 200) true
-  -- not that of the first or one that is none
+  -- the first order's own quantity is wrong, and so is 0
   wrong : Stored 0 (shares 100) false × Stored 1 (shares 100) false × Stored 0 0 false
 
 opens : Opens

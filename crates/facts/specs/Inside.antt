@@ -3,7 +3,7 @@
 use Rattle.std.specs.Prelude.{ℕ, ◌-◌, ◌^◌, ◌≡◌, refl, Bool, true, false, List, [], ◌∷◌, map, replicate}
 use Rattle.prelude.specs.Texts.{text_of}
 use Rattle.prelude.specs.declared.Terms.{Terms}
-use Rattle.text.specs.Words.{no_text}
+use Rattle.text.specs.Stored.{no_text}
 use Rattle.store.specs.declared.State.{State}
 use Rattle.store.specs.declared.Links.{Links}
 use Rattle.store.specs.declared.Pending.{Pending}
@@ -43,7 +43,7 @@ one o qs = book (o ∷ []) qs
 abbrev plain : Links → Order
 plain l = order_x (state 48 0 0 1) l no_pending no_gateway
 
--- an order of a client with its texts and its first request alone, the request at that place in the table from 1 on
+-- an order of a client with its texts and its first request alone, the request of that link
 abbrev titled : (client : ℕ) (name clordid symbol venueorderid : List ℕ) (current : ℕ) → Order
 titled client name clordid symbol venueorderid current = record {
   client = client;
@@ -96,7 +96,7 @@ cancel unsent stuck tries named refusedsends = record { tries = tries; unsent = 
 abbrev with_gateway : GatewayCancel → Bool
 with_gateway g = rules (one (order_x (state 48 0 0 1) (links 1 1 2) no_pending g) (first ∷ request 3 1 [] [] (X_ 1) ∷ []))
 
--- beside order Y: the same with its first request at place 3
+-- beside order Y: the same with its first request of link 3
 abbrev with_gateway_beside : GatewayCancel → Bool
 with_gateway_beside g =
     rules (book (order_x (state 48 0 0 1) (links 1 1 2) no_pending g ∷ titled 8 Y C W [] 3 ∷ []) (first ∷ request 3 1 [] [] (X_ 1) ∷ of_order 1 0 0 C [] Y ∷ []))
@@ -126,7 +126,7 @@ record Ranges : Type 0 where
   market : with_terms (terms_of 49 49 0 (shares 100) 0) ≡ true
   prices : map (λ p. with_terms (terms_of 49 50 0 (shares 100) p)) (0 ∷ 10 ^ 14 ∷ []) ≡ true ∷ true ∷ []
   quantities : map (λ q. with_terms (terms_of 49 50 0 q (money 10))) (0 ∷ 10 ^ 12 ∷ []) ≡ true ∷ true ∷ []
-  -- an average without a fill, none with one; a fill that was never told; the last report sequence
+  -- an average without a fill, none with one; a fill that was never reported; the last report sequence
   average_alone : with_state (state 48 0 (10 ^ 14) 1) ≡ true
   average_none : with_state (state 49 40 0 1) ≡ true
   untold : with_state (state 49 40 (money 10) 0) ≡ true

@@ -74,7 +74,7 @@ record Opens : Type 0 where
   -- the accepted quantity, and not the one that waits
   waiting : opens 7 (books ∷ replaces D 200 ∷ []) ≡ shares 100
   accepted : opens 7 (books ∷ replaces D 200 ∷ turns (X_ 1) 53 48 ∷ []) ≡ shares 200
-  -- a replace down likewise: not the smaller of the two while it waits, be it pending at the venue or refused; with a fill, and down to what is filled
+  -- so with a replace down: it is not the smaller of the two while the replace waits, even if it is pending at the venue, nor once it is refused; with a fill, and down to what is filled
   waiting_down : opens 7 (books ∷ replaces D 60 ∷ []) ≡ shares 100
   pending_down : opens 7 (books ∷ replaces D 60 ∷ turns (X_ 1) 69 69 ∷ []) ≡ shares 100
   refused_down : opens 7 (books ∷ replaces D 60 ∷ rejects (X_ 1) 99 ∷ []) ≡ shares 100
@@ -98,6 +98,12 @@ record Opens : Type 0 where
   -- nor does Filled below the quantity, in a refusal and in a report
   refusal_short : moves (books ∷ cancels D ∷ []) (reject_of (X_ 1) (number 13 1 50 ∷ [])) ≡ moved (17 ∷ []) 100 100
   report_short : moves (books ∷ []) (turns X 48 50) ≡ moved (16 ∷ []) 100 100
+  -- an order that is done for the day leaves 0, told or not, and what is left again once that ends
+  day : opens 7 (books ∷ turns X 51 51 ∷ []) ≡ 0
+  day_filled : opens 7 (books ∷ report_of X 70 51 40 (money 10) 40 (money 10) [] ∷ []) ≡ 0
+  untold : opens 7 (books ∷ gateway_cancels ∷ turns (X_ 1) 54 51 ∷ []) ≡ 0
+  day_refused : opens 7 (books ∷ cancels D ∷ reject_of (X_ 1) (number 13 1 51 ∷ []) ∷ []) ≡ 0
+  next_day : opens 7 (books ∷ report_of X 70 51 40 (money 10) 40 (money 10) [] ∷ report_of X 73 49 0 0 40 (money 10) [] ∷ []) ≡ shares 60
 
 opened : Opens
 unfolding called
@@ -135,4 +141,9 @@ opened = record {
   refusal_alone = refl;
   refusal_short = refl;
   report_short = refl;
+  day = refl;
+  day_filled = refl;
+  untold = refl;
+  day_refused = refl;
+  next_day = refl;
 }

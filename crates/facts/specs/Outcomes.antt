@@ -1,4 +1,4 @@
--- Small days beside what comes of each request: each place of the machine that answers one, and what is near it. Rests on Play. What they shut out: an event 8 that
+-- Small days beside what comes of each request: each definition of the machine that answers one, and what is near it. Rests on Play. What they shut out: an event 8 that
 -- counts as a failed send, an outcome that is set again, a cancel that is accepted by another's report, a settling without a status.
 use Rattle.std.specs.Prelude.{ℕ, ◌≡◌, refl, List, [], ◌∷◌, map}
 use Rattle.store.specs.Book.{Book}
@@ -44,7 +44,7 @@ record Table : Type 0 where
   gateway_failed : (gateway (send_fails (X_ 1) ∷ []) ≡ 0 ∷ 3 ∷ []) × (gateway (turns X 52 52 ∷ send_fails (X_ 1) ∷ []) ≡ 0 ∷ 3 ∷ [])
   -- the venue's cancel reject: refused
   refused : (cancelled (rejects (X_ 1) 99 ∷ []) ≡ 0 ∷ 2 ∷ []) × (replaced (rejects (X_ 1) 99 ∷ []) ≡ 0 ∷ 2 ∷ [])
-  -- the gateway's too, where it is given up and where it is tried again, and of an order that is done
+  -- the gateway's too, if it is given up and if it is tried again, and of an order that is done
   gateway_refused : (gateway (rejects (X_ 1) 1 ∷ []) ≡ 0 ∷ 2 ∷ [])
       × (gateway (rejects (X_ 1) 99 ∷ []) ≡ 0 ∷ 2 ∷ 0 ∷ [])
       × (gateway (turns X 52 52 ∷ rejects (X_ 1) 99 ∷ []) ≡ 0 ∷ 2 ∷ [])
@@ -66,7 +66,7 @@ record Table : Type 0 where
   replace_again : replaced (rejects (X_ 1) 99 ∷ replaces E 150 ∷ turns (X_ 2) 53 48 ∷ []) ≡ 1 ∷ 2 ∷ 1 ∷ []
   -- 8/4, I/8 and 8/0 refuse
   rejected : (replaced (turns (X_ 1) 56 52 ∷ []) ≡ 0 ∷ 2 ∷ []) × (replaced (turns (X_ 1) 73 56 ∷ []) ≡ 0 ∷ 2 ∷ []) × (replaced (turns (X_ 1) 56 48 ∷ []) ≡ 0 ∷ 2 ∷ [])
-  -- and so of a cancel, and of the gateway's, which is tried again
+  -- they refuse a cancel too, and the gateway's, which is tried again
   rejected_cancel : (cancelled (turns (X_ 1) 56 48 ∷ []) ≡ 0 ∷ 2 ∷ []) × (gateway (turns (X_ 1) 56 48 ∷ []) ≡ 0 ∷ 2 ∷ 0 ∷ [])
   -- ExecType 8 without a status settles nothing, and I/8 with reason 5 is an event 5
   unsettled : (replaced (unsaid ∷ []) ≡ 0 ∷ 0 ∷ []) × (replaced (report_of (X_ 1) 73 56 0 0 0 0 (number 19 4 5 ∷ []) ∷ []) ≡ 0 ∷ 0 ∷ [])

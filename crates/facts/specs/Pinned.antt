@@ -200,7 +200,7 @@ alarms_pinned = record {
 -- ---- codes: which statuses end an order, the kinds of messages, and ExecTypes of our own
 
 record Codes : Type 0 where
-  -- 2 of all that is ordered, 4 C 8 end it; A 0 1 6 E do not, nor does 2 of less, and a cancel goes out
+  -- 2 with all that is ordered filled, 4, C and 8 end it; A, 0, 1, 6 and E do not, nor does 2 with less, and a cancel goes out
   done_filled : says 10000 (books ∷ report_of X 70 50 100 (money 10) 100 (money 10) [] ∷ []) (cancels D) ≡ cancel_refused 0 7
   done_canceled : says 10000 (books ∷ turns X 52 52 ∷ []) (cancels D) ≡ cancel_refused 0 7
   done_expired : says 10000 (books ∷ turns X 67 67 ∷ []) (cancels D) ≡ cancel_refused 0 7

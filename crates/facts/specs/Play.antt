@@ -18,7 +18,7 @@ use Rattle.records.specs.Fields.{long_of, blank}
 use Rattle.records.specs.Record.{record_at, event_in}
 use Rattle.format.specs.Refusal.{name_in, ranged, event_refusal}
 use Rattle.text.specs.Numbered.{numbered_text, decimal, digits_of}
-use Rattle.text.specs.Words.{no_text}
+use Rattle.text.specs.Stored.{no_text}
 use Rattle.store.specs.declared.GatewayCancel.{GatewayCancel}
 use Rattle.store.specs.declared.Links.{Links}
 use Rattle.store.specs.declared.Order.{Order}
@@ -231,7 +231,7 @@ standing status cum avg sequence = order_x (state status cum avg sequence) (link
 abbrev pub cancelling : (tries : ℕ) (stuck : Bool) → GatewayCancel
 cancelling tries stuck = record { tries = tries; unsent = false; stuck = stuck; origdownstream = 1; refusedsends = 0 }
 
--- answered is 1 where something came of the request: 0 open, 1 accepted, 2 refused, 3 failed to send
+-- answered is 1 if something came of the request: 0 open, 1 accepted, 2 refused, 3 failed to send
 abbrev pub answered_for : (outcome : ℕ) → ℕ
 answered_for zero = 0
 answered_for (suc n) = 1

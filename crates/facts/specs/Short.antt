@@ -18,8 +18,8 @@ use Rattle.store.specs.Orders.{no_pending, no_gateway}
 
 -- ---- the words of the tables, here and in DoneForDay
 
--- a message: its kind, ExecType, status, LastQty and leaves, 0 where the kind has none
-pub record Told : Type 0 where
+-- a message: its kind, ExecType, status, LastQty and leaves, 0 if the kind has none
+pub record Summary : Type 0 where
   pub kind : ℕ
   pub exectype : ℕ
   pub status : ℕ
@@ -37,13 +37,13 @@ pub record Left : Type 0 where
   pub answered : List ℕ
 
 pub record Came : Type 0 where
-  pub messages : List Told
+  pub messages : List Summary
   pub alarm : ℕ
   pub alarm2 : ℕ
   pub left : Left
 
-abbrev told_of : Message → Told
-told_of m = record { kind = m.kind; exectype = m.exec.exectype; status = m.exec.status; last = m.exec.lastqty; leaves = m.told.leavesqty }
+abbrev summary_of : Message → Summary
+summary_of m = record { kind = m.kind; exectype = m.exec.exectype; status = m.exec.status; last = m.exec.lastqty; leaves = m.told.leavesqty }
 
 abbrev answered_of : Request → ℕ
 answered_of q = q.answered
@@ -60,7 +60,7 @@ left_of o qs = record {
 }
 
 abbrev came_of : Change → Book → Came
-came_of c b = record { messages = map told_of (messages_of c); alarm = c.output.alarm; alarm2 = c.output.alarm2; left = left_of (order_in b 0) b.requests }
+came_of c b = record { messages = map summary_of (messages_of c); alarm = c.output.alarm; alarm2 = c.output.alarm2; left = left_of (order_in b 0) b.requests }
 
 abbrev pub comes_on : Book → (event : List ℕ) → Came
 comes_on b event = let c = called b event in came_of c (left_by b c)
@@ -70,17 +70,17 @@ abbrev pub comes : List (List ℕ) → (event : List ℕ) → Came
 comes before event = comes_on (playing (empty 10000) (books ∷ before)) event
 
 -- as it should be; quantities in shares
-abbrev pub came : List Told → (alarm alarm2 : ℕ) → Left → Came
+abbrev pub came : List Summary → (alarm alarm2 : ℕ) → Left → Came
 came messages alarm alarm2 left = record { messages = messages; alarm = alarm; alarm2 = alarm2; left = left }
 
-abbrev pub report : (exectype status last leaves : ℕ) → Told
+abbrev pub report : (exectype status last leaves : ℕ) → Summary
 report exectype status last leaves = record { kind = 16; exectype = exectype; status = status; last = shares last; leaves = shares leaves }
 
-abbrev pub reject : (status : ℕ) → Told
+abbrev pub reject : (status : ℕ) → Summary
 reject status = record { kind = 17; exectype = 0; status = status; last = 0; leaves = 0 }
 
 -- a cancel request goes out
-abbrev pub sent : Told
+abbrev pub sent : Summary
 sent = record { kind = 19; exectype = 0; status = 0; last = 0; leaves = 0 }
 
 abbrev pub left : (status cum qty leaves : ℕ) (pending gateway : Bool) (answered : List ℕ) → Left
@@ -267,7 +267,7 @@ gateway : Gateway
 unfolding called
 gateway = record { again = refl; gone = refl; third = refl; whole = refl; resumes = refl }
 
--- so that question 7 comes where it did not: the try has no room behind 256 requests. Canceled ends the gateway cancel and is taken.
+-- so that question 7 is answered with no, and was not before: the try has no room behind 256 requests. Canceled ends the gateway cancel and is taken.
 abbrev full : Book
 full = let b = many_requests 254 in left_by b (step_of b (event_in gateway_cancels))
 

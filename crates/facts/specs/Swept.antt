@@ -14,7 +14,7 @@ use Rattle.store.specs.declared.Request.{Request}
 use Rattle.store.specs.declared.State.{State}
 use Rattle.store.specs.Book.{Book}
 use Rattle.store.specs.Orders.{no_pending, no_gateway}
-use Rattle.text.specs.Words.{no_text}
+use Rattle.text.specs.Stored.{no_text}
 use Rattle.machine.specs.Changes.{Message}
 use Rattle.machine.specs.History.{left_by}
 use Rattle.machine.specs.Machine.{step_of}

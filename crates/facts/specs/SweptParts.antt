@@ -14,7 +14,7 @@ use Rattle.store.specs.declared.Request.{Request}
 use Rattle.store.specs.Book.{Book}
 use Rattle.store.specs.Orders.{no_pending, no_gateway}
 use Rattle.store.specs.Requests.{no_request}
-use Rattle.text.specs.Words.{no_text}
+use Rattle.text.specs.Stored.{no_text}
 use Rattle.machine.specs.declared.Change.{Change}
 use Rattle.machine.specs.declared.Findings.{Findings}
 use Rattle.machine.specs.declared.Output.{Output}
@@ -213,7 +213,7 @@ record Tests : Type 0 where
   -- nothing waits on a done order
   done : done_rule (order_of 52 0 no_pending no_gateway) ∷ done_rule (order_of 48 0 (waiting 2 1 1 50 0) (cancelling 1 false)) ∷ [] ≡ yes 2
   not_done : done_rule (order_of 52 0 (waiting 2 1 1 50 0) no_gateway) ∷ done_rule (order_of 52 0 no_pending (cancelling 1 false)) ∷ [] ≡ no 2
-  -- tries: 3 at most, and 2 where unsent
+  -- tries: 3 at most, and 2 if the last is unsent
   tries : tries_rule (tried 3 false false 1 9) ∷ tries_rule (tried 2 true false 1 9) ∷ [] ≡ yes 2
   not_tries : tries_rule (tried 4 false false 1 0) ∷ tries_rule (tried 3 true false 1 0) ∷ [] ≡ no 2
   -- a request's number: 0 is the first's
@@ -225,7 +225,7 @@ record Tests : Type 0 where
       ∷ number_rule (text_of X) 1 (request 0 0 C [] (X_ 1))
       ∷ []
       ≡ no 5
-  -- what came of a request: 0 exactly where it is unanswered, and 3 at most
+  -- what came of a request: 0 exactly if it is unanswered, and 3 at most
   outcomes : outcome_rule (marked 0 0 first) ∷ outcome_rule (marked 1 1 first) ∷ outcome_rule (marked 1 2 first) ∷ outcome_rule (marked 1 3 first) ∷ [] ≡ yes 4
   not_outcomes : outcome_rule (marked 0 1 first) ∷ outcome_rule (marked 0 4 first) ∷ outcome_rule (marked 1 0 first) ∷ outcome_rule (marked 1 4 first) ∷ [] ≡ no 4
   -- an unanswered gateway cancel of a live order is its latest cancel, tried, sent and not stuck; any other request is free

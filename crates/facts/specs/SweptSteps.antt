@@ -11,7 +11,7 @@ use Rattle.store.specs.declared.Pending.{Pending}
 use Rattle.store.specs.declared.Request.{Request}
 use Rattle.store.specs.Book.{Book}
 use Rattle.store.specs.Orders.{no_pending, no_gateway}
-use Rattle.text.specs.Words.{no_text}
+use Rattle.text.specs.Stored.{no_text}
 use Rattle.machine.specs.Changes.{Message}
 use Rattle.machine.specs.Machine.{step_of}
 use Rattle.facts.specs.Play.{Field, number, spelled, mark, bytes, shares, money, X, X_, C, D, E, W, cancel_of, replace_of, report_of, fills, turns, unknown_to_venue, reject_of, rejects, send_fails, sends_again, gateway_cancels, called, Line, line_of, terms, state, links, order_x, standing, cancelling, request, first, reported, refused, to_venue'}
@@ -118,7 +118,7 @@ record Sends : Type 0 where
   -- sent again it is refused; and so is the earlier of two by the venue
   again_done : comes (done_cancel 0) (sends_again (X_ 1)) ≡ silent (done_cancel 2)
   earlier : comes (both_out 0) (rejects (X_ 1) 1) ≡ silent (both_out 2)
-  -- the gateway's cancel is asked for: of a done order, while one is in flight, and behind the client's, where it waits
+  -- the gateway's cancel is asked for: of a done order, while one is in flight, and behind the client's, for which it waits
   asked_done : comes (done_cancel 1) gateway_cancels ≡ silent (done_cancel 1)
   asked_twice : comes (trying (cancelling 2 false) 0) gateway_cancels ≡ silent (trying (cancelling 2 false) 0)
   asked_behind : comes (cancel_out no_gateway) gateway_cancels ≡ silent (cancel_out (waits 0 0))
@@ -217,7 +217,7 @@ two = record {
   requests = first ∷ record { order = 1; kind = 0; answered = 0; clordid = text_of Z; origclordid = no_text; downstream = text_of Z; outcome = 0 } ∷ [];
 }
 
--- a refusal of ours under another ClOrdID than D, or of no order: the name is there where there is an order
+-- a refusal of ours under another ClOrdID than D, or of no order: the name is there if there is an order
 abbrev refuses : (bits name clordid origclordid : List ℕ) (status responseto reason text : ℕ) → Message
 refuses bits name clordid origclordid status responseto reason text = record {
   kind = 17;
@@ -253,7 +253,7 @@ free_order = record {
 }
 
 record Requests : Type 0 where
-  -- redelivered, it was taken where its ClOrdID was used for this very order: not for another, nor for none
+  -- redelivered, it counts as taken if its ClOrdID was used for this very order: not for another, nor for none
   of_another : comes two (cancel_of Z W 49 (mark 21 ∷ [])) ≡ line (refuses (2 ∷ []) X Z C 48 1 6 5 ∷ []) 0 two
   of_none : comes live (bytes 2 (number 0 2 7 ∷ spelled 3 D ∷ spelled 4 E ∷ spelled 6 W ∷ number 7 1 49 ∷ mark 21 ∷ []))
       ≡ line (refuses [] [] D E 56 1 1 6 ∷ []) 0 live
@@ -272,7 +272,7 @@ record Requests : Type 0 where
   elsewhere : comes (cancel_out no_gateway) (bytes 6 (number 1 2 4 ∷ spelled 5 (X_ 1) ∷ [])) ≡ silent (cancel_out no_gateway)
   answered : comes (superseded 48) (rejects (X_ 1) 1) ≡ silent (superseded 48)
   of_order : comes (cancel_out no_gateway) (rejects X 1) ≡ silent (cancel_out no_gateway)
-  -- a verdict is passed over where neither the price nor, upwards, the quantity is another; a time in force counts for nothing
+  -- a verdict is passed over if the price is the same and the quantity does not go up; a time in force counts for nothing
   at_10 : (step_of live (event_in (replaces_at 10 100))).requests.added ≡ 1
   at_10_less : (step_of live (event_in (replaces_at 10 99))).requests.added ≡ 1
   at_11 : comes live (replaces_at 11 100) ≡ line (refused 48 2 99 14 ∷ []) 0 live

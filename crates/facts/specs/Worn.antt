@@ -9,7 +9,7 @@ use Rattle.store.specs.declared.Pending.{Pending}
 use Rattle.store.specs.declared.Request.{Request}
 use Rattle.store.specs.Book.{Book, order_in}
 use Rattle.store.specs.Orders.{no_pending, no_gateway}
-use Rattle.text.specs.Words.{no_text}
+use Rattle.text.specs.Stored.{no_text}
 use Rattle.machine.specs.Changes.{Message}
 use Rattle.machine.specs.History.{messages_of, left_by}
 use Rattle.machine.specs.Machine.{step_of}
@@ -103,8 +103,8 @@ after before = stepped_on (worn 10000) before
 abbrev comes : List (List ℕ) → (event : List ℕ) → Came
 comes before event = comes_on (after before) event
 
-abbrev told : List (List ℕ) → (event : List ℕ) → Message
-told before event = first_of (messages_of (step_of (after before) (event_in event)))
+abbrev first_message : List (List ℕ) → (event : List ℕ) → Message
+first_message before event = first_of (messages_of (step_of (after before) (event_in event)))
 
 abbrev gateway_of : List (List ℕ) → GatewayCancel
 gateway_of calls = (order_in (after calls) 0).gateway
@@ -367,11 +367,11 @@ reports = record {
 
 -- a fill under the cancel's name, by a status report
 abbrev under_cancel : Message
-under_cancel = told (cancels E ∷ []) (report_of (X_ 2) 73 49 10 (money 10) 50 (money 10) loud)
+under_cancel = first_message (cancels E ∷ []) (report_of (X_ 2) 73 49 10 (money 10) 50 (money 10) loud)
 
 -- a rejection of the order, with a fill
 abbrev rejection : Message
-rejection = told [] (report_of X 56 56 10 (money 10) 50 (money 10) loud)
+rejection = first_message [] (report_of X 56 56 10 (money 10) 50 (money 10) loud)
 
 record Tells : Type 0 where
   clordid : under_cancel.ids.clordid ≡ text_of E

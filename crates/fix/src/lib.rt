@@ -3,18 +3,18 @@
 // says where message n of an answer stands. What messages are stands in fix_words, with its laws; what
 // the entries return and what is promised of it in fix_claims; the modules do the writing, fix_reader
 // the reading, and each entry equals a definition. Each is total: whatever the bytes, it returns its
-// number, and a refused call has written nothing. Rests on records, cut, decimal, fix_claims, fix_table
-// and fix_reader.
+// number, and a refused call has written nothing. Rests on records, decimal, fix_claims, fix_table and
+// fix_reader.
 #![tactic(auto)]
 
 ghost use Rattle.std.specs.Prelude.{◌≡◌};
-ghost use Rattle.cut.specs.Place.{place_of};
+ghost use Rattle.records.specs.Place.{place_of};
 ghost use Rattle.fix_words.specs.Record.{session};
 ghost use Rattle.fix_claims.specs.Reading.{fields_read};
 ghost use Rattle.fix_claims.specs.Call.{wrote, write_call};
 
-use cut::Place;
 use fix_claims::{FixFields, Written};
+use records::cut;
 use session::Session;
 
 mod put; // the writer's bytes
@@ -52,7 +52,7 @@ pub fn fix_read(message: &[u8]) -> FixFields
 }
 
 // Where message n of an answer stands, counted from 0.
-pub fn message_at(answer: &[u8], n: u32) -> Place
+pub fn message_at(answer: &[u8], n: u32) -> cut::Place
     ensures { result ≡ place_of answer.now n }
 {
     cut::message_at(answer, n)

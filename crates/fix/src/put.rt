@@ -13,11 +13,11 @@ ghost use Rattle.fix.specs.Laws.Plan.{said_by, long_of, field_long, field_shown,
 use crate::session::Session;
 use crate::value::{Value, value_at};
 use decimal::digits::Digits;
-use fix_table::spoken::words;
+use fix_table::spoken::fixed_text;
 use records::parts::Parts;
 
-// The bytes of a text, written at `at`; where they end.
-#[tactic(auto, using(prelude::specs::Span::part_splice))]
+// The bytes of a text, written at `at`. It gives where they end.
+#[tactic(auto, using(prelude::specs::Laws::Span::part_splice))]
 fn put_bytes(out: &mut [u8], at: usize, text: &[u8]) -> usize
     requires { at + length text.now ≤ length out.old }
     ensures { (result ≡ at + length text.now) × (out.new ≡ splice out.old at text.now) }
@@ -49,7 +49,7 @@ fn put_exec(out: &mut [u8], at: usize, name: &[u8], n: u64) -> usize
 
 // A value. That its bytes stand in the record is asked here and of `put_field` and `put_body`: the record
 // travels beside the value, and a type of both would hold the record once for each field.
-#[tactic(auto, using(prelude::specs::Span::part_span, prelude::specs::Span::length_span), unfolding(crate::specs::Laws::Plan::said_by, crate::specs::Laws::Plan::long_of))]
+#[tactic(auto, using(prelude::specs::Laws::Span::part_span, prelude::specs::Laws::Span::length_span), unfolding(crate::specs::Laws::Plan::said_by, crate::specs::Laws::Plan::long_of))]
 fn put_value(out: &mut [u8], at: usize, s: &[u8], v: Value) -> usize
     requires { (Sound s.now (Some v)) × (at + long_of v ≤ length out.old) }
     ensures { (result ≡ at + long_of v) × (out.new ≡ splice out.old at (said_by s.now v)) }
@@ -58,7 +58,7 @@ fn put_value(out: &mut [u8], at: usize, s: &[u8], v: Value) -> usize
         Value::Bytes { from, count } => put_bytes(out, at, &s[from..from + count]),
         Value::Number { n, places } => put_decimal(out, at, n, places),
         Value::Price { low, high, places } => put_decimal(out, at, [low, high], places),
-        Value::Words(n) => put_bytes(out, at, words(n)),
+        Value::Fixed(n) => put_bytes(out, at, fixed_text(n)),
         Value::Exec {
             from,
             count,
@@ -67,7 +67,7 @@ fn put_value(out: &mut [u8], at: usize, s: &[u8], v: Value) -> usize
     }
 }
 
-// A field, where it stands: tag = value SOH; where it ends.
+// A field, if it has a value: tag = value SOH. It gives where the field ends.
 #[tactic(auto, using(crate::specs::Laws::Putting::field_some))]
 fn put_field(out: &mut [u8], at: usize, tag: u64, s: &[u8], v: Option<Value>) -> usize
     requires { (Sound s.now v) × (at + field_long tag v ≤ length out.old) }
@@ -148,8 +148,8 @@ pub(crate) fn put_body(out: &mut [u8], start: usize, s: &[u8], kind: u8, parts: 
     p
 }
 
-// 60 where it stands.
-#[tactic(auto, using(fix_table::specs::Laws::Choices::choices, prelude::specs::Span::splice_nil), unfolding(fix_words::specs::Spelling::spellings))]
+// 60, if the kind has it.
+#[tactic(auto, using(fix_table::specs::Laws::Choices::choices, prelude::specs::Laws::Span::splice_nil), unfolding(fix_words::specs::Spelling::spellings))]
 pub(crate) fn put_stamp(out: &mut [u8], at: usize, kind: u8, time: &[u8]) -> usize
     requires { at + length (spellings (stamp_fields kind time.now)) ≤ length out.old }
     ensures { (result ≡ at + length (spellings (stamp_fields kind time.now))) × (out.new ≡ splice out.old at (spellings (stamp_fields kind time.now))) }

@@ -13,8 +13,8 @@ use crate::value::{Value, value_at};
 use fix_table::spoken;
 use records::parts::Parts;
 
-// The room behind n bytes more, where what was counted fits.
-pub(crate) fn less(room: Option<usize>, n: usize) -> Option<usize>
+// The room behind n bytes more, if they fit.
+pub(crate) fn less_by(room: Option<usize>, n: usize) -> Option<usize>
     ensures { result ≡ less_by room n }
 {
     room?.checked_sub(n)
@@ -24,14 +24,14 @@ fn less_value(room: Option<usize>, v: Value) -> Option<usize>
     ensures { result ≡ less_by room (long_of v) }
 {
     match v {
-        Value::Bytes { count, .. } => less(room, count),
-        Value::Number { n, places } => less(room, decimal::decimal_length(n, places)),
+        Value::Bytes { count, .. } => less_by(room, count),
+        Value::Number { n, places } => less_by(room, decimal::decimal_length(n, places)),
         Value::Price { low, high, places } => {
-            less(room, decimal::decimal_length([low, high], places))
+            less_by(room, decimal::decimal_length([low, high], places))
         }
-        Value::Words(n) => less(room, spoken::words(n).len()),
-        Value::Exec { count, number, .. } => less(
-            less(room, count),
+        Value::Fixed(n) => less_by(room, spoken::fixed_text(n).len()),
+        Value::Exec { count, number, .. } => less_by(
+            less_by(room, count),
             1 + decimal::decimal_length(number, 0),
         ),
     }
@@ -44,8 +44,8 @@ pub(crate) fn less_field(room: Option<usize>, tag: u64, v: Option<Value>) -> Opt
     let Some(value) = v else {
         return room;
     };
-    less(
-        less_value(less(room, decimal::decimal_length(tag, 0)), value),
+    less_by(
+        less_value(less_by(room, decimal::decimal_length(tag, 0)), value),
         2,
     )
 }
@@ -67,21 +67,21 @@ pub(crate) fn less_body(room: Option<usize>, kind: u8, parts: &Parts) -> Option<
 pub(crate) fn less_head(room: Option<usize>, header: &Session) -> Option<usize>
     ensures { result ≡ less_by room (head_long (length header.now.sender) (length header.now.target) header.now.sequence (length header.now.time)) }
 {
-    let tags = less(room, 21);
-    let texts = less(
-        less(less(tags, header.sender.len()), header.target.len()),
+    let tags = less_by(room, 21);
+    let texts = less_by(
+        less_by(less_by(tags, header.sender.len()), header.target.len()),
         header.time.len(),
     );
-    less(texts, decimal::decimal_length(header.sequence, 0))
+    less_by(texts, decimal::decimal_length(header.sequence, 0))
 }
 
-// 60 where it stands.
+// 60, if the kind has it.
 #[tactic(auto, using(fix_table::specs::Laws::Choices::choices, crate::specs::Laws::Putting::less_more, crate::specs::Laws::Putting::less_none), unfolding(crate::specs::Laws::Plan::stamp_long))]
 pub(crate) fn less_stamp(room: Option<usize>, kind: u8, time: usize) -> Option<usize>
     ensures { result ≡ less_by room (stamp_long kind time) }
 {
     if fix_table::has_stamp(kind) {
-        less(less(room, 4), time)
+        less_by(less_by(room, 4), time)
     } else {
         room
     }
@@ -92,5 +92,5 @@ pub(crate) fn less_stamp(room: Option<usize>, kind: u8, time: usize) -> Option<u
 pub(crate) fn less_frame(room: Option<usize>, body: u64) -> Option<usize>
     ensures { result ≡ less_by room (frame_long body) }
 {
-    less(room, 20 + decimal::decimal_length(body, 0))
+    less_by(room, 20 + decimal::decimal_length(body, 0))
 }

@@ -1,4 +1,4 @@
-// A value planned before it is written: where its bytes stand, or the number or words that it is. Rests
+// A value planned before it is written: where its bytes stand, or the number or fixed text that it is. Rests
 // on fix_table, format and bits. A bit is an index of the parts here, as in a row (fix_table's `bit`), and
 // once the number by which bits shifts (format's `bit`). A record's lengths are u64 and a bit's number is a
 // u32 in bits: by `as`, which is proved to lose nothing, since std has no From between them and usize.
@@ -31,8 +31,8 @@ pub(crate) enum Value {
         high: u64,
         places: u8,
     },
-    // Words of our own.
-    Words(u64),
+    // A fixed text.
+    Fixed(u64),
     // Bytes of a buffer, a point and a number.
     Exec {
         from: usize,
@@ -81,7 +81,7 @@ fn fixed(parts: &Parts) -> Option<Value>
     ensures { result ≡ fixed_plan parts.now.map (get_or parts.now.numbers 27 0) }
 {
     let n = parts.numbers[bit::FIXEDTEXT];
-    bits::has(parts.map, format::bit::FIXEDTEXT).then_some(Value::Words(n))
+    bits::has(parts.map, format::bit::FIXEDTEXT).then_some(Value::Fixed(n))
 }
 
 #[tactic(auto, using(fix_table::specs::Laws::Choices::choices), unfolding(crate::specs::Laws::Plan::exec_plan))]
@@ -106,7 +106,7 @@ fn instead(kind: u8, parts: &Parts, b: usize) -> Option<Value>
         return None;
     }
     match b {
-        bit::NAME => Some(Value::Words(NONE)),
+        bit::NAME => Some(Value::Fixed(NONE)),
         bit::TEXT => fixed(parts),
         _ => None,
     }

@@ -34,8 +34,8 @@ fn is_text(s: &[u8]) -> bool
     !s.is_empty() && s.iter().all(|c| b' ' <= *c)
 }
 
-// The same of bit b, where it is a text and stands.
-#[tactic(auto, using(fix_table::specs::Laws::Choices::choices, crate::specs::Laws::Whole::form_text, crate::specs::Laws::Whole::form_other, prelude::specs::Span::part_span), unfolding(crate::specs::Laws::Plan::text_right))]
+// The same of bit b, if it is a text and stands.
+#[tactic(auto, using(fix_table::specs::Laws::Choices::choices, crate::specs::Laws::Whole::form_text, crate::specs::Laws::Whole::form_other, prelude::specs::Laws::Span::part_span), unfolding(crate::specs::Laws::Plan::text_right))]
 fn text_right(s: &[u8], parts: &Parts, b: usize) -> bool
     requires { (b < 32) × (form_of b ≡ Text → (get_or parts.now.at (b + 1) 0 - get_or parts.now.numbers b 0) + get_or parts.now.numbers b 0 ≤ length s.now) }
     ensures { result ≡ text_right s.now parts.now.map (get_or parts.now.at (b + 1) 0) (get_or parts.now.numbers b 0) b }
@@ -53,7 +53,7 @@ fn text_right(s: &[u8], parts: &Parts, b: usize) -> bool
 }
 
 // Of all bits.
-#[tactic(auto, using(prelude::specs::Below::all_none, prelude::specs::Below::all_more, prelude::specs::Below::all_done), unfolding(crate::specs::Laws::Plan::texts_right))]
+#[tactic(auto, using(prelude::specs::Laws::Below::all_none, prelude::specs::Laws::Below::all_more, prelude::specs::Laws::Below::all_done), unfolding(crate::specs::Laws::Plan::texts_right))]
 fn texts_right(s: &[u8], parts: &Parts) -> bool
     requires { (b : ℕ) → b < 32 → form_of b ≡ Text → (get_or parts.now.at (b + 1) 0 - get_or parts.now.numbers b 0) + get_or parts.now.numbers b 0 ≤ length s.now }
     ensures { result ≡ texts_right s.now parts.now.map parts.now.at parts.now.numbers }

@@ -3,13 +3,13 @@
 #![tactic(auto)]
 
 ghost use Rattle.std.specs.Prelude.{◌≡◌};
-ghost use Rattle.cut.specs.Place.{place_of};
+ghost use Rattle.records.specs.Place.{place_of};
 ghost use Rattle.fix_words.specs.Record.{session};
 ghost use Rattle.fix_claims.specs.Reading.{fields_read};
 ghost use Rattle.fix_claims.specs.Call.{wrote, write_call};
 
-use cut::Place;
 use fix_claims::{FixFields, Written};
+use records::cut::Place;
 
 // Writes the FIX message of a message record to the front of `out`, with the session's comp IDs,
 // sequence number and time text.

@@ -8,8 +8,8 @@ use Rattle.records.specs.declared.Record.{Record}
 use Rattle.records.specs.Fields.{blank}
 use Rattle.records.specs.Record.{record_bytes}
 use Rattle.records.specs.Answer.{count_in, are_messages, answer_bytes, answer_refusal}
-use Rattle.cut.specs.Place.{place_of, nowhere}
-use Rattle.cut.specs.Laws.Cut.{cut_at}
+use Rattle.records.specs.Place.{place_of, nowhere}
+use Rattle.records.specs.Laws.Cut.{cut_at}
 use Rattle.decimal.specs.Decimal.{digits}
 use Rattle.fix_words.specs.Spelling.{Field, equals, spellings}
 use Rattle.fix_words.specs.Frame.{Frame}

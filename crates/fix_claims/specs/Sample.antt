@@ -13,7 +13,7 @@ use Rattle.fix_words.specs.Lists.{before, after, pieces}
 use Rattle.fix_words.specs.Ascii.{ascii}
 use Rattle.fix_words.specs.Spelling.{piece, spellings, field_in, fields_in}
 use Rattle.fix_words.specs.Rows.{body, value_in}
-use Rattle.fix_words.specs.Values.{tables, rows, types, type_of, kind_of, texts, words_of, word_number, is_plain, places, spelling, value_of, unspelled, held_in, unsaid, contents}
+use Rattle.fix_words.specs.Values.{tables, rows, types, type_of, kind_of, texts, fixed_text, fixed_text_number, is_plain, places, spelling, value_of, unspelled, held_in, unsaid, contents}
 use Rattle.fix_words.specs.Message.{inner, front, framed, fields_of, bytes_for, paired, shaped, ranged, texted, typed, is_writing, loose_of, is_message, read_of}
 use Rattle.fix_claims.specs.Reading.{place_of, tabled, fields_read}
 
@@ -36,5 +36,5 @@ record Samples : Type 0 where
   refused : fields_read wrong_sum ≡ record { refusal = 3; count = 0; tag = zeros 32; at = zeros 32; length = zeros 32 }
 
 samples : Samples
-unfolding if◌then◌otherwise◌ maybe size range fields in_range value required allowed required_bits allowed_bits all_below first_below list_below is_side sides is_ordtype ordtypes is_timeinforce timesinforce is_status statuses is_exectype exectypes is_alnum digits_by digits low_digits down decimal before after pieces piece spellings field_in fields_in body value_in tables rows types type_of kind_of texts words_of word_number is_plain places spelling value_of unspelled held_in unsaid contents inner front framed fields_of bytes_for paired shaped ranged texted typed is_writing loose_of is_message read_of place_of tabled fields_read
+unfolding if◌then◌otherwise◌ maybe size range fields in_range value required allowed required_bits allowed_bits all_below first_below list_below is_side sides is_ordtype ordtypes is_timeinforce timesinforce is_status statuses is_exectype exectypes is_alnum digits_by digits low_digits down decimal before after pieces piece spellings field_in fields_in body value_in tables rows types type_of kind_of texts fixed_text fixed_text_number is_plain places spelling value_of unspelled held_in unsaid contents inner front framed fields_of bytes_for paired shaped ranged texted typed is_writing loose_of is_message read_of place_of tabled fields_read
 samples = record { taken = refl; refused = refl }

@@ -1,5 +1,5 @@
 // What `fix_write` and `fix_read` return to a host, and in specs/ the definitions that their contracts
-// cite, the promises and the proofs of them. No code. Rests on fix_words and cut.
+// cite, the promises and the proofs of them. No code. Rests on fix_words and records.
 #![tactic(auto)]
 
 // The refusal, or 0 and the length of what was written. With a refusal the length is 0. The C structure

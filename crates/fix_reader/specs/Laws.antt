@@ -2,7 +2,9 @@ pub mod Pieces
 pub mod Split
 pub mod Walk
 pub mod Fits
+pub mod Fitting
 pub mod Checks
+pub mod Passing
 pub mod Whole
 pub mod Numbers
 pub mod Decimals

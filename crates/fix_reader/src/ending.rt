@@ -1,4 +1,4 @@
-// The end of a message that was cut: 60 where it stands, 10 with the sum of all bytes before it, and
+// The end of a message that was cut: 60 if the kind has it, 10 with the sum of all bytes before it, and
 // that 9 is the length between. Rests on fix_table's `sum`.
 ghost use Rattle.std.specs.Prelude.{◌≡◌, ◌-◌, [], ◌∷◌, length, drop};
 ghost use Rattle.decimal.specs.Decimal.{digits};
@@ -32,7 +32,7 @@ fn sum_right(f: &Fields, i: usize) -> bool
     is_sum(&f.message[..f.at(i) - 3], f.value(i))
 }
 
-// Whether 60, where it stands, and 10 are the fields from i on, and the last. The kind's number alone, here and
+// Whether 60, if the kind has it, and 10 are the fields from i on, and the last. The kind's number alone, here and
 // below: `stamp` takes it, and that it is one of five is not asked.
 #[tactic(auto, using(crate::specs::Laws::Ending::stamp_none, crate::specs::Laws::Ending::stamp_past, crate::specs::Laws::Ending::stamp_here, crate::specs::Laws::Numbers::told_other, crate::specs::Laws::Numbers::told_same))]
 fn fields_right(f: &Fields, kind: u8, i: usize) -> bool
@@ -55,7 +55,7 @@ fn length_right(f: &Fields) -> bool
     values::spelled(f.value(1), (f.at(last) - f.at(2)) as u64, 0)
 }
 
-// Whether the end is one that the writer yields, where the rows have taken the fields before i.
+// Whether the end is one that the writer yields, once the rows have taken the fields before i.
 #[tactic(auto, using(crate::specs::Laws::Ending::last_tag), unfolding(crate::specs::Laws::Checks::closed))]
 pub(crate) fn closed(f: &Fields, kind: u8, i: usize) -> bool
     requires { (kind ≡ kind_in (fields_in f.now.message.now)) × (tag_of (fields_in f.now.message.now) 2 ≡ 35) }

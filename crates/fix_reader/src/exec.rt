@@ -6,7 +6,7 @@ ghost use Rattle.fix_reader.specs.Laws.Numbers.{word};
 
 use crate::{price, values};
 
-// The bytes behind the first point; none where there is none.
+// The bytes behind the first point; none if there is no point.
 fn behind_point(v: &[u8]) -> &[u8]
     ensures { result.now ≡ after 46 v.now }
 {

@@ -35,7 +35,7 @@ fn texts_right(f: &Fields) -> bool
         && !f.value(6).is_empty()
 }
 
-// The kind of a message, where its header is one that the writer yields.
+// The kind of a message, if its header is one that the writer yields.
 #[tactic(auto, using(crate::specs::Laws::Header::kind_untagged, crate::specs::Laws::Header::kind_other, crate::specs::Laws::Header::kind_untyped, crate::specs::Laws::Header::kind_right, crate::specs::Laws::Header::kind_wrong, crate::specs::Laws::Header::type_within, crate::specs::Laws::Numbers::told_other, crate::specs::Laws::Numbers::told_same))]
 pub(crate) fn kind(f: &Fields) -> Option<MessageKind>
     ensures { kind_number result ≡ kind_headed (fields_in f.now.message.now) }

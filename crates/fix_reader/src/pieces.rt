@@ -23,7 +23,7 @@ struct Piece {
     pub end: usize,
 }
 
-// A byte as a digit, where it is one.
+// A byte as a digit, if it is one.
 fn digit(c: u8) -> Option<u32>
     ensures { Digit c result }
 {
@@ -97,7 +97,7 @@ pub(crate) fn nothing() -> FixFields
     }
 }
 
-// All fields of a message, where they are at most 32.
+// All fields of a message, if they are at most 32.
 pub(crate) fn split(m: &[u8]) -> Option<FixFields>
     ensures { Splits m.now result }
 {

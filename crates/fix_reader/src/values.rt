@@ -1,5 +1,5 @@
-// What the value of a field is: a text, a code, a number spelled as the writer spells, a name, or words
-// of our own. Rests on decimal, places and fix_table's `spoken`.
+// What the value of a field is: a text, a code, a number spelled as the writer spells, a name, or a
+// fixed text. Rests on decimal, places and fix_table's `spoken`.
 ghost use Rattle.std.specs.Prelude.{◌≡◌, true, ◌&&◌, length, ◌==◌, ◌≢◌, nat_le, nat_lt, slice_index};
 ghost use Rattle.prelude.specs.Cases.{if◌then◌otherwise◌};
 ghost use Rattle.prelude.specs.Number.{bound};
@@ -7,7 +7,7 @@ ghost use Rattle.decimal.specs.Decimal.{is_digit, decimal, number_in};
 ghost use Rattle.format.specs.Codes.{within, is_alnum};
 ghost use Rattle.format.specs.Format.{in_range, range, size};
 ghost use Rattle.fix_words.specs.Lists.{every, is_print, same};
-ghost use Rattle.fix_words.specs.Values.{none_word, word_number};
+ghost use Rattle.fix_words.specs.Values.{none_text, fixed_text_number};
 ghost use Rattle.fix_words.specs.Message.{is_text};
 ghost use Rattle.fix_reader.specs.Laws.Numbers.{Steps, Parses};
 ghost use Rattle.fix_reader.specs.Laws.Checks.{is_number};
@@ -28,7 +28,7 @@ fn step(n: u64, c: u8) -> Option<u64>
     n.checked_mul(10)?.checked_add(u64::from(c - b'0'))
 }
 
-// The number that a value's digits are, where it is below 2^64. It stops where it is not; `price::wrapped`
+// The number that a value's digits are, if it is below 2^64. It stops once it is not; `price::wrapped`
 // goes on, and each says so in its contract, so one reading of both would be no plainer.
 #[tactic(auto, using(crate::specs::Laws::Numbers::read_more, crate::specs::Laws::Numbers::read_all, crate::specs::Laws::Numbers::read_least))]
 fn number(v: &[u8]) -> Option<u64>
@@ -134,9 +134,9 @@ pub(crate) fn is_number(v: &[u8]) -> bool
 
 // Whether a value is an order's name; in a reject it may be NONE. Of bytes of any length, where format's
 // `name_ok` has a `Text`.
-#[tactic(auto, using(fix_words::specs::Laws::Lists::same_list, fix_words::specs::Laws::Lists::every_list, prelude::specs::Cases::if_true, prelude::specs::Cases::if_false))]
+#[tactic(auto, using(fix_words::specs::Laws::Lists::same_list, fix_words::specs::Laws::Lists::every_list, prelude::specs::Laws::Cases::if_true, prelude::specs::Laws::Cases::if_false))]
 pub(crate) fn name_fits(kind: u8, v: &[u8]) -> bool
-    ensures { result ≡ (if same v.now none_word then (kind == 17) otherwise (within 1 20 (length v.now) && every is_alnum v.now)) }
+    ensures { result ≡ (if same v.now none_text then (kind == 17) otherwise (within 1 20 (length v.now) && every is_alnum v.now)) }
 {
     if v == b"NONE".as_slice() {
         return kind == codes::CANCEL_REJECT;
@@ -145,9 +145,9 @@ pub(crate) fn name_fits(kind: u8, v: &[u8]) -> bool
 }
 
 // Whether a value is one of the fixed texts.
-#[tactic(auto, using(crate::specs::Laws::Special::words_empty, crate::specs::Laws::Special::words_start, crate::specs::Laws::Special::words_found, crate::specs::Laws::Special::words_missing, crate::specs::Laws::Special::spoken_words, crate::specs::Laws::Ending::same_turned, fix_words::specs::Laws::Lists::same_list, prelude::specs::Below::first_more))]
-pub(crate) fn words_fit(v: &[u8]) -> bool
-    ensures { result ≡ nat_le 1 (word_number v.now) }
+#[tactic(auto, using(crate::specs::Laws::Special::fixed_empty, crate::specs::Laws::Special::fixed_start, crate::specs::Laws::Special::fixed_found, crate::specs::Laws::Special::fixed_missing, crate::specs::Laws::Special::spoken_fixed, crate::specs::Laws::Ending::same_turned, fix_words::specs::Laws::Lists::same_list, prelude::specs::Laws::Below::first_more))]
+pub(crate) fn fixed_fits(v: &[u8]) -> bool
+    ensures { result ≡ nat_le 1 (fixed_text_number v.now) }
 {
-    !v.is_empty() && (1..spoken::NONE).any(|n| v == spoken::words(n))
+    !v.is_empty() && (1..spoken::NONE).any(|n| v == spoken::fixed_text(n))
 }

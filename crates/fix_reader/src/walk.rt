@@ -30,10 +30,10 @@ pub(crate) struct Taken {
     pub seen: bool,
 }
 
-// Whether a value is one that the writer yields for bit b, where 37 has the value `name`. That the kind has
+// Whether a value is one that the writer yields for bit b, if 37 has the value `name`. That the kind has
 // a row of this bit is asked down to here from `take_row`: it joins two numbers, and a type for the pair
 // would be no plainer, since `Row` holds the one and `MessageKind` the other.
-#[tactic(auto, using(crate::specs::Laws::Classes::text_fits, crate::specs::Laws::Classes::code_fits, crate::specs::Laws::Classes::number_fits, crate::specs::Laws::Classes::name_fits, crate::specs::Laws::Special::exec_fits, crate::specs::Laws::Special::price_fits, crate::specs::Laws::Special::words_fit, crate::specs::Laws::Bits::may_stand, crate::specs::Laws::Bits::name_must, crate::specs::Laws::Bits::text_bit, crate::specs::Laws::Bits::code_bit, crate::specs::Laws::Bits::number_bit, crate::specs::Laws::End::bytes_all, fix_words::proofs::Laws::Kinds::row_small))]
+#[tactic(auto, using(crate::specs::Laws::Classes::text_fits, crate::specs::Laws::Classes::code_fits, crate::specs::Laws::Classes::number_fits, crate::specs::Laws::Classes::name_fits, crate::specs::Laws::Special::exec_fits, crate::specs::Laws::Special::price_fits, crate::specs::Laws::Special::fixed_fits, crate::specs::Laws::Bits::may_stand, crate::specs::Laws::Bits::name_must, crate::specs::Laws::Bits::text_bit, crate::specs::Laws::Bits::code_bit, crate::specs::Laws::Bits::number_bit, crate::specs::Laws::End::bytes_all, fix_words::proofs::Laws::Kinds::row_small))]
 fn value_fits(kind: MessageKind, b: usize, v: &[u8], name: &[u8]) -> bool
     requires { (in_rows (rows kind.number) b ≡ true) × (every is_print v.now ≡ true) }
     ensures { result ≡ fits kind.number name.now b v.now }
@@ -42,7 +42,7 @@ fn value_fits(kind: MessageKind, b: usize, v: &[u8], name: &[u8]) -> bool
         bit::NAME => values::name_fits(kind.number, v),
         bit::EXEC => exec::exec_fits(name, v),
         bit::FILLPRICE => price::price_fits(v),
-        bit::FIXEDTEXT => values::words_fit(v),
+        bit::FIXEDTEXT => values::fixed_fits(v),
         _ => match fix_table::form_of(b) {
             Form::Text => values::text_fits(b, v),
             Form::Code => values::code_fits(b, v),
@@ -51,7 +51,7 @@ fn value_fits(kind: MessageKind, b: usize, v: &[u8], name: &[u8]) -> bool
     }
 }
 
-// The same of the field that is next; behind a venue's text no words of our own stand.
+// The same of the field that is next; behind a venue's text no fixed text stands.
 fn asked(f: &Fields, kind: MessageKind, b: usize, t: Taken) -> bool
     requires { in_rows (rows kind.number) b ≡ true }
     ensures { result ≡ asked_by kind.number (value_at (fields_in f.now.message.now) 7) t.seen b (value_at (fields_in f.now.message.now) t.next) }

@@ -1,10 +1,10 @@
--- What the tables in code hold, beside the rows of fix_words: how each bit is written, and the words of our own. Rests on fix_words' Values.
+-- What the tables in code hold, beside the rows of fix_words: how each bit is written, and the fixed texts. Rests on fix_words' Values.
 use Rattle.std.specs.Prelude.{ℕ, true, eqb, List, [], ◌∷◌, ◌++◌, Option, None, Some, slice_index_or}
 use Rattle.prelude.specs.Cases.{if◌then◌otherwise◌}
 use Rattle.format.specs.Codes.{within}
 use Rattle.format.specs.Format.{range, is_text_bit, side, status}
 use Rattle.fix_words.specs.Rows.{Row}
-use Rattle.fix_words.specs.Values.{rows, kind_of, texts, none_word, places}
+use Rattle.fix_words.specs.Values.{rows, kind_of, texts, none_text, places}
 use Rattle.fix_table.specs.declared.Row as code
 use Rattle.fix_table.specs.declared.Form.{Form}
 use Rattle.fix_table.specs.declared.Form.TheVariants.{Text, Code, Number}
@@ -30,7 +30,7 @@ form_of b = if is_text_bit b then Text otherwise if within side status (range b)
 
 -- the fixed texts, and NONE behind them
 unfoldable pub spoken : List (List ℕ)
-spoken = texts ++ (none_word ∷ [])
+spoken = texts ++ (none_text ∷ [])
 
 abbrev pub none_number : ℕ
 none_number = 19

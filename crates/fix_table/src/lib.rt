@@ -1,5 +1,5 @@
 // The tables of FIX messages in code, for the writer and the reader: the rows of each kind (`rows`), the
-// message types, how each bit is written, the words of our own (`spoken`) and the checksum (`sum`). Each
+// message types, how each bit is written, the fixed texts (`spoken`) and the checksum (`sum`). Each
 // function is total and equals a definition of specs/Table or of fix_words, or says its number itself.
 // Tables are statics: a constant would be built on the stack at each access. Rests on fix_words and format.
 #![tactic(auto)]

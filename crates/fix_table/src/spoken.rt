@@ -1,14 +1,14 @@
-// The words of our own that a text may be: the fixed texts 1 to 18, and NONE as 19. Numbers and no enum,
+// The texts of our own that a field may be: the fixed texts 1 to 18, and NONE as 19. Numbers and no enum,
 // since a record holds a fixed text as a number, which may be any; NONE alone is a number of ours.
 ghost use Rattle.std.specs.Prelude.{◌≡◌, [], slice_index_or};
 ghost use Rattle.fix_table.specs.Table.{spoken};
 
-// NONE among the words.
+// NONE among the fixed texts.
 pub const NONE: u64 = 19;
 
-// The words n; past the last there are none.
+// Fixed text n; past the last it is empty.
 #[tactic(auto, unfolding(crate::specs::Table::spoken, fix_words::specs::Values::texts))]
-pub fn words(n: u64) -> &'static [u8]
+pub fn fixed_text(n: u64) -> &'static [u8]
     ensures { result.now ≡ slice_index_or spoken n [] }
 {
     match n {

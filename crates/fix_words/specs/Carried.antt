@@ -10,7 +10,7 @@ use Rattle.format.specs.Places.{content, kind_at, map_at}
 use Rattle.fix_words.specs.Number.{IsNumber}
 use Rattle.fix_words.specs.Spelling.{Field, field, spellings}
 use Rattle.fix_words.specs.Rows.{Row}
-use Rattle.fix_words.specs.Values.{type_of, words_of, none_word}
+use Rattle.fix_words.specs.Values.{type_of, fixed_text, none_text}
 use Rattle.fix_words.specs.Message.{version}
 use Rattle.fix_words.specs.Record.{Session}
 
@@ -80,7 +80,7 @@ pub record Holds (s : List ℕ) (b : ℕ) (v : List ℕ) : Type 0 where
   -- the order's name, a point and the report sequence
   pub exec : b ≡ 25 → (d : List ℕ) × (v ≡ held s 2 ++ (46 ∷ d)) × IsNumber 0 (number (held s 25)) d
   -- the words of a fixed text
-  pub words : b ≡ 27 → v ≡ words_of (number (held s 27))
+  pub words : b ≡ 27 → v ≡ fixed_text (number (held s 27))
 
 -- the fields fs are those of bit b: one if it is carried and stands, else none
 pub record Told (s : List ℕ) (b : ℕ) (fs : List Field) : Type 0 where
@@ -110,5 +110,5 @@ pub record Carried (s : List ℕ) (n : Session) (x : List ℕ) (fs : List Field)
   pub sequence : IsNumber 0 n.sequence sequence34
   pub told : (b : ℕ) → b < 32 → Told s b (parts b)
   -- a reject without an order, and one with a fixed text
-  pub no_order_lem : kind_at s 0 ≡ 17 → stands s 2 ≡ false → parts 2 ≡ field 37 none_word ∷ []
-  pub fixed : kind_at s 0 ≡ 17 → stands s 20 ≡ false → parts 20 ≡ field 58 (words_of (number (held s 27))) ∷ []
+  pub no_order_lem : kind_at s 0 ≡ 17 → stands s 2 ≡ false → parts 2 ≡ field 37 none_text ∷ []
+  pub fixed : kind_at s 0 ≡ 17 → stands s 20 ≡ false → parts 20 ≡ field 58 (fixed_text (number (held s 27))) ∷ []

@@ -19,36 +19,36 @@ use Rattle.fix_words.specs.Ascii.{ascii}
 use Rattle.fix_words.specs.Small.{Held, holds, says, word, made, here}
 use Rattle.fix_words.specs.Spelling.{piece, spellings, field_in, fields_in}
 use Rattle.fix_words.specs.Rows.{body, value_in}
-use Rattle.fix_words.specs.Values.{tables, rows, types, type_of, kind_of, texts, words_of, word_number, is_plain, places, spelling, or_else, exec_id, value_of, unspelled, held_in, unsaid, contents}
+use Rattle.fix_words.specs.Values.{tables, rows, types, type_of, kind_of, texts, fixed_text, fixed_text_number, is_plain, places, spelling, or_else, exec_id, value_of, unspelled, held_in, unsaid, contents}
 use Rattle.fix_words.specs.Message.{inner, front, framed, fields_of, bytes_for, shape_at, range_at, paired, shaped, ranged, texted, typed, is_writing, loose_of, is_message, read_of}
 use Rattle.fix_words.specs.Record.{field_at, session, write_refusal}
 
 -- ---- the fixed texts
 
 record Words : Type 0 where
-  text0 : words_of 0 ≡ []
-  text1 : words_of 1 ≡ ascii "gateway is cancelling"
-  text2 : words_of 2 ≡ ascii "replace pending"
-  text3 : words_of 3 ≡ ascii "below filled"
-  text4 : words_of 4 ≡ ascii "blocked"
-  text5 : words_of 5 ≡ ascii "duplicate"
-  text6 : words_of 6 ≡ ascii "unknown order"
-  text7 : words_of 7 ≡ ascii "order is done"
-  text8 : words_of 8 ≡ ascii "too many requests"
-  text9 : words_of 9 ≡ ascii "side or symbol"
-  text10 : words_of 10 ≡ ascii "rejected by the venue"
-  text11 : words_of 11 ≡ ascii "not sent before restart"
-  text12 : words_of 12 ≡ ascii "Symbol"
-  text13 : words_of 13 ≡ ascii "OrderQty"
-  text14 : words_of 14 ≡ ascii "NoReferencePrice"
-  text15 : words_of 15 ≡ ascii "Notional"
-  text16 : words_of 16 ≡ ascii "PriceBand"
-  text17 : words_of 17 ≡ ascii "SelfTrade"
-  text18 : words_of 18 ≡ ascii "Credit"
-  text19 : words_of 19 ≡ []
+  text0 : fixed_text 0 ≡ []
+  text1 : fixed_text 1 ≡ ascii "gateway is cancelling"
+  text2 : fixed_text 2 ≡ ascii "replace pending"
+  text3 : fixed_text 3 ≡ ascii "below filled"
+  text4 : fixed_text 4 ≡ ascii "blocked"
+  text5 : fixed_text 5 ≡ ascii "duplicate"
+  text6 : fixed_text 6 ≡ ascii "unknown order"
+  text7 : fixed_text 7 ≡ ascii "order is done"
+  text8 : fixed_text 8 ≡ ascii "too many requests"
+  text9 : fixed_text 9 ≡ ascii "side or symbol"
+  text10 : fixed_text 10 ≡ ascii "rejected by the venue"
+  text11 : fixed_text 11 ≡ ascii "not sent before restart"
+  text12 : fixed_text 12 ≡ ascii "Symbol"
+  text13 : fixed_text 13 ≡ ascii "OrderQty"
+  text14 : fixed_text 14 ≡ ascii "NoReferencePrice"
+  text15 : fixed_text 15 ≡ ascii "Notional"
+  text16 : fixed_text 16 ≡ ascii "PriceBand"
+  text17 : fixed_text 17 ≡ ascii "SelfTrade"
+  text18 : fixed_text 18 ≡ ascii "Credit"
+  text19 : fixed_text 19 ≡ []
 
 words : Words
-unfolding if◌then◌otherwise◌ texts words_of
+unfolding if◌then◌otherwise◌ texts fixed_text
 words = record {
   text0 = refl;
   text1 = refl;
@@ -164,7 +164,7 @@ record Answers : Type 0 where
   nine_first : write_refusal least (session [] (ascii "T") 702 (ascii "t")) 0 ≡ 9
 
 answers : Answers
-unfolding if◌then◌otherwise◌ encode size range fields in_range value required allowed required_bits allowed_bits all_below is_side sides is_ordtype ordtypes is_timeinforce timesinforce is_status statuses is_exectype exectypes is_alnum is_none is_name is_kind joined bits_right span extent next start strip part content end_of right_at recordShaped message_shaped text_of name_in recordRanged whole_message digits_by digits low_digits down decimal piece spellings body tables rows types type_of texts words_of is_plain places spelling value_of inner front framed fields_of bytes_for texted field_at write_refusal
+unfolding if◌then◌otherwise◌ encode size range fields in_range value required allowed required_bits allowed_bits all_below is_side sides is_ordtype ordtypes is_timeinforce timesinforce is_status statuses is_exectype exectypes is_alnum is_none is_name is_kind joined bits_right span extent next start strip part content end_of right_at recordShaped message_shaped text_of name_in recordRanged whole_message digits_by digits low_digits down decimal piece spellings body tables rows types type_of texts fixed_text is_plain places spelling value_of inner front framed fields_of bytes_for texted field_at write_refusal
 answers = record {
   taken = refl;
   nothing = refl;
@@ -246,7 +246,7 @@ record Orders : Type 0 where
   no_time : reads "8=FIX.4.4|9=78|35=D|49=GW|56=DSK|34=702|52=t1|11=A|55=X|54=1|40=2|38=100.0000|44=10.00000000|10=183|" ≡ 3
 
 orders : Orders
-unfolding if◌then◌otherwise◌ maybe size range fields in_range value required allowed required_bits allowed_bits all_below first_below is_side sides is_ordtype ordtypes is_timeinforce timesinforce is_status statuses is_exectype exectypes is_alnum digits_by digits low_digits down decimal before after pieces piece spellings field_in fields_in body value_in tables rows types type_of kind_of texts words_of word_number is_plain places spelling value_of unspelled held_in unsaid contents inner front framed fields_of bytes_for paired shaped ranged texted typed is_writing loose_of is_message read_of
+unfolding if◌then◌otherwise◌ maybe size range fields in_range value required allowed required_bits allowed_bits all_below first_below is_side sides is_ordtype ordtypes is_timeinforce timesinforce is_status statuses is_exectype exectypes is_alnum digits_by digits low_digits down decimal before after pieces piece spellings field_in fields_in body value_in tables rows types type_of kind_of texts fixed_text fixed_text_number is_plain places spelling value_of unspelled held_in unsaid contents inner front framed fields_of bytes_for paired shaped ranged texted typed is_writing loose_of is_message read_of
 orders = record {
   order = refl;
   zero_in_tag = refl;
@@ -289,7 +289,7 @@ record Ends : Type 0 where
   nothing : reads "" ≡ 3
 
 ends : Ends
-unfolding if◌then◌otherwise◌ maybe size range fields in_range value required allowed required_bits allowed_bits all_below first_below is_side sides is_ordtype ordtypes is_timeinforce timesinforce is_status statuses is_exectype exectypes is_alnum digits_by digits low_digits down decimal before after pieces piece spellings field_in fields_in body value_in tables rows types type_of kind_of texts words_of word_number is_plain places spelling value_of unspelled held_in unsaid contents inner front framed fields_of bytes_for paired shaped ranged texted typed is_writing loose_of is_message read_of
+unfolding if◌then◌otherwise◌ maybe size range fields in_range value required allowed required_bits allowed_bits all_below first_below is_side sides is_ordtype ordtypes is_timeinforce timesinforce is_status statuses is_exectype exectypes is_alnum digits_by digits low_digits down decimal before after pieces piece spellings field_in fields_in body value_in tables rows types type_of kind_of texts fixed_text fixed_text_number is_plain places spelling value_of unspelled held_in unsaid contents inner front framed fields_of bytes_for paired shaped ranged texted typed is_writing loose_of is_message read_of
 ends = record {
   length_less = refl;
   length_with_zero = refl;
@@ -311,7 +311,7 @@ record Rejects : Type 0 where
   cancel_with_type : reads "8=FIX.4.4|9=82|35=F|49=GW|56=DSK|34=702|52=t1|11=A-1|55=X|54=5|40=2|38=0.0001|37=NONE|41=A|60=t1|10=006|" ≡ 3
 
 rejects : Rejects
-unfolding if◌then◌otherwise◌ maybe size range fields in_range value required allowed required_bits allowed_bits all_below first_below is_side sides is_ordtype ordtypes is_timeinforce timesinforce is_status statuses is_exectype exectypes is_alnum digits_by digits low_digits down decimal before after pieces piece spellings field_in fields_in body value_in tables rows types type_of kind_of texts words_of word_number is_plain places spelling value_of unspelled held_in unsaid contents inner front framed fields_of bytes_for paired shaped ranged texted typed is_writing loose_of is_message read_of
+unfolding if◌then◌otherwise◌ maybe size range fields in_range value required allowed required_bits allowed_bits all_below first_below is_side sides is_ordtype ordtypes is_timeinforce timesinforce is_status statuses is_exectype exectypes is_alnum digits_by digits low_digits down decimal before after pieces piece spellings field_in fields_in body value_in tables rows types type_of kind_of texts fixed_text fixed_text_number is_plain places spelling value_of unspelled held_in unsaid contents inner front framed fields_of bytes_for paired shaped ranged texted typed is_writing loose_of is_message read_of
 rejects = record {
   no_text_lem = refl;
   response_3 = refl;
@@ -342,7 +342,7 @@ record Reports : Type 0 where
   exec_with_blank : exec_again "A" "A. 300" ≡ false
 
 reports : Reports
-unfolding if◌then◌otherwise◌ maybe size range fields in_range value required allowed required_bits allowed_bits all_below first_below is_alnum digits_by digits before after texts words_of word_number is_plain unspelled held_in paired
+unfolding if◌then◌otherwise◌ maybe size range fields in_range value required allowed required_bits allowed_bits all_below first_below is_alnum digits_by digits before after texts fixed_text fixed_text_number is_plain unspelled held_in paired
 reports = record {
   named = refl;
   named_none = refl;

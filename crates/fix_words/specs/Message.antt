@@ -13,7 +13,7 @@ use Rattle.fix_words.specs.Lists.{every, same, is_print}
 use Rattle.decimal.specs.Decimal.{digits, low_digits, number_in}
 use Rattle.fix_words.specs.Spelling.{Field, field, spellings, fields_in}
 use Rattle.fix_words.specs.Rows.{Values, body, value_in}
-use Rattle.fix_words.specs.Values.{rows, type_of, kind_of, none_word, value_of, contents}
+use Rattle.fix_words.specs.Values.{rows, type_of, kind_of, none_text, value_of, contents}
 
 -- what is asked to be written: a message record, by its kind and what each of its bits holds, and the session's texts
 pub record Writing : Type 0 where
@@ -83,7 +83,7 @@ shaped k at = within 16 20 k && (all_below (λ b. shape_at k b (at b)) 32 && pai
 
 -- 4: a field is in its range, and an order name is one
 abbrev pub is_name_of : List ℕ → Bool
-is_name_of c = every is_alnum c && not (same c none_word)
+is_name_of c = every is_alnum c && not (same c none_text)
 
 abbrev pub range_at : ℕ → Option (List ℕ) → Bool
 range_at b None = true

@@ -21,7 +21,7 @@ use Rattle.fix_words.specs.Ascii.{ascii}
 use Rattle.fix_words.specs.Small.{holds, says, word, made, here}
 use Rattle.fix_words.specs.Spelling.{piece, spellings}
 use Rattle.fix_words.specs.Rows.{body}
-use Rattle.fix_words.specs.Values.{tables, rows, types, type_of, texts, words_of, is_plain, places, spelling, value_of}
+use Rattle.fix_words.specs.Values.{tables, rows, types, type_of, texts, fixed_text, is_plain, places, spelling, value_of}
 use Rattle.fix_words.specs.Message.{inner, front, framed, fields_of, bytes_for, texted}
 use Rattle.fix_words.specs.Record.{field_at, write_of, write_refusal}
 
@@ -94,7 +94,7 @@ record Samples : Type 0 where
   replace : writes replace "8=FIX.4.4|9=101|35=G|49=GW|56=DSK|34=702|52=t1|11=A-2|55=X|54=2|40=2|38=0.0005|44=0.00000001|59=3|37=V9|41=A-1|60=t1|10=082|" ≡ true
 
 samples : Samples
-unfolding if◌then◌otherwise◌ encode size range fields in_range value required allowed required_bits allowed_bits all_below is_side sides is_ordtype ordtypes is_timeinforce timesinforce is_status statuses is_exectype exectypes is_alnum is_none is_name is_kind joined bits_right span extent next start strip part content end_of right_at recordShaped message_shaped text_of name_in recordRanged whole_message digits_by digits low_digits down decimal piece spellings body tables rows types type_of texts words_of is_plain places spelling value_of inner front framed fields_of bytes_for texted field_at write_refusal
+unfolding if◌then◌otherwise◌ encode size range fields in_range value required allowed required_bits allowed_bits all_below is_side sides is_ordtype ordtypes is_timeinforce timesinforce is_status statuses is_exectype exectypes is_alnum is_none is_name is_kind joined bits_right span extent next start strip part content end_of right_at recordShaped message_shaped text_of name_in recordRanged whole_message digits_by digits low_digits down decimal piece spellings body tables rows types type_of texts fixed_text is_plain places spelling value_of inner front framed fields_of bytes_for texted field_at write_refusal
 samples = record { order = refl; timed = refl; report = refl; told = refl; ended = refl; reject = refl; refused = refl; cancel = refl; replace = refl }
 
 -- ---- numbers

@@ -48,7 +48,7 @@ kind_of c =
     if eqb c 71 then 20 otherwise
     0
 
--- ---- words
+-- ---- fixed texts
 
 -- the fixed texts 1 to 18
 unfoldable pub texts : List (List ℕ)
@@ -74,16 +74,16 @@ texts =
     ∷ (67 ∷ 114 ∷ 101 ∷ 100 ∷ 105 ∷ 116 ∷ [])  -- 18 Credit
     ∷ []
 
-unfoldable pub words_of : ℕ → List ℕ
-words_of n = get_or texts n []
+unfoldable pub fixed_text : ℕ → List ℕ
+fixed_text n = get_or texts n []
 
 -- NONE
-abbrev pub none_word : List ℕ
-none_word = 78 ∷ 79 ∷ 78 ∷ 69 ∷ []
+abbrev pub none_text : List ℕ
+none_text = 78 ∷ 79 ∷ 78 ∷ 69 ∷ []
 
 -- the number of a fixed text, 0 if it is none
-unfoldable pub word_number : List ℕ → ℕ
-word_number v = maybe 0 (λ n. n) (first_below (λ n. same (words_of n) v) 19)
+unfoldable pub fixed_text_number : List ℕ → ℕ
+fixed_text_number v = maybe 0 (λ n. n) (first_below (λ n. same (fixed_text n) v) 19)
 
 -- ---- values
 
@@ -114,16 +114,16 @@ either (Some c) o = Some c
 abbrev pub exec_id : Option (List ℕ) → List ℕ → List ℕ
 exec_id name c = or_else [] name ++ (46 ∷ digits (number c))
 
-abbrev pub fixed_words : List ℕ → List ℕ
-fixed_words c = words_of (get_or c 0 0)
+abbrev pub fixed_text_in : List ℕ → List ℕ
+fixed_text_in c = fixed_text (get_or c 0 0)
 
 -- the FIX value of bit b, from what each bit of the record holds; a reject (17) names an order or NONE, and has one text of either kind
 unfoldable pub value_of : ℕ → Values → ℕ → Option (List ℕ)
 value_of k at b =
-    if eqb b 2 then (if eqb k 17 then Some (or_else none_word (at 2)) otherwise at 2) otherwise
-    if eqb b 20 then (if eqb k 17 then either (at 20) (over fixed_words (at 27)) otherwise at 20) otherwise
+    if eqb b 2 then (if eqb k 17 then Some (or_else none_text (at 2)) otherwise at 2) otherwise
+    if eqb b 20 then (if eqb k 17 then either (at 20) (over fixed_text_in (at 27)) otherwise at 20) otherwise
     if eqb b 25 then over (exec_id (at 2)) (at 25) otherwise
-    if eqb b 27 then over fixed_words (at 27) otherwise
+    if eqb b 27 then over fixed_text_in (at 27) otherwise
     over (spelling b) (at b)
 
 -- ---- what a value holds, read loosely
@@ -133,14 +133,14 @@ unspelled b v = if is_plain b then v otherwise bytes_of (size b) (number_in v)
 
 abbrev pub unless_none : Option (List ℕ) → Option (List ℕ)
 unless_none None = None
-unless_none (Some v) = if same v none_word then None otherwise Some v
+unless_none (Some v) = if same v none_text then None otherwise Some v
 
 -- what bit b holds, from its FIX value
 unfoldable pub held_in : ℕ → Option (List ℕ) → Option (List ℕ)
 held_in b v =
     if eqb b 2 then unless_none v otherwise
     if eqb b 25 then over (λ x. bytes_of 8 (number_in (after 46 x))) v otherwise
-    if eqb b 27 then over (λ x. word_number x ∷ []) v otherwise
+    if eqb b 27 then over (λ x. fixed_text_number x ∷ []) v otherwise
     over (unspelled b) v
 
 -- a bit that is not carried: if it must stand, some value in its range; the origin stands with its reason

@@ -2,6 +2,9 @@
 // names, and the kinds of records (docs/SCOPE.md). Any byte may stand in a record, so they are numbers
 // and no enum. Rests on nothing.
 
+// Side(54): a purchase. Every other is a sale.
+pub const BUY: u8 = b'1';
+
 // OrdStatus(39).
 pub const PENDING_NEW: u8 = b'A';
 

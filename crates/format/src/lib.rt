@@ -154,7 +154,7 @@ fn is_kind(kind: u8) -> bool
     )
 }
 
-#[tactic(auto, using(prelude::specs::Cases::if_true, prelude::specs::Cases::if_false), unfolding(crate::specs::Format::joined))]
+#[tactic(auto, using(prelude::specs::Laws::Cases::if_true, prelude::specs::Laws::Cases::if_false), unfolding(crate::specs::Format::joined))]
 fn is_joined(kind: u8, map: u32) -> bool
     ensures { result ≡ joined kind map }
 {

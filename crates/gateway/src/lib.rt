@@ -9,7 +9,7 @@
 #![tactic(auto)]
 
 ghost use Rattle.std.specs.Prelude.{◌≡◌};
-ghost use Rattle.step.specs.Entries.{start_of, start_refusal, check_of, outcome, event_of};
+ghost use Rattle.step.specs.Entries.{start_of, start_refusal, check_of, returned, event_of};
 ghost use Rattle.page.specs.Page.{paged, page_call};
 ghost use Rattle.opens.specs.Opens.{open_call};
 ghost use Rattle.net.specs.Net.{IsNet};
@@ -17,10 +17,9 @@ ghost use Rattle.marks.specs.Marks.{marked, set_mark_of, return_of};
 ghost use Rattle.needs.specs.Needs.{needs_call};
 ghost use Rattle.chain.specs.Chain.{chained, chain_call};
 
-use counted::Counted;
 use opens::Opened;
 use orders::order;
-use prelude::Refusal;
+use prelude::{Counted, Refusal};
 use store::layout;
 
 mod write; // a change written into the book
@@ -43,7 +42,7 @@ pub fn start(book: &mut [u8], setting: u32) -> u32
 // bytes: borrowed from the answer instead of moved, it cost 8 % more instructions on an empty book.
 #[tactic(auto, using(crate::specs::Laws::Entered::left_0, orders::specs::Laws::Choices::choices))]
 pub fn event(book: &mut [u8], record: &[u8], answer: &mut [u8]) -> u32
-    ensures { outcome result book.new answer.new ≡ event_of book.old «record».now answer.old }
+    ensures { returned result book.new answer.new ≡ event_of book.old «record».now answer.old }
 {
     let c = match step::call_of(book, record, answer.len()) {
         Ok(c) => c,
@@ -58,7 +57,12 @@ pub fn event(book: &mut [u8], record: &[u8], answer: &mut [u8]) -> u32
     write::place_open(book, c.place, opening);
     let out = c.output;
     let _ = records::write_answer(
-        answer, out.alarm, out.alarm2, out.count, out.first, out.second,
+        answer,
+        out.alarm,
+        out.alarm2,
+        out.count,
+        &out.first,
+        &out.second,
     );
     0
 }
@@ -101,7 +105,7 @@ pub fn net_position(book: &[u8], scratch: &mut [u64], lines: &mut [u8]) -> Count
 pub fn set_mark(book: &[u8], name: &[u8], places: &mut [u8]) -> u32
     ensures { marked result book.now places.new ≡ set_mark_of book.now name.now places.old }
 {
-    counted::refusal_of(marks::set_mark(book, name, places))
+    prelude::refusal_of(marks::set_mark(book, name, places))
 }
 
 // Returns to a mark: the book becomes the image of the first place of that name whose image keeps the
@@ -109,7 +113,7 @@ pub fn set_mark(book: &[u8], name: &[u8], places: &mut [u8]) -> u32
 pub fn return_to_mark(book: &mut [u8], name: &[u8], places: &[u8]) -> u32
     ensures { marked result book.new places.now ≡ return_of book.old name.now places.now }
 {
-    counted::refusal_of(marks::return_to_mark(book, name, places))
+    prelude::refusal_of(marks::return_to_mark(book, name, places))
 }
 
 // What the event in `record` will need of an answer buffer of 1,024 bytes and of the book: its own

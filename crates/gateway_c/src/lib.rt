@@ -3,7 +3,7 @@
 #![tactic(auto)]
 
 ghost use Rattle.std.specs.Prelude.{◌≡◌};
-ghost use Rattle.step.specs.Entries.{start_of, start_refusal, check_of, outcome, event_of};
+ghost use Rattle.step.specs.Entries.{start_of, start_refusal, check_of, returned, event_of};
 ghost use Rattle.page.specs.Page.{paged, page_call};
 ghost use Rattle.opens.specs.Opens.{open_call};
 ghost use Rattle.net.specs.Net.{IsNet};
@@ -11,8 +11,8 @@ ghost use Rattle.marks.specs.Marks.{marked, set_mark_of, return_of};
 ghost use Rattle.needs.specs.Needs.{needs_call};
 ghost use Rattle.chain.specs.Chain.{chained, chain_call};
 
-use counted::Counted;
 use opens::Opened;
+use prelude::Counted;
 
 // Makes an empty book: zeros but for the setting, the most ClOrdIDs that a client may use.
 #[unsafe(no_mangle)]
@@ -25,7 +25,7 @@ pub extern "C" fn start(book: &mut [u8], setting: u32) -> u32
 // Takes the event in `record`: the book changes, and the answer stands at the start of `answer`.
 #[unsafe(no_mangle)]
 pub extern "C" fn event(book: &mut [u8], record: &[u8], answer: &mut [u8]) -> u32
-    ensures { outcome result book.new answer.new ≡ event_of book.old «record».now answer.old }
+    ensures { returned result book.new answer.new ≡ event_of book.old «record».now answer.old }
 {
     gateway::event(book, record, answer)
 }

@@ -7,29 +7,24 @@ ghost use Rattle.machine.specs.GatewayCancel.{outstanding_cancel, gateway_cancel
 
 use machine::{Change, Findings, Note};
 use orders::alarm::Alarm;
-use orders::{change, message, order, reasons};
+use orders::{MAX_GATEWAY_CANCEL_TRIES, change, message, order, reasons};
 use store::{GatewayCancel, Order, kinds};
 
 pub mod tries;
 
-// How many times the gateway sends its cancel before it gives up. `rules` has the same number. Neither
-// crate rests on the other, so one constant would stand in a third for the two: machine's `most_tries`, in
-// the definitions that both are proved against, holds them together.
-const MAX_GATEWAY_CANCEL_TRIES: u8 = 3;
-
 // The order's latest cancel is not answered.
 #[tactic(auto, unfolding(machine::specs::GatewayCancel::outstanding_cancel))]
-fn outstanding_cancel(f: Findings, o: Order) -> bool
-    ensures { result ≡ outstanding_cancel f o }
+fn outstanding_cancel(findings: Findings, o: Order) -> bool
+    ensures { result ≡ outstanding_cancel findings o }
 {
-    o.links.cancel != 0 && !change::is_answered(f.cancel)
+    o.links.cancel != 0 && !change::is_answered(findings.cancel)
 }
 
 #[tactic(auto, unfolding(machine::specs::GatewayCancel::gateway_cancel_in_flight))]
-pub fn gateway_cancel_in_flight(f: Findings, o: Order) -> bool
-    ensures { result ≡ gateway_cancel_in_flight f o }
+pub fn gateway_cancel_in_flight(findings: Findings, o: Order) -> bool
+    ensures { result ≡ gateway_cancel_in_flight findings o }
 {
-    outstanding_cancel(f, o) && change::is_gateway(f.cancel)
+    outstanding_cancel(findings, o) && change::is_gateway(findings.cancel)
 }
 
 // The gateway's cancel as it begins: not yet sent.
@@ -64,97 +59,97 @@ fn given_up(o: Order) -> GatewayCancel
 }
 
 #[tactic(auto, unfolding(machine::specs::GatewayCancel::send_gateway_cancel))]
-fn send_gateway_cancel(f: Findings, c: Change) -> Change
-    ensures { result ≡ send_gateway_cancel f c }
+fn send_gateway_cancel(findings: Findings, change: Change) -> Change
+    ensures { result ≡ send_gateway_cancel findings change }
 {
-    let o = c.order;
-    let mut order = change::numbered_order(f, true, o);
+    let o = change.order;
+    let mut order = change::numbered_order(findings, true, o);
     order.gateway = try_sent(o);
     let m = message::cancel_request(order, change::next_downstream(o));
     let none = text::no_text();
-    let request = change::next_request(f, o, kinds::GATEWAY, none, none);
-    change::sending_on(m, request, order, c)
+    let request = change::next_request(findings, o, kinds::GATEWAY, none, none);
+    change::sending_on(m, request, order, change)
 }
 
 // `start_gateway_cancel` and `cancel_order`: nothing for a done order or one whose gateway cancel
 // is in flight; behind the client's cancel it waits.
 #[tactic(auto, unfolding(machine::specs::GatewayCancel::cancel_order), using(orders::specs::Laws::Choices::choices))]
-pub fn cancel_order(f: Findings, o: Order) -> Change
-    ensures { result ≡ cancel_order f o }
+pub fn cancel_order(findings: Findings, o: Order) -> Change
+    ensures { result ≡ cancel_order findings o }
 {
-    if order::is_done(o.state.status) || gateway_cancel_in_flight(f, o) {
-        return change::unchanged(f.place, o);
+    if order::is_done(o.state.status) || gateway_cancel_in_flight(findings, o) {
+        return change::unchanged(findings.place, o);
     }
     let mut started = o;
     started.gateway = begun(o);
-    let c = change::unchanged(f.place, started);
-    if outstanding_cancel(f, o) {
+    let c = change::unchanged(findings.place, started);
+    if outstanding_cancel(findings, o) {
         return c;
     }
-    send_gateway_cancel(f, c)
+    send_gateway_cancel(findings, c)
 }
 
 // A gateway cancel waits, and nothing stands in its way once the change has answered its request.
 #[tactic(auto, unfolding(machine::specs::GatewayCancel::gateway_cancel_waiting))]
-fn gateway_cancel_waiting(f: Findings, c: Change) -> bool
-    ensures { result ≡ gateway_cancel_waiting f c }
+fn gateway_cancel_waiting(findings: Findings, change: Change) -> bool
+    ensures { result ≡ gateway_cancel_waiting findings change }
 {
-    let o = c.order;
-    let answered = c.requests.answered;
-    let blocked = outstanding_cancel(f, o) && o.links.cancel != answered;
+    let o = change.order;
+    let answered = change.requests.answered;
+    let blocked = outstanding_cancel(findings, o) && o.links.cancel != answered;
     order::has_gateway(o) && o.gateway.unsent && !blocked
 }
 
 // A gateway cancel that waited goes now.
 #[tactic(auto, unfolding(machine::specs::GatewayCancel::resume_gateway_cancel), using(orders::specs::Laws::Choices::choices))]
-pub fn resume_gateway_cancel(f: Findings, c: Change) -> Change
-    ensures { result ≡ resume_gateway_cancel f c }
+pub fn resume_gateway_cancel(findings: Findings, change: Change) -> Change
+    ensures { result ≡ resume_gateway_cancel findings change }
 {
-    if gateway_cancel_waiting(f, c) {
-        send_gateway_cancel(f, c)
+    if gateway_cancel_waiting(findings, change) {
+        send_gateway_cancel(findings, change)
     } else {
-        c
+        change
     }
 }
 
 #[tactic(auto, unfolding(machine::specs::GatewayCancel::stuck))]
-fn stuck(c: Change) -> Change
-    ensures { result ≡ stuck c }
+fn stuck(change: Change) -> Change
+    ensures { result ≡ stuck change }
 {
-    let mut out = c;
-    out.order.gateway = given_up(c.order);
+    let mut out = change;
+    out.order.gateway = given_up(change.order);
     change::alarming(Alarm::StuckCancel.number(), out)
 }
 
 #[tactic(auto, unfolding(machine::specs::GatewayCancel::retry_gateway_cancel), using(orders::specs::Laws::Choices::choices))]
-fn retry_gateway_cancel(f: Findings, c: Change) -> Change
-    ensures { result ≡ retry_gateway_cancel f c }
+fn retry_gateway_cancel(findings: Findings, change: Change) -> Change
+    ensures { result ≡ retry_gateway_cancel findings change }
 {
-    if MAX_GATEWAY_CANCEL_TRIES <= c.order.gateway.tries {
-        return stuck(c);
+    if MAX_GATEWAY_CANCEL_TRIES <= change.order.gateway.tries {
+        return stuck(change);
     }
-    send_gateway_cancel(f, c)
+    send_gateway_cancel(findings, change)
 }
 
 // The venue says that it is too late, or that it does not know the order.
 #[tactic(auto, unfolding(machine::specs::GatewayCancel::says_gone))]
-fn says_gone(n: Note) -> bool
-    ensures { result ≡ says_gone n }
+fn says_gone(note: Note) -> bool
+    ensures { result ≡ says_gone note }
 {
-    n.origin == reasons::VENUES && matches!(n.reason, reasons::TOO_LATE | reasons::UNKNOWN)
+    note.origin == reasons::VENUES && matches!(note.reason, reasons::TOO_LATE | reasons::UNKNOWN)
 }
 
 // A refusal's status may have made the order done, which ends the gateway cancel.
 #[tactic(auto, unfolding(machine::specs::GatewayCancel::gateway_cancel_refused), using(orders::specs::Laws::Choices::choices))]
-pub fn gateway_cancel_refused(f: Findings, n: Note, c: Change) -> Change
-    ensures { result ≡ gateway_cancel_refused f n c }
+pub fn gateway_cancel_refused(findings: Findings, note: Note, change: Change) -> Change
+    ensures { result ≡ gateway_cancel_refused findings note change }
 {
-    let o = c.order;
+    let o = change.order;
     if !order::has_gateway(o) {
-        return c;
+        return change;
     }
-    if says_gone(n) && o.links.current == o.gateway.origdownstream {
-        return stuck(c);
+    if says_gone(note) && o.links.current == o.gateway.origdownstream {
+        return stuck(change);
     }
-    retry_gateway_cancel(f, c)
+    retry_gateway_cancel(findings, change)
 }

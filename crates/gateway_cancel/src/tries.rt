@@ -8,26 +8,26 @@ use store::GatewayCancel;
 
 // One try more, which goes out and names the request `current`.
 #[tactic(auto, unfolding(crate::specs::Tries::sent_once), using(orders::specs::Laws::Counts::one_more_lem))]
-pub(crate) fn sent(g: GatewayCancel, current: u16) -> GatewayCancel
-    ensures { result ≡ sent_once g current }
+pub(crate) fn sent(gateway: GatewayCancel, current: u16) -> GatewayCancel
+    ensures { result ≡ sent_once gateway current }
 {
     GatewayCancel {
-        tries: g.tries.saturating_add(1),
+        tries: gateway.tries.saturating_add(1),
         unsent: false,
         origdownstream: current,
-        ..g
+        ..gateway
     }
 }
 
-// One try less, and it waits.
+// One try is taken back, and the cancel waits.
 #[tactic(auto, unfolding(machine::specs::Amend::send_refused), using(orders::specs::Laws::Counts::one_more_lem))]
-pub fn failed(g: GatewayCancel) -> GatewayCancel
-    ensures { result ≡ send_refused g }
+pub fn failed(gateway: GatewayCancel) -> GatewayCancel
+    ensures { result ≡ send_refused gateway }
 {
     GatewayCancel {
-        tries: g.tries.saturating_sub(1),
+        tries: gateway.tries.saturating_sub(1),
         unsent: true,
-        refusedsends: g.refusedsends.saturating_add(1),
-        ..g
+        refusedsends: gateway.refusedsends.saturating_add(1),
+        ..gateway
     }
 }

@@ -27,7 +27,7 @@ pub struct Word {
 
 // The link of the request that an OrigClOrdID of a client names, 0 for none: as the book holds it, so no
 // Option.
-#[tactic(auto, using(prelude::specs::Cases::maybe_some, prelude::specs::Cases::maybe_none, crate::specs::Laws::Found::found_few, crate::specs::Laws::Found::origin_none), unfolding(crate::specs::Index::origin_of))]
+#[tactic(auto, using(prelude::specs::Laws::Cases::maybe_some, prelude::specs::Laws::Cases::maybe_none, crate::specs::Laws::Found::found_few, crate::specs::Laws::Found::origin_none), unfolding(crate::specs::Index::origin_of))]
 pub fn origin_of(book: &[u8], client: u16, t: Text) -> u16
     ensures { result ≡ origin_of (book_of book.now) client t }
 {

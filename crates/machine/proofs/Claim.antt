@@ -4,6 +4,7 @@ pub mod Ruled
 pub mod Walk
 pub mod Filled
 pub mod Net
+pub mod Tries
 pub mod Turn
 pub mod Image
 pub mod Shapes
@@ -11,6 +12,7 @@ pub mod Fresh
 pub mod Records
 pub mod Steps
 pub mod Events
+pub mod Rounds
 pub mod Whole
 pub mod Start
 pub mod Short

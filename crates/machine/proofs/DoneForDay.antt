@@ -1,17 +1,18 @@
 -- Done for the day: its statements proved. A test that is the same of New, PartiallyFilled and a 3 is the same of a status and of what it is asked as. Rests on DoneForDay.
 use Rattle.std.proofs.Common.{ℕ, ◌-◌, ◌≡◌, refl, sym, ap, ◌∙◌, Bool, true, false, not, ◌&&◌, ◌||◌, eqb, eqb-true}
 use Rattle.std.proofs.lemmas.Bool.{and_parts}
-use Rattle.prelude.specs.Cases.{if◌then◌otherwise◌, split_if, if_false}
+use Rattle.prelude.specs.Cases.{if◌then◌otherwise◌}
+use Rattle.prelude.specs.Laws.Cases.{split_if, if_false}
 use Rattle.format.specs.Codes.{pending_new, new, partially_filled, pending_cancel, pending_replace, rejected, done_for_day, exec_status, exec_rejected}
 use Rattle.store.specs.declared.Order.{Order}
 use Rattle.store.specs.declared.Request.{Request}
 use Rattle.machine.specs.Constants.{unknown_order_reason}
 use Rattle.machine.specs.Orders.{is_done, leaves_of, has_pending, as_asked, status_at, is_short, unless_short, set_status}
-use Rattle.machine.specs.Changes.{Event}
+use Rattle.machine.specs.Changes.{Event, has}
 use Rattle.machine.specs.declared.Findings.{Findings}
 use Rattle.machine.specs.declared.Reject.{Reject}
 use Rattle.machine.specs.GatewayCancel.{outstanding_cancel, gateway_cancel_in_flight}
-use Rattle.machine.specs.Amend.{has, matches, amend_refusal, cancel_refusal, check_replace, replace_refusal, resendable}
+use Rattle.machine.specs.Amend.{matches, amend_refusal, cancel_refusal, check_replace, replace_refusal, resendable}
 use Rattle.machine.specs.Report.{says_unknown_at_venue, is_rejection, pending_here, behind, stale, repeats, status_taken, accepts}
 use Rattle.machine.specs.DoneForDay.{Stands, TakenAs, asked_report, asked_order, ReportAsked, OrderAsked, RequestsAsked, RepeatsItself}
 

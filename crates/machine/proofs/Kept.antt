@@ -1,7 +1,11 @@
 pub mod Laws
 pub mod Tables
 pub mod Local
+pub mod OrderSteps
 pub mod Keep
+pub mod Refused
+pub mod Asked
+pub mod Indexed
 pub mod Lift
 pub mod Steps
 pub mod Fits

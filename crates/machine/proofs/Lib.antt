@@ -1,5 +1,6 @@
 pub mod Numbered
 pub mod Made
+pub mod Walked
 pub mod Stepped
 pub mod Outcomes
 pub mod Kept

@@ -4,15 +4,17 @@ use Rattle.std.proofs.Common.{ℕ, zero, suc, ◌+◌, ◌/◌, ◌%◌, ◌≤�
 use Rattle.std.proofs.Math.Decide.{dec_lt}
 use Rattle.std.proofs.Math.ListN.{get_or-eq_default}
 use Rattle.std.proofs.lemmas.Bool.{and_parts, and_from, or_cases, cases_Bool}
-use Rattle.prelude.specs.Below.{all_below, all_elim, all_intro}
-use Rattle.prelude.specs.Cases.{split_if, clash}
-use Rattle.prelude.specs.Texts.{contents, text_of, is_text, filled_at, agree_at, same_text, same_text_lem, WholeText}
+use Rattle.prelude.specs.Below.{all_below}
+use Rattle.prelude.specs.Laws.Below.{all_elim, all_intro}
+use Rattle.prelude.specs.Laws.Cases.{split_if, clash}
+use Rattle.prelude.specs.Texts.{contents, text_of, is_text, filled_at, agree_at, same_text, WholeText}
+use Rattle.prelude.specs.Laws.Texts.{same_text_lem}
 use Rattle.prelude.specs.declared.Text.{Text}
 use Rattle.format.specs.Codes.{is_alnum, alnum_at, is_name, within}
 use Rattle.text.specs.Numbered.{digits_of, decimal, numbered_bytes, numbered_text}
 use Rattle.text.specs.Laws.Names.{NoDash, no_dash, Fits, numbered_fits, numbered_is_text, numbered_long, numbered_len, numbered_same, numbered_no_name}
 use Rattle.machine.specs.Ranges.{name_range, text_within}
-use Rattle.prelude.specs.Bytes.{bytes_append, bytes_take, bytes_one, bytes_zeros}
+use Rattle.prelude.specs.Laws.Bytes.{bytes_append, bytes_take, bytes_one, bytes_zeros}
 
 pub record NumberedLaws : Type 0 where
   pub within : (name : Text) (n : ℕ) → name_range name ≡ true → 0 < n → n ≤ 255 → text_within 1 32 (numbered_text name n) ≡ true

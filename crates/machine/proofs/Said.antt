@@ -4,5 +4,6 @@ pub mod Rows
 pub mod Messages
 pub mod Orders
 pub mod Changes
+pub mod Amendments
 pub mod Alarms
 pub mod Steps

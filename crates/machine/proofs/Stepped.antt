@@ -1,7 +1,8 @@
 -- What an event comes to, by cases: one walk from the event to its handler, for a property of its change. Rests on Made.
 use Rattle.std.proofs.Common.{ℕ, suc, ◌+◌, ◌≤◌, ◌<◌, arith, ◌≡◌, refl, sym, subst, ◌⊎◌, inl, inr, Bool, true, false, None, Some, eqb, leb, length, eqb-true}
 use Rattle.std.proofs.lemmas.Bool.{eqb-false, not-false}
-use Rattle.prelude.specs.Cases.{if◌then◌otherwise◌, split_if, split_maybe}
+use Rattle.prelude.specs.Cases.{if◌then◌otherwise◌}
+use Rattle.prelude.specs.Laws.Cases.{split_if, split_maybe}
 use Rattle.store.specs.declared.Order.{Order}
 use Rattle.store.specs.declared.Request.{Request}
 use Rattle.store.specs.Book.{Book, order_in, request_in}
@@ -13,7 +14,8 @@ use Rattle.machine.specs.Machine.{order_link, order_of, order_at_link, findings_
 use Rattle.machine.specs.declared.Findings.{Findings}
 use Rattle.machine.specs.declared.Change.{Change}
 use Rattle.machine.proofs.Kept.Tables.{at_link}
-use Rattle.machine.proofs.Made.{Made, Asked, Amended, on_report_made, unknown_made, reject_made, failed_made, unsent_made, asked_made, cancel_made, replace_made}
+use Rattle.machine.proofs.Made.{Made, Asked, Amended}
+use Rattle.machine.proofs.Walked.{on_report_made, unknown_made, reject_made, failed_made, unsent_made, asked_made, cancel_made, replace_made}
 
 -- by one handler, with its findings
 abbrev pub MadeBy : Findings → ℕ → Request → Order → Event → Change → Change → Type 0

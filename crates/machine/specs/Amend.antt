@@ -1,21 +1,22 @@
 -- src/book/amend.rs: cancels and replaces, what refuses them, and sends that failed. Rests on GatewayCancel.
 use Rattle.std.specs.Prelude.{ℕ, ◌+◌, ◌-◌, Bool, true, false, not, ◌&&◌, ◌||◌, eqb, leb, ltb, Option, None, Some}
-use Rattle.bits.specs.Map.{bit}
 use Rattle.prelude.specs.Cases.{if◌then◌otherwise◌}
+use Rattle.prelude.specs.Refusal.{number_of}
 use Rattle.prelude.specs.Texts.{same_text}
+use Rattle.prelude.specs.declared.Refusal.TheVariants.{WrongPrice}
 use Rattle.prelude.specs.declared.Terms.{Terms}
 use Rattle.store.specs.declared.GatewayCancel.{GatewayCancel}
 use Rattle.store.specs.declared.Pending.{Pending}
 use Rattle.store.specs.declared.Order.{Order}
 use Rattle.store.specs.declared.Request.{Request}
-use Rattle.text.specs.Words.{no_text}
+use Rattle.text.specs.Stored.{no_text}
 use Rattle.machine.specs.Constants as came
 use Rattle.machine.specs.Constants.{cancel_kind, replace_kind, too_late, unknown, already_pending, duplicate, other, ours, venues, text_cancelling, text_replace_pending, text_below_filled, text_blocked, text_duplicate, text_unknown_order, text_done, text_too_many, text_side_or_symbol, text_rejected, text_not_sent}
 use Rattle.format.specs.Codes.{pending_new, new, partially_filled, pending_cancel, pending_replace, rejected, exec_rejected, exec_status, limit}
 use Rattle.machine.specs.Orders.{one_more, has_pending, has_gateway, limit_price, is_done, short_alarm, set_status, record_venue_order_id, pending_terms, next_exec, with_pending, with_gateway}
 use Rattle.store.specs.Orders.{no_pending}
 use Rattle.machine.specs.Messages.{no_price, report, cancel_reject, new_order, cancel_request, replace_request, no_note, no_long_text}
-use Rattle.machine.specs.Changes.{Event, unchanged, refusing, answering, adding, telling, alarming, is_first, is_replace, is_gateway, is_cancel, is_answered, next_link, next_downstream, next_request, numbered_order}
+use Rattle.machine.specs.Changes.{Event, has, unchanged, refusing, answering, adding, telling, alarming, is_first, is_replace, is_gateway, is_cancel, is_answered, next_link, next_downstream, next_request, numbered_order}
 use Rattle.machine.specs.GatewayCancel.{gateway_cancel_in_flight, gateway_cancel_refused, resume_gateway_cancel}
 use Rattle.machine.specs.declared.Findings.{Findings}
 use Rattle.machine.specs.declared.Note.{Note}
@@ -23,13 +24,9 @@ use Rattle.machine.specs.declared.Reject.{Reject}
 use Rattle.machine.specs.declared.Refused.{Refused}
 use Rattle.machine.specs.declared.Change.{Change}
 
--- a bit of the event's map stands
-abbrev pub has : Event → ℕ → Bool
-has e k = bit e.map k
-
 -- ---- `amendable` and what it is given
 
--- A lookup found the link of the order that the client already used the ClOrdID for, `order` below, 0 for none; `full` says that the client has used
+-- `used` is the link of the order that the client already used the ClOrdID for, as a lookup found it, 0 for none; `full` says that the client has used
 -- as many ClOrdIDs as it may.
 
 abbrev pub passes : Reject
@@ -42,58 +39,61 @@ refusal reason fixedtext = record { reason = reason; fixedtext = fixedtext }
 unfoldable pub matches : Order → Event → Bool
 matches o e = eqb o.terms.side e.terms.side && same_text o.names.symbol e.ids.symbol
 
--- the refusals that cancels and replaces share, in order, and then the caller's own. The order's link is 0 where there is none.
-unfoldable pub amend_refusal : Findings → (order : ℕ) (full : Bool) → Order → Event → Reject → Reject
-amend_refusal f order full o e own =
-    if not (eqb order 0) then refusal duplicate text_duplicate
-    otherwise if eqb f.place 0 then refusal unknown text_unknown_order
-    otherwise if is_done o.state.status then refusal too_late text_done
+-- the refusals that cancels and replaces share, in order, and then the caller's own. The order's link is 0 if there is none.
+unfoldable pub amend_refusal : Findings → (used : ℕ) (full : Bool) → Order → Event → Reject → Reject
+amend_refusal findings used full order event own =
+    if not (eqb used 0) then refusal duplicate text_duplicate
+    otherwise if eqb findings.place 0 then refusal unknown text_unknown_order
+    otherwise if is_done order.state.status then refusal too_late text_done
     otherwise if full then refusal other text_too_many
-    otherwise if not (matches o e) then refusal other text_side_or_symbol
+    otherwise if not (matches order event) then refusal other text_side_or_symbol
     otherwise own
 
--- a refusal of ours, told to the client. Where there is no order its status is Rejected.
+-- a refusal of ours, told to the client. If there is no order the status told is Rejected.
 unfoldable pub refuse : Findings → (responseto : ℕ) → Order → Event → Reject → Change
-refuse f responseto o e r =
+refuse findings responseto order event reject =
     telling
-    (cancel_reject e.client o.names.name (if eqb f.place 0 then rejected otherwise o.state.status) e.ids.clordid e.ids.origclordid responseto
-    (record { text = no_long_text; fixedtext = r.fixedtext; reason = r.reason; origin = ours }))
-    (unchanged f.place o)
+    (cancel_reject event.client order.names.name (if eqb findings.place 0 then rejected otherwise order.state.status) event.ids.clordid
+    event.ids.origclordid responseto
+    (record { text = no_long_text; fixedtext = reject.fixedtext; reason = reject.reason; origin = ours }))
+    (unchanged findings.place order)
 
 -- a request that was already taken, sent again: the order's state under the request's own ClOrdIDs
 unfoldable pub redelivered_report : Findings → Order → Event → Change
-redelivered_report f o e =
-    telling (report (next_exec o) e.ids.clordid e.ids.origclordid exec_status 0 no_price no_note) (unchanged f.place (next_exec o))
+redelivered_report findings order event =
+    telling (report (next_exec order) event.ids.clordid event.ids.origclordid exec_status 0 no_price no_note) (unchanged findings.place (next_exec order))
 
 -- the event was redelivered, and its ClOrdID was used for this very order
-unfoldable pub already_taken : Findings → (order : ℕ) → Event → Bool
-already_taken f order e = has e 21 && not (eqb order 0) && eqb order f.place
+unfoldable pub already_taken : Findings → (used : ℕ) → Event → Bool
+already_taken findings used event = has event 21 && not (eqb used 0) && eqb used findings.place
 
 -- `amendable`: a request already taken is told again, one that is refused is told so, and any other goes on to the change that is given
-abbrev pub amendable : Findings → (responseto order : ℕ) (full : Bool) → Order → Event → (own : Reject) (goes : Change) → Change
-amendable f responseto order full o e own goes =
-    let r = amend_refusal f order full o e own in
-    if already_taken f order e then redelivered_report f o e
-    otherwise if not (eqb r.fixedtext 0) then refuse f responseto o e r
+abbrev pub amendable : Findings → (responseto used : ℕ) (full : Bool) → Order → Event → (own : Reject) (goes : Change) → Change
+amendable findings responseto used full order event own goes =
+    let r = amend_refusal findings used full order event own in
+    if already_taken findings used event then redelivered_report findings order event
+    otherwise if not (eqb r.fixedtext 0) then refuse findings responseto order event r
     otherwise goes
 
 -- `number`: the request is recorded under the order's next numbered downstream ClOrdID, and the order is left as given
 abbrev pub number : Findings → (kind : ℕ) → Order → Event → (left : Order) → Change
-number f kind o e left = adding (next_request f o kind e.ids.clordid e.ids.origclordid) (unchanged f.place left)
+number findings kind order event left =
+    adding (next_request findings order kind event.ids.clordid event.ids.origclordid) (unchanged findings.place left)
 
 -- ---- `cancel`
 
 unfoldable pub cancel_refusal : Findings → Order → Reject
-cancel_refusal f o = if gateway_cancel_in_flight f o then refusal already_pending text_cancelling otherwise passes
+cancel_refusal findings order = if gateway_cancel_in_flight findings order then refusal already_pending text_cancelling otherwise passes
 
 -- the cancel goes out
 unfoldable pub cancel_goes : Findings → Order → Event → Change
-cancel_goes f o e =
-    let o' = numbered_order f true o in
-    telling (cancel_request o' (next_downstream o)) (number f cancel_kind o e o')
+cancel_goes findings order event =
+    let order' = numbered_order findings true order in
+    telling (cancel_request order' (next_downstream order)) (number findings cancel_kind order event order')
 
-unfoldable pub cancel : Findings → (order : ℕ) (full : Bool) → Order → Event → Change
-cancel f order full o e = amendable f cancel_kind order full o e (cancel_refusal f o) (cancel_goes f o e)
+unfoldable pub cancel : Findings → (used : ℕ) (full : Bool) → Order → Event → Change
+cancel findings used full order event =
+    amendable findings cancel_kind used full order event (cancel_refusal findings order) (cancel_goes findings order event)
 
 -- ---- `replace`
 
@@ -111,11 +111,11 @@ same_price None (Some q) = false
 same_price (Some p) None = false
 same_price (Some p) (Some q) = eqb p q
 
--- the text of a verdict: 11 more, or the last text at the top of the field's range, which the format keeps away
+-- the text of a verdict: its number and 11. At the top of the field's range it is the last text, but the format keeps such a verdict away.
 unfoldable pub verdict_text : ℕ → ℕ
 verdict_text v = if ltb v 244 then 11 + v otherwise 255
 
--- `check_replace`: the verdict that the event brings, passed over where no risk is added
+-- `check_replace`: the verdict that the event brings, passed over if no risk is added
 unfoldable pub check_replace : Order → Event → Reject
 check_replace o e =
     if same_price (limit_price (or_own e.terms.ordtype o.terms.ordtype) (price_of e)) (limit_price o.terms.ordtype (Some o.terms.price))
@@ -124,12 +124,12 @@ check_replace o e =
     otherwise refusal other (verdict_text e.verdict)
 
 unfoldable pub replace_refusal : Findings → Order → Event → Reject
-replace_refusal f o e =
-    if gateway_cancel_in_flight f o then refusal already_pending text_cancelling
-    otherwise if has_pending o then refusal already_pending text_replace_pending
-    otherwise if ltb e.terms.qty o.state.cumqty then refusal other text_below_filled
-    otherwise if ltb o.terms.qty e.terms.qty && has e 22 then refusal other text_blocked
-    otherwise check_replace o e
+replace_refusal findings order event =
+    if gateway_cancel_in_flight findings order then refusal already_pending text_cancelling
+    otherwise if has_pending order then refusal already_pending text_replace_pending
+    otherwise if ltb event.terms.qty order.state.cumqty then refusal other text_below_filled
+    otherwise if ltb order.terms.qty event.terms.qty && has event 22 then refusal other text_blocked
+    otherwise check_replace order event
 
 -- the terms that the replace asks for
 unfoldable pub new_terms : Order → Event → Terms
@@ -141,23 +141,29 @@ new_terms o e = record {
   price = e.terms.price;
 }
 
--- question 6: a price exactly where the type is limit
+-- question 6: there is a price exactly if the type is limit
 unfoldable pub priced_right : (ordtype : ℕ) → Event → Bool
 priced_right ordtype e = if eqb ordtype limit then has e 10 otherwise not (has e 10)
 
 unfoldable pub new_pending : Findings → Terms → Pending
-new_pending f t = record { request = next_link f; qty = t.qty; price = t.price; ordtype = t.ordtype; timeinforce = t.timeinforce }
+new_pending findings terms = record {
+  request = next_link findings;
+  qty = terms.qty;
+  price = terms.price;
+  ordtype = terms.ordtype;
+  timeinforce = terms.timeinforce;
+}
 
 unfoldable pub replace_goes : Findings → Order → Event → Change
-replace_goes f o e =
-    let t = new_terms o e in
-    let o' = with_pending (new_pending f t) (numbered_order f false o) in
-    telling (replace_request o' (next_downstream o) t) (number f replace_kind o e o')
+replace_goes findings order event =
+    let terms = new_terms order event in
+    let order' = with_pending (new_pending findings terms) (numbered_order findings false order) in
+    telling (replace_request order' (next_downstream order) terms) (number findings replace_kind order event order')
 
-unfoldable pub replace : Findings → (order : ℕ) (full : Bool) → Order → Event → Change
-replace f order full o e =
-    amendable f replace_kind order full o e (replace_refusal f o e)
-    (if not (priced_right (or_own e.terms.ordtype o.terms.ordtype) e) then refusing 6 otherwise replace_goes f o e)
+unfoldable pub replace : Findings → (used : ℕ) (full : Bool) → Order → Event → Change
+replace findings used full order event =
+    amendable findings replace_kind used full order event (replace_refusal findings order event)
+    (if not (priced_right (or_own event.terms.ordtype order.terms.ordtype) event) then refusing (number_of WrongPrice) otherwise replace_goes findings order event)
 
 -- ---- `refuse_request`
 
@@ -168,18 +174,18 @@ not_pending o =
     then set_status (if ltb 0 o.state.cumqty then partially_filled otherwise new) o
     otherwise o
 
--- the order once its request k is refused: done stays done
-unfoldable pub refused_order : ℕ → Refused → Order → Order
-refused_order k r o =
-    let named = record_venue_order_id r.venueorderid false o in
-    let o' = with_pending (if eqb o.pending.request k then no_pending otherwise o.pending) named in
-    if is_done o.state.status then o'
-    otherwise if not (eqb r.status 0) then set_status r.status o'
-    otherwise not_pending o'
+-- the order once its request of this link is refused: done stays done
+unfoldable pub refused_order : (link : ℕ) → Refused → Order → Order
+refused_order link refused order =
+    let named = record_venue_order_id refused.venueorderid false order in
+    let order' = with_pending (if eqb order.pending.request link then no_pending otherwise order.pending) named in
+    if is_done order.state.status then order'
+    otherwise if not (eqb refused.status 0) then set_status refused.status order'
+    otherwise not_pending order'
 
--- a short Filled that would be set
+-- the alarm of a short Filled that would be set
 unfoldable pub refused_alarm : Refused → Order → ℕ
-refused_alarm r o = if is_done o.state.status then 0 otherwise short_alarm o.terms.qty o.state.cumqty r.status
+refused_alarm refused order = if is_done order.state.status then 0 otherwise short_alarm order.terms.qty order.state.cumqty refused.status
 
 -- what the client is told: the text that came, or that the venue rejected it; the venue's reason, or Other
 unfoldable pub refused_note : Note → Note
@@ -190,30 +196,32 @@ refused_note n = record {
   origin = if eqb n.origin 0 then ours otherwise n.origin;
 }
 
-unfoldable pub refuse_request : Findings → ℕ → Request → (venue : ℕ) → Refused → Order → Change
-refuse_request f k q venue r o =
-    let o' = refused_order k r o in
-    let c = alarming (refused_alarm r o) (answering k r.outcome (unchanged f.place o')) in
-    if is_first q then unchanged f.place o
-    otherwise if not (eqb o.venue venue) then unchanged f.place o
-    otherwise if is_answered q then unchanged f.place o
-    otherwise if is_gateway q && not (eqb o.links.cancel k) then c
-    otherwise if is_gateway q then gateway_cancel_refused f r.note c
-    otherwise telling (cancel_reject o.client o.names.name o'.state.status q.clordid q.origclordid q.kind (refused_note r.note)) c
+unfoldable pub refuse_request : Findings → (link : ℕ) → Request → (venue : ℕ) → Refused → Order → Change
+refuse_request findings link request venue refused order =
+    let order' = refused_order link refused order in
+    let c = alarming (refused_alarm refused order) (answering link refused.outcome (unchanged findings.place order')) in
+    if is_first request then unchanged findings.place order
+    otherwise if not (eqb order.venue venue) then unchanged findings.place order
+    otherwise if is_answered request then unchanged findings.place order
+    otherwise if is_gateway request && not (eqb order.links.cancel link) then c
+    otherwise if is_gateway request then gateway_cancel_refused findings refused.note c
+    otherwise telling
+    (cancel_reject order.client order.names.name order'.state.status request.clordid request.origclordid request.kind (refused_note refused.note)) c
 
 -- ---- `venue_cancel_reject`, of a request that the book knows
 
 unfoldable pub venue_note : Event → Note
 venue_note e = record { text = e.text; fixedtext = 0; reason = e.reason; origin = if has e 19 then venues otherwise 0 }
 
-unfoldable pub venue_cancel_reject : Findings → ℕ → Request → Order → Event → Change
-venue_cancel_reject f k q o e =
-    resume_gateway_cancel f
-    (refuse_request f k q e.venue (record { status = e.exec.status; venueorderid = e.ids.venueorderid; note = venue_note e; outcome = came.refused }) o)
+unfoldable pub venue_cancel_reject : Findings → (link : ℕ) → Request → Order → Event → Change
+venue_cancel_reject findings link request order event =
+    resume_gateway_cancel findings
+    (refuse_request findings link request event.venue
+    (record { status = event.exec.status; venueorderid = event.ids.venueorderid; note = venue_note event; outcome = came.refused }) order)
 
 -- ---- `send_failed`
 
--- one try less, and it waits
+-- one try is taken back, and the cancel waits
 unfoldable pub send_refused : GatewayCancel → GatewayCancel
 send_refused g = record {
   tries = g.tries - 1;
@@ -224,33 +232,35 @@ send_refused g = record {
 }
 
 -- the first send failed: the order is rejected, for a reason of ours
-unfoldable pub first_failed : Findings → ℕ → (outcome : ℕ) → Note → Order → Change
-first_failed f k outcome n o =
-    let o' = next_exec (set_status rejected o) in
+unfoldable pub first_failed : Findings → (link outcome : ℕ) → Note → Order → Change
+first_failed findings link outcome note order =
+    let order' = next_exec (set_status rejected order) in
     telling
-    (report o' o'.names.clordid no_text exec_rejected 0 no_price (record { text = n.text; fixedtext = n.fixedtext; reason = other; origin = ours }))
-    (answering k outcome (unchanged f.place o'))
+    (report order' order'.names.clordid no_text exec_rejected 0 no_price (record { text = note.text; fixedtext = note.fixedtext; reason = other; origin = ours }))
+    (answering link outcome (unchanged findings.place order'))
 
 -- the request comes to the outcome that is given
-unfoldable pub send_failed : Findings → ℕ → Request → (venue outcome : ℕ) → Note → Order → Change
-send_failed f k q venue outcome n o =
-    if not (eqb o.venue venue) then unchanged f.place o
-    otherwise if is_gateway q && is_answered q then unchanged f.place o
-    otherwise if is_gateway q && not (has_gateway o) then answering k outcome (unchanged f.place o)
-    otherwise if is_gateway q then answering k outcome (unchanged f.place (with_gateway (send_refused o.gateway) o))
-    otherwise if not (is_first q) then refuse_request f k q venue (record { status = o.state.status; venueorderid = no_text; note = n; outcome = outcome }) o
-    otherwise if is_answered q || not (eqb o.state.status pending_new) then unchanged f.place o
-    otherwise first_failed f k outcome n o
+unfoldable pub send_failed : Findings → (link : ℕ) → Request → (venue outcome : ℕ) → Note → Order → Change
+send_failed findings link request venue outcome note order =
+    if not (eqb order.venue venue) then unchanged findings.place order
+    otherwise if is_gateway request && is_answered request then unchanged findings.place order
+    otherwise if is_gateway request && not (has_gateway order) then answering link outcome (unchanged findings.place order)
+    otherwise if is_gateway request then answering link outcome (unchanged findings.place (with_gateway (send_refused order.gateway) order))
+    otherwise if not (is_first request)
+    then refuse_request findings link request venue (record { status = order.state.status; venueorderid = no_text; note = note; outcome = outcome }) order
+    otherwise if is_answered request || not (eqb order.state.status pending_new) then unchanged findings.place order
+    otherwise first_failed findings link outcome note order
 
 -- ---- `unsent`: a request is sent again, or its send has failed
 
 unfoldable pub resendable : Request → (venue : ℕ) → Order → Bool
-resendable q venue o = not (is_answered q) && not (is_done o.state.status) && eqb o.venue venue
+resendable request venue order = not (is_answered request) && not (is_done order.state.status) && eqb order.venue venue
 
-unfoldable pub unsent : Findings → ℕ → Request → (venue : ℕ) → Order → Change
-unsent f k q venue o =
-    if resendable q venue o && is_first q && eqb o.state.status pending_new then telling (new_order o q.downstream) (unchanged f.place o)
-    otherwise if resendable q venue o && is_cancel q then telling (cancel_request o q.downstream) (unchanged f.place o)
-    otherwise if resendable q venue o && is_replace q && eqb o.pending.request k
-    then telling (replace_request o q.downstream (pending_terms o)) (unchanged f.place o)
-    otherwise send_failed f k q venue came.refused (record { text = no_long_text; fixedtext = text_not_sent; reason = 0; origin = 0 }) o
+unfoldable pub unsent : Findings → (link : ℕ) → Request → (venue : ℕ) → Order → Change
+unsent findings link request venue order =
+    if resendable request venue order && is_first request && eqb order.state.status pending_new
+    then telling (new_order order request.downstream) (unchanged findings.place order)
+    otherwise if resendable request venue order && is_cancel request then telling (cancel_request order request.downstream) (unchanged findings.place order)
+    otherwise if resendable request venue order && is_replace request && eqb order.pending.request link
+    then telling (replace_request order request.downstream (pending_terms order)) (unchanged findings.place order)
+    otherwise send_failed findings link request venue came.refused (record { text = no_long_text; fixedtext = text_not_sent; reason = 0; origin = 0 }) order

@@ -5,7 +5,7 @@ use Rattle.machine.specs.Changes.{Message}
 use Rattle.machine.specs.History.{Decoded, comes_to, Entry, line_of, State}
 
 -- a form of the book and of its calls: what a record reads as, the book that the form stands for, what the call returns, the messages that are
--- read from its answer (none where it is refused), and the form after it
+-- read from its answer (none if it is refused), and the form after it
 pub record Form (In Held : Type 0) : Type 0 where
   pub read : In → Decoded
   pub book_of : Held → Book

@@ -1,5 +1,6 @@
 -- A change: what an event does, as a value, and how one is put together. Rests on Messages.
 use Rattle.std.specs.Prelude.{ℕ, ◌-◌, Bool, not, ◌&&◌, eqb}
+use Rattle.bits.specs.Map.{bit}
 use Rattle.prelude.specs.Cases.{if◌then◌otherwise◌}
 use Rattle.prelude.specs.declared.Text.{Text}
 use Rattle.records.specs.declared.Record.{Record}
@@ -21,6 +22,10 @@ Event = Record
 
 abbrev pub Message : Type 0
 Message = Record
+
+-- a bit of the event's map stands
+abbrev pub has : Event → ℕ → Bool
+has e k = bit e.map k
 
 -- ---- a request: `Sent.kind` and `Sent.origin`
 
@@ -48,7 +53,7 @@ no_requests = record { answered = 0; superseded = 0; outcome = 0; added = 0; req
 abbrev pub silent : Output
 silent = record { count = 0; first = no_message; second = no_message; alarm = 0; alarm2 = 0 }
 
--- the order at a place as it stands, and nothing else
+-- nothing changes: the order at a place stands as it is given
 unfoldable pub unchanged : (place : ℕ) → Order → Change
 unchanged place o = record { refusal = 0; place = place; order = o; requests = no_requests; output = silent }
 
@@ -57,67 +62,85 @@ unfoldable pub refusing : ℕ → Change
 refusing n = record { refusal = n; place = 0; order = no_order; requests = no_requests; output = silent }
 
 abbrev pub with_order : Order → Change → Change
-with_order o c = record { refusal = c.refusal; place = c.place; order = o; requests = c.requests; output = c.output }
+with_order order change = record { refusal = change.refusal; place = change.place; order = order; requests = change.requests; output = change.output }
 
--- the request of this link is answered, and comes to this
-unfoldable pub answering : ℕ → (outcome : ℕ) → Change → Change
-answering k outcome c = record {
-  refusal = c.refusal;
-  place = c.place;
-  order = c.order;
-  requests = record { answered = k; superseded = c.requests.superseded; outcome = outcome; added = c.requests.added; request = c.requests.request };
-  output = c.output;
+-- the request of this link is answered, and comes to this outcome
+unfoldable pub answering : (link outcome : ℕ) → Change → Change
+answering link outcome change = record {
+  refusal = change.refusal;
+  place = change.place;
+  order = change.order;
+  requests = record {
+    answered = link;
+    superseded = change.requests.superseded;
+    outcome = outcome;
+    added = change.requests.added;
+    request = change.requests.request;
+  };
+  output = change.output;
 }
 
--- and so is the one that it supersedes, which comes to the same
-unfoldable pub superseding : ℕ → Change → Change
-superseding k c = record {
-  refusal = c.refusal;
-  place = c.place;
-  order = c.order;
-  requests = record { answered = c.requests.answered; superseded = k; outcome = c.requests.outcome; added = c.requests.added; request = c.requests.request };
-  output = c.output;
+-- and so is the request that it supersedes, which comes to the same outcome
+unfoldable pub superseding : (link : ℕ) → Change → Change
+superseding link change = record {
+  refusal = change.refusal;
+  place = change.place;
+  order = change.order;
+  requests = record {
+    answered = change.requests.answered;
+    superseded = link;
+    outcome = change.requests.outcome;
+    added = change.requests.added;
+    request = change.requests.request;
+  };
+  output = change.output;
 }
 
 -- a request is added
 unfoldable pub adding : Request → Change → Change
-adding q c = record {
-  refusal = c.refusal;
-  place = c.place;
-  order = c.order;
-  requests = record { answered = c.requests.answered; superseded = c.requests.superseded; outcome = c.requests.outcome; added = 1; request = q };
-  output = c.output;
+adding request change = record {
+  refusal = change.refusal;
+  place = change.place;
+  order = change.order;
+  requests = record {
+    answered = change.requests.answered;
+    superseded = change.requests.superseded;
+    outcome = change.requests.outcome;
+    added = 1;
+    request = request;
+  };
+  output = change.output;
 }
 
--- a message goes out, behind the one that is there
+-- a message goes out, behind the first one if there is one
 unfoldable pub telling : Message → Change → Change
-telling m c = record {
-  refusal = c.refusal;
-  place = c.place;
-  order = c.order;
-  requests = c.requests;
+telling message change = record {
+  refusal = change.refusal;
+  place = change.place;
+  order = change.order;
+  requests = change.requests;
   output = record {
-    count = if eqb c.output.count 0 then 1 otherwise 2;
-    first = if eqb c.output.count 0 then m otherwise c.output.first;
-    second = if eqb c.output.count 0 then c.output.second otherwise m;
-    alarm = c.output.alarm;
-    alarm2 = c.output.alarm2;
+    count = if eqb change.output.count 0 then 1 otherwise 2;
+    first = if eqb change.output.count 0 then message otherwise change.output.first;
+    second = if eqb change.output.count 0 then change.output.second otherwise message;
+    alarm = change.output.alarm;
+    alarm2 = change.output.alarm2;
   };
 }
 
--- an alarm is raised, behind the one that is there
+-- an alarm is raised, behind the first one if there is one
 unfoldable pub alarming : ℕ → Change → Change
-alarming a c = record {
-  refusal = c.refusal;
-  place = c.place;
-  order = c.order;
-  requests = c.requests;
+alarming alarm change = record {
+  refusal = change.refusal;
+  place = change.place;
+  order = change.order;
+  requests = change.requests;
   output = record {
-    count = c.output.count;
-    first = c.output.first;
-    second = c.output.second;
-    alarm = if eqb c.output.alarm 0 then a otherwise c.output.alarm;
-    alarm2 = if eqb c.output.alarm 0 then c.output.alarm2 otherwise a;
+    count = change.output.count;
+    first = change.output.first;
+    second = change.output.second;
+    alarm = if eqb change.output.alarm 0 then alarm otherwise change.output.alarm;
+    alarm2 = if eqb change.output.alarm 0 then change.output.alarm2 otherwise alarm;
   };
 }
 
@@ -125,7 +148,7 @@ alarming a c = record {
 
 -- the link of a request that is added
 unfoldable pub next_link : Findings → ℕ
-next_link f = one_more 65535 f.requests
+next_link findings = one_more 65535 findings.requests
 
 unfoldable pub next_number : Order → ℕ
 next_number o = one_more 65535 o.links.amendments
@@ -134,23 +157,23 @@ unfoldable pub next_downstream : Order → Text
 next_downstream o = numbered_text o.names.name (next_number o)
 
 unfoldable pub next_request : Findings → Order → (kind : ℕ) → (clordid origclordid : Text) → Request
-next_request f o kind clordid origclordid = record {
-  order = f.place - 1;
+next_request findings order kind clordid origclordid = record {
+  order = findings.place - 1;
   kind = kind;
   answered = 0;
   clordid = clordid;
   origclordid = origclordid;
-  downstream = next_downstream o;
+  downstream = next_downstream order;
   outcome = 0;
 }
 
 -- a cancel becomes the order's latest
 unfoldable pub numbered_order : Findings → (cancels : Bool) → Order → Order
-numbered_order f cancels o =
+numbered_order findings cancels order =
     with_links
     (record {
-      amendments = next_number o;
-      current = o.links.current;
-      cancel = if cancels then next_link f otherwise o.links.cancel;
+      amendments = next_number order;
+      current = order.links.current;
+      cancel = if cancels then next_link findings otherwise order.links.cancel;
     })
-    o
+    order

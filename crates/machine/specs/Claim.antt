@@ -1,6 +1,6 @@
 -- Demand 3, whole: what holds after every list of calls, from the empty book with any setting. Rests on History.
--- All of it is counted from the history: the messages sent, the events, and the books before and after them. Of what the book stores, only what
--- is spoken of is read. What stands in quotes is the desk's wording; docs/SCOPE.md, Demand 3, has all of it. An order is known by its name: names are distinct.
+-- All of it is counted from the history: the messages sent, the events, and the books before and after them. Of what the book stores, only the
+-- numbers that the claim names are read. What stands in quotes is the desk's wording; docs/SCOPE.md, Demand 3, has all of it. An order is known by its name: names are distinct.
 use Rattle.std.specs.Prelude.{ℕ, ◌+◌, ◌≤◌, ◌<◌, ◌≡◌, Bool, true, false, not, ◌&&◌, List, [], ◌∷◌, ◌++◌, eqb, length, Option, None, Some}
 use Rattle.std.specs.List.{list_any}
 use Rattle.prelude.specs.Cases.{if◌then◌otherwise◌, maybe}
@@ -9,7 +9,7 @@ use Rattle.prelude.specs.Totals.{total_of, how_many, those, Every}
 use Rattle.prelude.specs.declared.Text.{Text}
 use Rattle.store.specs.declared.Order.{Order}
 use Rattle.store.specs.Book.{Book, order_in, request_in}
-use Rattle.machine.specs.Constants.{report_kind, cancel_request_kind}
+use Rattle.machine.specs.Constants.{report_kind, cancel_request_kind, most_tries}
 use Rattle.machine.specs.Orders.{is_done, has_gateway}
 use Rattle.machine.specs.Changes.{Event, Message, is_answered}
 use Rattle.machine.specs.GatewayCancel.{gateway_cancel_in_flight}
@@ -43,7 +43,7 @@ of_kind k (read_as e) = eqb e.kind k
 unfoldable pub starts : Book → ℕ → Bool
 starts b i = not (is_done (order_in b i).state.status) && not (gateway_cancel_in_flight (findings_of b (i + 1)) (order_in b i))
 
--- an event 9 asks for the order of that name where the Rust "makes that record or, asked again, starts its tries over"
+-- an event 9 asks for the order of that name, and the Rust "makes that record or, asked again, starts its tries over"
 abbrev pub asks : Text → Book → Decoded → Bool
 asks name b (unread n) = false
 asks name b (read_as e) = eqb e.kind 9 && maybe false (λ i. bears_name name (order_in b i) && starts b i) (find_name b e.ids.name)
@@ -76,7 +76,7 @@ sent d = list_any (λ e. holds d (cancels_in e.messages))
 abbrev pub is_for : Text → Book → Text → Bool
 is_for name b d = maybe false (λ k. bears_name name (order_in b (request_in b k).order)) (find_downstream b d)
 
--- the gateway's for that order that the line puts out, of those not known before it: "put out by the first of them: the client's if that
+-- the gateway's cancel requests for that order that the line puts out, of those not known before it: "put out by the first of them: the client's if that
 -- message answers an event 2, else the gateway's"
 unfoldable pub put_out_by : (known : Text → List Entry → Bool) → Text → Entry → (earlier : List Entry) → List Text
 put_out_by known name e earlier = if of_kind 2 e.input then [] otherwise those (λ d. is_for name e.left d && not (known d earlier)) (once (cancels_in e.messages))
@@ -118,8 +118,8 @@ pub record Demand3 (s : State) : Type 0 where
   -- last began, less those whose send failed
   pub tries : Each s (λ o. has_gateway o ≡ true
       → o.gateway.tries + how_many (failed s.past) (put_out o.names.name s.past) ≡ length (put_out o.names.name s.past))
-  -- and are at most three
-  pub few : Each s (λ o. has_gateway o ≡ true → o.gateway.tries ≤ 3)
+  -- and are at most three, `most_tries`
+  pub few : Each s (λ o. has_gateway o ≡ true → o.gateway.tries ≤ most_tries)
 
 abbrev pub Demand : Type 1
 Demand = (In : Type 0) (read : In → Decoded) → Kinds read → (setting : ℕ) (is : List In) → Demand3 (run read (start setting) is)

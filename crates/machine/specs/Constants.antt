@@ -1,4 +1,4 @@
--- The book's own numbers, by name: kinds and outcomes of requests, kinds of messages, alarms, reasons and their origin, fixed texts, the most tries. Rests on nothing.
+-- The book's own numbers, by name: kinds and outcomes of requests, kinds of events and messages, alarms, reasons and their origin, fixed texts, the most tries. Rests on nothing.
 use Rattle.std.specs.Prelude.{ℕ}
 
 -- a request's kind: `Sent.kind` and `Sent.origin` in one
@@ -23,6 +23,34 @@ refused = 2
 
 abbrev pub failed_to_send : ℕ
 failed_to_send = 3
+
+-- events
+abbrev pub event_book : ℕ
+event_book = 1
+
+abbrev pub event_cancel : ℕ
+event_cancel = 2
+
+abbrev pub event_replace : ℕ
+event_replace = 3
+
+abbrev pub event_report : ℕ
+event_report = 4
+
+abbrev pub event_unknown : ℕ
+event_unknown = 5
+
+abbrev pub event_cancel_reject : ℕ
+event_cancel_reject = 6
+
+abbrev pub event_send_failed : ℕ
+event_send_failed = 7
+
+abbrev pub event_send_again : ℕ
+event_send_again = 8
+
+abbrev pub event_gateway_cancel : ℕ
+event_gateway_cancel = 9
 
 -- messages
 abbrev pub report_kind : ℕ

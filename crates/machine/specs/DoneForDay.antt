@@ -1,5 +1,5 @@
 -- Done for the day (change request 14): OrdStatus 3, of any order, request and report. Rests on Orders, Amend and Report; the proofs are in proofs/DoneForDay.
--- It ends nothing and leaves nothing; once set it stands; and the questions take it as New or PartiallyFilled, but for the one that compares two statuses.
+-- The status ends nothing and leaves nothing; once set it stands; and the questions take it as New or PartiallyFilled, but for the one that compares two statuses.
 use Rattle.std.specs.Prelude.{ℕ, ◌-◌, ◌≡◌, Bool, true, false, ◌||◌, eqb}
 use Rattle.format.specs.Codes.{pending_new, new, partially_filled, pending_cancel, pending_replace, done_for_day}
 use Rattle.store.specs.declared.Order.{Order}
@@ -20,7 +20,7 @@ pub record Stands : Type 0 where
   -- set at any cumulative it stands, and nothing else of the order moves: pending terms and gateway cancel stay
   pub set : (o : Order) → set_status done_for_day o ≡ with_state (record { status = done_for_day; cumqty = o.state.cumqty; avgpx = o.state.avgpx; execseq = o.state.execseq }) o
 
--- what it is taken as; any other status is as it is
+-- what it is taken as; any other status is taken as itself
 pub record TakenAs : Type 0 where
   pub zero : as_asked 0 done_for_day ≡ new
   pub above : (cumqty : ℕ) → eqb cumqty 0 ≡ false → as_asked cumqty done_for_day ≡ partially_filled

@@ -1,8 +1,7 @@
 -- What the reader says of every event that it accepts: each field is in its range (docs/SCOPE.md, Records), and an absent field is zero or empty.
 -- Rests on Ranges and Rules (`force_range`).
 use Rattle.std.specs.Prelude.{◌≡◌, ◌⊎◌, true, false, eqb}
-use Rattle.machine.specs.Changes.{Event}
-use Rattle.machine.specs.Amend.{has}
+use Rattle.machine.specs.Changes.{Event, has}
 use Rattle.format.specs.Codes.{is_side, is_ordtype, is_status, is_qty, is_price}
 use Rattle.machine.specs.Ranges.{text_within, name_range}
 use Rattle.machine.specs.Rules.{force_range}
@@ -20,7 +19,7 @@ pub record Amendment (e : Event) : Type 0 where
   pub clordid : text_within 1 32 e.ids.clordid ≡ true
   pub origclordid : text_within 1 32 e.ids.origclordid ≡ true
 
--- by kind what is required, and of any kind what may be absent
+-- the fields that the event's kind requires, and those that may be absent in any kind
 pub record Ranged (e : Event) : Type 0 where
   pub booking : e.kind ≡ 1 → Booking e
   pub amendment : (e.kind ≡ 2) ⊎ (e.kind ≡ 3) → Amendment e

@@ -1,4 +1,4 @@
--- Wish 12's claim on the machine: two events of kinds 2 to 9 that concern orders of different clients, taken one way round, are taken the other
+-- Change request 12's claim on the machine: two events of kinds 2 to 9 that concern orders of different clients, taken one way round, are taken the other
 -- with the same answers, and leave the same orders. Rests on Machine and Rules.
 -- Links are indices, and two requests that are added change places: a link is read as the request that it names.
 use Rattle.std.specs.Prelude.{ℕ, ◌+◌, ◌-◌, ◌≤◌, ◌<◌, ◌≡◌, ◌⊎◌, true, List, eqb, length}
@@ -9,7 +9,8 @@ use Rattle.store.specs.declared.Order.{Order}
 use Rattle.store.specs.declared.Request.{Request}
 use Rattle.store.specs.Book.{Book, order_in, request_in}
 use Rattle.store.specs.Finds.{find_name, find_downstream}
-use Rattle.text.specs.Words.{no_text}
+use Rattle.text.specs.Stored.{no_text}
+use Rattle.machine.specs.Constants.{event_cancel, event_replace, event_gateway_cancel}
 use Rattle.machine.specs.Orders.{leaves_qty, pending_terms}
 use Rattle.machine.specs.Changes.{Event}
 use Rattle.machine.specs.Machine.{order_of, order_link, step_of, book_after}
@@ -18,9 +19,9 @@ use Rattle.machine.specs.Rules.{rules}
 -- the link of the order that an event of kinds 2 to 9 concerns, 0 for none
 unfoldable pub concerns : Book → Event → ℕ
 concerns b e =
-    if eqb e.kind 2 then order_of b e.client e.ids.origclordid
-    otherwise if eqb e.kind 3 then order_of b e.client e.ids.origclordid
-    otherwise if eqb e.kind 9 then maybe 0 (λ i. i + 1) (find_name b e.ids.name)
+    if eqb e.kind event_cancel then order_of b e.client e.ids.origclordid
+    otherwise if eqb e.kind event_replace then order_of b e.client e.ids.origclordid
+    otherwise if eqb e.kind event_gateway_cancel then maybe 0 (λ i. i + 1) (find_name b e.ids.name)
     otherwise maybe 0 (order_link b) (find_downstream b e.ids.downstream)
 
 abbrev pub client_at : Book → ℕ → ℕ
@@ -86,7 +87,7 @@ pub record OfTwoClients (b : Book) (d e : Event) : Type 0 where
 abbrev pub TwoClients : Type 0
 TwoClients = (b : Book) (d e : Event) → OfTwoClients b d e → Exchanged b d e
 
--- where at most one of them adds a request, the books are equal
+-- if at most one of them adds a request, the books are equal
 abbrev pub SameBook : Type 0
 SameBook = (b : Book) (d e : Event) → OfTwoClients b d e → ((step_of b d).requests.added ≡ 0) ⊎ ((step_of b e).requests.added ≡ 0)
     → book_after (book_after b d) e ≡ book_after (book_after b e) d
@@ -131,7 +132,7 @@ pub record Turned (t : ℕ) (b c : Book) : Type 0 where
   pub first : request_in c (t + 1) ≡ request_in b t
   pub second : request_in c t ≡ request_in b (t + 1)
 
--- where both add a request, these two are exchanged
+-- if both add a request, these two are exchanged
 abbrev pub TurnedBook : Type 0
 TurnedBook = (b : Book) (d e : Event) → OfTwoClients b d e → ((step_of b d).requests.added ≡ 0 → ⊥) → ((step_of b e).requests.added ≡ 0 → ⊥)
     → Turned (length b.requests) (book_after (book_after b d) e) (book_after (book_after b e) d)

@@ -1,6 +1,8 @@
 -- A list of calls: each on the book that the one before it left, and what came of each, the latest first. Rests on Machine and Rules.
 use Rattle.std.specs.Prelude.{ℕ, ◌<◌, ◌≤◌, ◌≡◌, List, [], ◌∷◌, eqb}
 use Rattle.prelude.specs.Cases.{if◌then◌otherwise◌}
+use Rattle.prelude.specs.Refusal.{number_of}
+use Rattle.prelude.specs.declared.Refusal.TheVariants.{BadBook}
 use Rattle.records.specs.Answer.{chosen}
 use Rattle.store.specs.Book.{Book, empty_book}
 use Rattle.machine.specs.Changes.{Event, Message, refusing}
@@ -15,8 +17,8 @@ pub data Decoded : Type 0 where
 
 -- what a call comes to: question 1 first, then the record's, then the event's own
 unfoldable pub comes_to : Book → Decoded → Change
-comes_to b (unread n) = if rules b then refusing n otherwise refusing 1
-comes_to b (read_as e) = if rules b then step_of b e otherwise refusing 1
+comes_to b (unread n) = if rules b then refusing n otherwise refusing (number_of BadBook)
+comes_to b (read_as e) = if rules b then step_of b e otherwise refusing (number_of BadBook)
 
 -- "A refused call .. has written nothing anywhere": the book stays, and no message counts
 unfoldable pub messages_of : Change → List Message
@@ -35,7 +37,7 @@ pub record Entry : Type 0 where
 
 -- the line that a change makes
 abbrev pub line_of : Book → Decoded → Change → Entry
-line_of b i c = record { before = b; input = i; refusal = c.refusal; messages = messages_of c; left = left_by b c }
+line_of book input change = record { before = book; input = input; refusal = change.refusal; messages = messages_of change; left = left_by book change }
 
 -- the book, and what has happened, the latest first
 pub record State : Type 0 where
@@ -46,7 +48,7 @@ pub record State : Type 0 where
 abbrev pub start_from : Book → State
 start_from b = record { book = b; past = [] }
 
--- start made the first book, with any setting
+-- the first book, as start makes it, with any setting
 abbrev pub start : (setting : ℕ) → State
 start setting = start_from (empty_book setting)
 

@@ -12,13 +12,13 @@ use Rattle.records.specs.declared.Exec.{Exec}
 use Rattle.records.specs.declared.Told.{Told}
 use Rattle.records.specs.declared.Record.{Record}
 use Rattle.store.specs.declared.Order.{Order}
-use Rattle.text.specs.Words.{no_text}
+use Rattle.text.specs.Stored.{no_text}
 use Rattle.machine.specs.Orders.{no_terms, is_empty, leaves_qty}
 use Rattle.machine.specs.Constants.{report_kind, cancel_reject_kind, new_order_kind, cancel_request_kind, replace_request_kind}
 use Rattle.format.specs.Codes.{limit}
 use Rattle.machine.specs.declared.Note.{Note}
 
--- bit k where the test holds
+-- bit k if the test holds, else nothing
 unfoldable pub bit_if : Bool → ℕ → ℕ
 bit_if t k = if t then 2 ^ k otherwise 0
 
@@ -56,7 +56,7 @@ no_price = record { price = 0 ∷ (0 ∷ []); source = 0 }
 abbrev pub no_note : Note
 no_note = record { text = no_long_text; fixedtext = 0; reason = 0; origin = 0 }
 
--- price and time in force are there where the terms have them
+-- price and time in force are there if the terms have them
 unfoldable pub terms_bits : Terms → ℕ
 terms_bits t = bit_if (eqb t.ordtype limit) 10 + bit_if (not (eqb t.timeinforce 0)) 11
 
@@ -81,7 +81,7 @@ report o clordid origclordid exectype lastqty price n = record {
   text = n.text;
 }
 
--- `Amend::refuse`: an OrderCancelReject under the ClOrdIDs of the request. Where there is no order the name is empty and the status is Rejected.
+-- `Amend::refuse`: an OrderCancelReject under the ClOrdIDs of the request. If there is no order the name is empty and the status is Rejected.
 unfoldable pub cancel_reject : (client : ℕ) (name : Text) (status : ℕ) (clordid origclordid : Text) (responseto : ℕ) → Note → Record
 cancel_reject client name status clordid origclordid responseto n = record {
   kind = cancel_reject_kind;

@@ -16,7 +16,7 @@ use Rattle.store.specs.Orders.{no_order, no_pending, no_gateway}
 use Rattle.machine.specs.Constants.{filled_short}
 use Rattle.format.specs.Codes.{pending_new, new, partially_filled, filled, canceled, expired, rejected, done_for_day, market}
 
--- one more, or the same at the top of the field's range, which the book's rules keep away
+-- one more; at the top of the field's range the same, but the book's rules keep that away
 unfoldable pub one_more : (top n : ℕ) → ℕ
 one_more top n = if ltb n top then n + 1 otherwise n
 
@@ -67,8 +67,8 @@ leaves_of status qty cumqty = if is_done status || eqb status done_for_day then 
 unfoldable pub leaves_qty : Order → ℕ
 leaves_qty o = leaves_of o.state.status o.terms.qty o.state.cumqty
 
--- a status as the Rust's questions take it: done for the day is New where the cumulative is 0, and PartiallyFilled above. They ask whether a status is one of
--- these two in `behind` alone, and of a reported one alone; equal to another it is as it is.
+-- a status as the Rust's questions take it: done for the day is New if the cumulative is 0, and PartiallyFilled above. Only `behind` asks whether a status
+-- is one of these two, and only of a reported one; whether two statuses are equal is asked of them as they are.
 unfoldable pub as_asked : (cumqty s : ℕ) → ℕ
 as_asked cumqty s = if eqb s done_for_day then (if eqb cumqty 0 then new otherwise partially_filled) otherwise s
 
@@ -80,7 +80,7 @@ status_at cumqty s = if (eqb s new || eqb s pending_new) && ltb 0 cumqty then pa
 unfoldable pub is_short : (qty cumqty s : ℕ) → Bool
 is_short qty cumqty s = eqb s filled && ltb cumqty qty
 
--- it is set as New, and raises its alarm
+-- a short Filled is set as New, and raises its alarm
 unfoldable pub unless_short : (qty cumqty s : ℕ) → ℕ
 unless_short qty cumqty s = if is_short qty cumqty s then new otherwise s
 
@@ -138,21 +138,21 @@ pending_terms o = record {
 
 -- `apply_replace`: the order takes the pending terms and the names of the replace's request
 unfoldable pub apply_replace : Request → Order → Order
-apply_replace q o = record {
-  client = o.client;
-  venue = o.venue;
+apply_replace request order = record {
+  client = order.client;
+  venue = order.venue;
   names = record {
-    name = o.names.name;
-    clordid = q.clordid;
-    downstream = q.downstream;
-    symbol = o.names.symbol;
-    venueorderid = o.names.venueorderid;
+    name = order.names.name;
+    clordid = request.clordid;
+    downstream = request.downstream;
+    symbol = order.names.symbol;
+    venueorderid = order.names.venueorderid;
   };
-  terms = pending_terms o;
-  state = o.state;
-  links = record { amendments = o.links.amendments; current = o.pending.request; cancel = o.links.cancel };
+  terms = pending_terms order;
+  state = order.state;
+  links = record { amendments = order.links.amendments; current = order.pending.request; cancel = order.links.cancel };
   pending = no_pending;
-  gateway = o.gateway;
+  gateway = order.gateway;
 }
 
 -- the next report's sequence: `exec_seq`, which goes on at 0 after 2^64 - 1

@@ -9,7 +9,7 @@ use Rattle.machine.specs.Changes.{Event, is_answered}
 use Rattle.machine.specs.Machine.{step_of, book_after}
 use Rattle.machine.specs.Rules.{rules}
 
--- what the requests that an event settles come to: accepted where "`venue_report` set it, neither status nor ExecType being 8", failed to send where "an
+-- what the requests that an event settles come to: accepted if "`venue_report` set it, neither status nor ExecType being 8", failed to send if "an
 -- event 7 set it", refused for "all else", an event 8 too
 unfoldable pub outcome_by : Event → ℕ
 outcome_by e =
@@ -17,11 +17,11 @@ outcome_by e =
     otherwise if eqb e.kind 4 && not (eqb e.exec.status rejected) && not (eqb e.exec.exectype exec_rejected) then accepted
     otherwise refused
 
--- set where `answered` is, and never again: the outcome of request k, of the book x before the event e and the book y after it
-unfoldable pub outcome_after : (x y : Book) → Event → ℕ → ℕ
-outcome_after x y e k =
-    if is_answered (request_in x k) then (request_in x k).outcome
-    otherwise if is_answered (request_in y k) then outcome_by e
+-- set if `answered` is, and never again: the outcome of request k, of the book before the event and the book that it left
+unfoldable pub outcome_after : (before left : Book) → Event → (k : ℕ) → ℕ
+outcome_after before left event k =
+    if is_answered (request_in before k) then (request_in before k).outcome
+    otherwise if is_answered (request_in left k) then outcome_by event
     otherwise 0
 
 -- a change that answers or supersedes a request says that it comes to what the event makes of it; one that does neither has 0

@@ -1,5 +1,5 @@
 -- docs/SCOPE.md, Rules, rule by rule, as tests on the book. Rests on Ranges and Changes.
--- Each rule takes just what it reads. `rules` is what question 1 and `check` decide.
+-- Each rule is given only what it reads. `rules` is what question 1 and `check` decide.
 use Rattle.std.specs.Prelude.{ℕ, ◌+◌, ◌-◌, Bool, not, ◌&&◌, ◌||◌, List, eqb, leb, ltb, length, get_or}
 use Rattle.prelude.specs.Below.{all_below, count_below}
 use Rattle.prelude.specs.Cases.{if◌then◌otherwise◌}
@@ -37,13 +37,13 @@ priced_range ordtype price = is_ordtype ordtype && is_price price && (eqb ordtyp
 unfoldable pub terms_range : Terms → Bool
 terms_range t = is_side t.side && priced_range t.ordtype t.price && force_range t.timeinforce && is_qty t.qty
 
--- no pending terms are all zero
+-- if nothing is pending all terms are zero
 unfoldable pub pending_range : Pending → Bool
 pending_range p =
     if eqb p.request 0 then eqb p.qty 0 && eqb p.price 0 && eqb p.ordtype 0 && eqb p.timeinforce 0
     otherwise priced_range p.ordtype p.price && force_range p.timeinforce && is_qty p.qty
 
--- one stage byte cannot say unsent and stuck; no gateway cancel is all zero
+-- a gateway cancel is not both unsent and stuck, since one byte has its stage; if there is none all is zero
 unfoldable pub gateway_range : (requests : ℕ) → GatewayCancel → Bool
 gateway_range requests g =
     not (g.unsent && g.stuck) && leb g.origdownstream requests
@@ -54,7 +54,7 @@ order_range requests o =
     names_range o.names && terms_range o.terms && is_status o.state.status && is_price o.state.avgpx
     && pending_range o.pending && gateway_range requests o.gateway
 
--- a gateway cancel has no ClOrdID; just the client's cancels and replaces have an OrigClOrdID
+-- a gateway cancel has no ClOrdID; only the client's cancels and replaces have an OrigClOrdID
 unfoldable pub request_range : Request → Bool
 request_range q =
     leb q.kind 3 && leb q.answered 1
@@ -90,7 +90,7 @@ pending_rule i request qs = eqb request 0 || linked pending_test i request qs
 unfoldable pub filled_rule : Order → Bool
 filled_rule o = leb o.state.cumqty o.terms.qty
 
--- above a cumulative of 0 the status is not A or 0
+-- above a cumulative of 0 the status is neither A (PendingNew) nor 0 (New)
 unfoldable pub status_rule : (cumqty status : ℕ) → Bool
 status_rule cumqty status = eqb cumqty 0 || not (eqb status pending_new || eqb status new)
 
@@ -98,7 +98,7 @@ status_rule cumqty status = eqb cumqty 0 || not (eqb status pending_new || eqb s
 unfoldable pub done_rule : Order → Bool
 done_rule o = not (is_done o.state.status) || (not (has_pending o) && not (has_gateway o))
 
--- tries are at most 3, and at most 2 where unsent
+-- tries are at most 3, and at most 2 if the cancel is unsent
 unfoldable pub tries_rule : GatewayCancel → Bool
 tries_rule g = leb g.tries (if g.unsent then most_tries - 1 otherwise most_tries)
 
@@ -131,7 +131,7 @@ outcome_rule q = if is_answered q then ltb 0 q.outcome && leb q.outcome failed_t
 unfoldable pub name_number : Text → ℕ → Text
 name_number name n = if eqb n 0 then name otherwise numbered_text name n
 
--- the downstream ClOrdID is the name with the request's number, and just number 0 is a first request
+-- the downstream ClOrdID is the name with the request's number, and only number 0 is a first request
 unfoldable pub number_rule : Text → ℕ → Request → Bool
 number_rule name n q = same_text q.downstream (name_number name n) && (if is_first q then eqb n 0 otherwise ltb 0 n)
 
@@ -145,7 +145,7 @@ in_flight_rule link q o =
 abbrev pub bears_origin : List Request → (k j : ℕ) → Bool
 bears_origin qs k j = eqb (get_or qs j no_request).order (get_or qs k no_request).order && same_text (get_or qs j no_request).clordid (get_or qs k no_request).origclordid
 
--- one of the lower bears it: not each of them does not
+-- one of the requests numbered lower bears it, so it is false that none does
 unfoldable pub origin_rule : List Request → ℕ → Bool
 origin_rule qs k = is_empty (get_or qs k no_request).origclordid || not (all_below (λ j. not (bears_origin qs k j)) k)
 
@@ -159,7 +159,7 @@ request_rule b j =
 -- ---- names, and ClOrdIDs within a client, are distinct. Downstream ClOrdIDs are, since names have no '-' (a law).
 
 abbrev pub names_apart : Book → ℕ → ℕ → Bool
-names_apart b i j = not (same_text (order_in b i).names.name (order_in b j).names.name)
+names_apart book i j = not (same_text (order_in book i).names.name (order_in book j).names.name)
 
 abbrev pub name_rule : Book → ℕ → Bool
 name_rule b i = all_below (names_apart b i) i
@@ -167,13 +167,13 @@ name_rule b i = all_below (names_apart b i) i
 abbrev pub client_of : Book → ℕ → ℕ
 client_of b j = (order_in b (request_in b j).order).client
 
--- two requests of one client with one ClOrdID
+-- two requests are of one client and have one ClOrdID
 unfoldable pub same_key : Book → ℕ → ℕ → Bool
-same_key b i j =
-    not (is_empty (request_in b i).clordid) && eqb (client_of b i) (client_of b j) && same_text (request_in b i).clordid (request_in b j).clordid
+same_key book i j =
+    not (is_empty (request_in book i).clordid) && eqb (client_of book i) (client_of book j) && same_text (request_in book i).clordid (request_in book j).clordid
 
 abbrev pub keys_apart : Book → ℕ → ℕ → Bool
-keys_apart b i j = not (same_key b i j)
+keys_apart book i j = not (same_key book i j)
 
 abbrev pub key_rule : Book → ℕ → Bool
 key_rule b i = all_below (keys_apart b i) i

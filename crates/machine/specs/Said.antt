@@ -19,12 +19,12 @@ MessagesRight = (b : Book) (e : Event) → rules b ≡ true → WholeBook b → 
 abbrev pub MessagesFew : Type 0
 MessagesFew = (c : Change) → length (messages_of c) ≤ 2
 
--- an answer's two alarms: none, one of the paper's alone, or 6 and then 1
+-- an answer's two alarms: none, one that is listed, or 6 and then 1
 pub record Alarmed (alarm alarm2 : ℕ) : Type 0 where
   pub listed : alarm ≤ most_alarm
   pub second : (alarm2 ≡ 0) ⊎ ((alarm ≡ filled_short) × (alarm2 ≡ stuck_cancel))
 
--- so of every event on every book
+-- this holds of every event on every book
 abbrev pub AlarmsRight : Type 0
 AlarmsRight = (b : Book) (e : Event) → let c = step_of b e in Alarmed c.output.alarm c.output.alarm2
 

@@ -14,14 +14,14 @@ use Rattle.machine.specs.History.{Decoded, start, run, Kinds}
 use Rattle.machine.specs.Claim.{Each}
 use Rattle.machine.specs.declared.Refused.{Refused}
 
--- Filled, and below the quantity
+-- the order is Filled, and below its quantity
 abbrev pub short : Order → Bool
 short o = is_short o.terms.qty o.state.cumqty o.state.status
 
 abbrev pub NoneShort : Book → Type 0
 NoneShort b = (i : ℕ) → short (order_in b i) ≡ false
 
--- no event makes one, on any book, whether it keeps the rules or not
+-- no event makes a short order, on any book, whether it keeps the rules or not
 abbrev pub NoneMade : Type 0
 NoneMade = (b : Book) (e : Event) → NoneShort b → NoneShort (book_after b e)
 

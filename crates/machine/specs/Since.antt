@@ -1,5 +1,5 @@
 -- Demand 3 from any book that keeps its rules, the image: what holds after every list of calls since it. Rests on Claim.
--- Demand 3 from the empty book is a case. What stands in quotes is the desk's wording of wish 10. The image is the first argument throughout.
+-- Demand 3 from the empty book is a case. What stands in quotes is the desk's wording of change request 10. The image is the first argument throughout.
 use Rattle.std.specs.Prelude.{ℕ, ◌+◌, ◌≤◌, ◌≡◌, Bool, true, false, not, ◌&&◌, ◌||◌, List, [], ◌∷◌, eqb, length, Some}
 use Rattle.std.specs.List.{list_any}
 use Rattle.prelude.specs.Cases.{if◌then◌otherwise◌, maybe}
@@ -11,7 +11,7 @@ use Rattle.store.specs.declared.Request.{Request}
 use Rattle.store.specs.Book.{Book, order_in}
 use Rattle.store.specs.Finds.{bears_name, find_name, find_downstream}
 use Rattle.format.specs.Codes.{buy}
-use Rattle.machine.specs.Constants.{report_kind}
+use Rattle.machine.specs.Constants.{report_kind, most_tries}
 use Rattle.machine.specs.Orders.{is_done, has_gateway}
 use Rattle.machine.specs.Changes.{Message, is_gateway}
 use Rattle.machine.specs.Rules.{rules}
@@ -47,7 +47,7 @@ known image d earlier = is_held image d || sent d earlier
 abbrev pub new_out : Book → Text → List Entry → List Text
 new_out image name past = put_out_of (known image) name past
 
--- of the image, what counts still: "until the gateway cancel begins again"
+-- what still counts of the image: "until the gateway cancel begins again"
 abbrev pub begun_since : Text → List Entry → Bool
 begun_since name = list_any (begins name)
 
@@ -70,7 +70,7 @@ pub record Demand3From (image : Book) (s : State) : Type 0 where
   pub tries : Each s (λ o. has_gateway o ≡ true
       → o.gateway.tries + (how_many (failed s.past) (new_out image o.names.name s.past) + how_many (failed s.past) (base_out image o.names.name s.past))
       ≡ length (new_out image o.names.name s.past) + base_tries image o.names.name s.past)
-  pub few : Each s (λ o. has_gateway o ≡ true → o.gateway.tries ≤ 3)
+  pub few : Each s (λ o. has_gateway o ≡ true → o.gateway.tries ≤ most_tries)
 
 abbrev pub DemandFrom : Type 1
 DemandFrom = (In : Type 0) (read : In → Decoded) → Kinds read → (image : Book) → rules image ≡ true → (is : List In) → Demand3From image (run read (start_from image) is)
@@ -80,7 +80,7 @@ DemandFrom = (In : Type 0) (read : In → Decoded) → Kinds read → (image : B
 abbrev pub on_side : (bought : Bool) (side : ℕ) → Bool
 on_side bought side = if bought then eqb side buy otherwise not (eqb side buy)
 
--- what is filled of an order, where it is that client's in that symbol on that side
+-- what is filled of an order, if it is that client's in that symbol on that side
 abbrev pub filled_on : (bought : Bool) (client : ℕ) (symbol : Text) → Order → ℕ
 filled_on bought client symbol o = if eqb o.client client && (same_text o.names.symbol symbol && on_side bought o.terms.side) then o.state.cumqty otherwise 0
 

@@ -9,7 +9,7 @@ use store::{Order, Request};
 
 // What the handling of an event needs of the book beside its order: the order's link (its index
 // and one, 0 for no order), how many requests are in use, and the order's latest cancel (all zero
-// where there is none). Zeros for none, as the book's records have them: the definitions read these
+// if there is none). Zeros stand for none, as in the book's records: the definitions read these
 // fields, and the theorems name them. The order stands beside them and not among them, since it changes
 // on the way while they stay, and the definitions take the two one by one.
 #[derive(Clone, Copy)]
@@ -20,8 +20,8 @@ pub struct Findings {
 }
 
 // What a message says beside the order's state: a text, or the number of a fixed one, and a reason
-// with its origin, 1 ours, 2 the venue's. What is 0 or empty is not said, as in the records that the
-// definitions make of it: the theorems name these fields.
+// with its origin: 1 for ours, 2 for the venue's. What is 0 or empty is not said, as in the records that
+// the definitions make of it: the theorems name these fields.
 #[derive(Clone, Copy)]
 pub struct Note {
     pub text: LongText,
@@ -31,8 +31,8 @@ pub struct Note {
 }
 
 // What a client is told of a cancel or replace that is refused: the reason and the number of the
-// text. The text is 0 where it is not refused: a number that the definitions read and the theorems name.
-// In code amend's `Why`, in a `Result`, stands for it until it is told.
+// text. The text is 0 if it is not refused: a number that the definitions read and the theorems name.
+// In code amend's `Why`, in a `Result`, stands for it until the client is told.
 #[derive(Clone, Copy)]
 pub struct Reject {
     pub reason: u32,
@@ -41,7 +41,7 @@ pub struct Reject {
 
 // A refusal of a cancel or replace that was sent (the Rust's `Refused`): the order's status as the
 // venue gives it and the venue's OrderID, what the client is told, and what the request comes to. 0 and
-// empty where not given, as the record has them: the definitions read these fields, and the theorems name them.
+// empty if not given, as the record has them: the definitions read these fields, and the theorems name them.
 #[derive(Clone, Copy)]
 pub struct Refused {
     pub status: u8,
@@ -50,9 +50,9 @@ pub struct Refused {
     pub outcome: u8,
 }
 
-// What an event does to the requests: the links of those it answers, 0 for none, what these come to, 0
-// where there are none, and the one it adds, where the flag beside it is 1. As numbers, since the definitions and their theorems name each field
-// (`requests.added ≡ 0`).
+// What an event does to the requests: the links of those that it answers, 0 for none; what these come to, 0
+// if there are none; and the one that it adds, if the flag `added` is 1. All are numbers, since the
+// definitions and their theorems name each field (`requests.added ≡ 0`).
 #[derive(Clone, Copy)]
 pub struct Requests {
     pub answered: u16,
@@ -74,7 +74,7 @@ pub struct Output {
 }
 
 // What an event does. The order as it is left goes to the place that the link names: 0 is none,
-// and one past those in use is a new order. Where the refusal is not 0 the event is not taken: a number,
+// and one past those in use is a new order. If the refusal is not 0 the event is not taken: a number,
 // since the definitions and their theorems name the field. In code a `Result` stands around the change,
 // and the number is 0. A struct with a ghost field would say so once in place of seven clauses, but each of
 // the forty functions and more that make a change on the way would wrap and unwrap it.

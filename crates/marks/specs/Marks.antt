@@ -1,4 +1,4 @@
--- MARKS TO COME BACK TO (change request 10): a name and an image of the book, in a lent buffer divided into places; and the two calls, one that sets a mark
+-- MARKS TO COME BACK TO (change request 10), or savepoints: a name and an image of the book, in a lent buffer divided into places; and the two calls, one that sets a mark
 -- and one that returns to it. What stands in quotes is the desk's wording. Rests on format's `is_alnum`, store's `book_size` and rules' `keeps_of`.
 use Rattle.std.specs.Prelude.{ℕ, ◌+◌, ◌*◌, ◌/◌, Bool, not, ◌&&◌, List, ◌++◌, length, get_or, take, Option, Some}
 use Rattle.prelude.specs.Below.{all_below, first_below}
@@ -19,18 +19,18 @@ abbrev pub place_size : ℕ
 place_size = 65568
 
 -- where place i starts
-abbrev pub place : ℕ → ℕ
-place i = i * place_size
+abbrev pub place_base : ℕ → ℕ
+place_base i = i * place_size
 
 -- the whole places of the buffer: "a last part shorter than that unused"
 abbrev pub place_count : List ℕ → ℕ
 place_count places = length places / place_size
 
 unfoldable pub name_at : List ℕ → ℕ → List ℕ
-name_at places i = span places (place i) name_size
+name_at places i = span places (place_base i) name_size
 
 unfoldable pub image_at : List ℕ → ℕ → List ℕ
-image_at places i = span places (place i + name_size) book_size
+image_at places i = span places (place_base i + name_size) book_size
 
 -- ---- a name: "1–16 letters or digits"
 
@@ -86,7 +86,7 @@ unfoldable pub set_mark_of : (book name places : List ℕ) → Marked
 set_mark_of book name places =
     if not (keeps_of book) then marked 1 book places
     otherwise if not (is_mark_name name) then marked 13 book places
-    otherwise maybe (marked 15 book places) (λ i. marked 0 book (splice places (place i) (name_bytes name ++ book))) (set_place places name)
+    otherwise maybe (marked 15 book places) (λ i. marked 0 book (splice places (place_base i) (name_bytes name ++ book))) (set_place places name)
 
 -- `return_to_mark`: 1 if the book does not keep its rules, then 13 if the name is malformed, then 14 if no place is of that name and has an
 -- image that keeps the rules. Else "the book [is] exactly its image".

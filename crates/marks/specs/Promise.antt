@@ -4,7 +4,7 @@ use Rattle.std.specs.Prelude.{ℕ, ◌+◌, ◌*◌, ◌≤◌, ◌<◌, ◌≡�
 use Rattle.prelude.specs.Bytes.{zeros}
 use Rattle.prelude.specs.Number.{Bytes}
 use Rattle.rules.specs.Keeps.{keeps_of}
-use Rattle.marks.specs.Marks.{name_size, place_size, place, place_count, name_at, image_at, is_mark_name, name_bytes, return_place, Marked, marked, set_mark_of, return_of}
+use Rattle.marks.specs.Marks.{name_size, place_size, place_base, place_count, name_at, image_at, is_mark_name, name_bytes, return_place, Marked, marked, set_mark_of, return_of}
 
 -- ---- names as bytes
 
@@ -32,7 +32,7 @@ pub record SetAt (book name places : List ℕ) (i : ℕ) (r : Marked) : Type 0 w
   -- in numbers: the name's letters in their order and zeros behind them, then the book's bytes
   pub letters : (k : ℕ) → k < 32 → get_or r.places (i * 65568 + k) 0 ≡ get_or name k 0
   pub bytes : (k : ℕ) → k < 65536 → get_or r.places (i * 65568 + 32 + k) 0 ≡ get_or book k 0
-  pub rest : (k : ℕ) → (k < place i) ⊎ (place i + place_size ≤ k) → get_or r.places k 0 ≡ get_or places k 0
+  pub rest : (k : ℕ) → (k < place_base i) ⊎ (place_base i + place_size ≤ k) → get_or r.places k 0 ≡ get_or places k 0
 
 -- 1 before 13 before 15; the first place of its name, even if a free one is before it; else the first free one
 pub record IsSet (book name places : List ℕ) (r : Marked) : Type 0 where

@@ -1,10 +1,10 @@
-// Marks to come back to: a name and an image of the book in a place of a lent buffer; set, and returned
-// to. What a place is and what the calls do stands in specs/Marks.antt. Both calls are total: all that
+// Marks to come back to, which others call savepoints or snapshots: a name and an image of the book, in a
+// place of a lent buffer; set, and returned to. What a place is and what the calls do stands in specs/Marks.antt. Both calls are total: all that
 // is asked is asked before a byte is written. Rests on rules, store and format.
 #![tactic(auto)]
 
 ghost use Rattle.std.specs.Prelude.{◌≡◌};
-ghost use Rattle.counted.specs.Counted.{refusal_of};
+ghost use Rattle.prelude.specs.Counted.{refusal_of};
 ghost use Rattle.marks.specs.Marks.{marked, set_mark_of, return_of};
 
 use name::Name;

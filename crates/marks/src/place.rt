@@ -7,7 +7,7 @@ ghost use Rattle.prelude.specs.Below.{first_below};
 ghost use Rattle.prelude.specs.Span.{splice};
 ghost use Rattle.store.specs.Layout.{book_size};
 ghost use Rattle.rules.specs.Keeps.{keeps_of};
-ghost use Rattle.marks.specs.Marks.{place, place_count, image_at, name_bytes, has_name, set_place, return_place};
+ghost use Rattle.marks.specs.Marks.{place_base, place_count, image_at, name_bytes, has_name, set_place, return_place};
 
 use crate::name::{NAME, Name};
 use rules::Kept;
@@ -17,7 +17,7 @@ use store::layout;
 const PLACE: usize = NAME + layout::BOOK;
 
 // Whether place i has these bytes for its name.
-#[tactic(auto, using(prelude::specs::Span::part_span, crate::proofs::Laws::Places::name_same), unfolding(crate::specs::Marks::name_at))]
+#[tactic(auto, using(prelude::specs::Laws::Span::part_span, crate::proofs::Laws::Places::name_same), unfolding(crate::specs::Marks::name_at))]
 fn has_name(places: &[u8], i: usize, bytes: &[u8; NAME]) -> bool
     requires { i < place_count places.now }
     ensures { result ≡ has_name places.now bytes.now i }
@@ -41,7 +41,7 @@ pub(crate) fn set_place(places: &[u8], name: &Name<'_>) -> Option<usize>
 }
 
 // Whether place i has these bytes for its name, and an image that keeps the book's rules.
-#[tactic(auto, using(prelude::specs::Span::part_span), unfolding(crate::specs::Marks::image_at))]
+#[tactic(auto, using(prelude::specs::Laws::Span::part_span), unfolding(crate::specs::Marks::image_at))]
 fn is_mark(places: &[u8], i: usize, bytes: &[u8; NAME]) -> bool
     requires { i < place_count places.now }
     ensures { result ≡ has_name places.now bytes.now i && keeps_of (image_at places.now i) }
@@ -62,7 +62,7 @@ pub(crate) fn return_place(places: &[u8], name: &Name<'_>) -> Option<usize>
 #[tactic(auto, using(crate::proofs::Laws::Stands::book_long))]
 pub(crate) fn put_place(places: &mut [u8], i: usize, name: &Name<'_>, book: &Kept<'_>)
     requires { i < place_count places.old }
-    ensures { places.new ≡ splice places.old (place i) (name_bytes name.now.letters.now ++ book.now.bytes.now) }
+    ensures { places.new ≡ splice places.old (place_base i) (name_bytes name.now.letters.now ++ book.now.bytes.now) }
 {
     let at = i * PLACE;
     places[at..at + NAME].copy_from_slice(&name.bytes());
@@ -70,7 +70,7 @@ pub(crate) fn put_place(places: &mut [u8], i: usize, name: &Name<'_>, book: &Kep
 }
 
 // The image of place i over all of the book.
-#[tactic(auto, using(prelude::specs::Span::part_span), unfolding(crate::specs::Marks::image_at))]
+#[tactic(auto, using(prelude::specs::Laws::Span::part_span), unfolding(crate::specs::Marks::image_at))]
 pub(crate) fn take_image(book: &mut [u8], places: &[u8], i: usize)
     requires { (i < place_count places.now) × (length book.old ≡ book_size) }
     ensures { book.new ≡ image_at places.now i }

@@ -3,7 +3,7 @@
 use Rattle.std.specs.Prelude.{ℕ, ◌+◌, List, map, eqb, length, get_or}
 use Rattle.prelude.specs.Cases.{if◌then◌otherwise◌}
 use Rattle.bits.specs.Map.{standing}
-use Rattle.records.specs.Answer.{head_size, messages_bytes}
+use Rattle.records.specs.Answer.{head_size, shortest_answer, messages_bytes}
 use Rattle.machine.specs.declared.Change.{Change}
 use Rattle.machine.specs.Changes.{Message}
 use Rattle.machine.specs.History.{messages_of}
@@ -16,11 +16,11 @@ use Rattle.needs.specs.declared.Needs.{Needs}
 unfoldable pub answer_length : List Message → ℕ
 answer_length ms = head_size + length (messages_bytes ms)
 
--- the fields of a message: the bits of its map that stand
+-- the fields of a message: the bits of its map that are 1
 unfoldable pub field_count : Message → ℕ
 field_count m = standing m.map
 
--- the fields of message n, 0 where there is none
+-- the fields of message n, 0 if there is none
 unfoldable pub fields_of : List Message → (n : ℕ) → ℕ
 fields_of ms n = get_or (map field_count ms) n 0
 
@@ -48,6 +48,6 @@ refused refusal = record { refusal = refusal; length = 0; messages = 0; requests
 unfoldable pub needs_of : Change → Needs
 needs_of c = if eqb c.refusal 0 then needed (messages_of c) c.requests.added otherwise refused c.refusal
 
--- of the event in a record, on a book, with an answer buffer of 1,024 bytes
+-- of the event in a record, on a book, with the shortest answer buffer that is taken
 unfoldable pub needs_call : (book event : List ℕ) → Needs
-needs_call b r = needs_of (call_of b r 1024)
+needs_call b r = needs_of (call_of b r shortest_answer)

@@ -10,7 +10,7 @@ use Rattle.records.specs.declared.Record.{Record}
 use Rattle.records.specs.Answer.{head_size}
 use Rattle.records.specs.Fields.{text_by, short_bytes, long_bytes, spelled, words, held_by}
 use Rattle.records.specs.Record.{record_bytes}
-use Rattle.text.specs.Words.{no_text}
+use Rattle.text.specs.Stored.{no_text}
 use Rattle.machine.specs.Messages.{no_told, no_exec, no_long_text, cancel_reject, note_bits, bit_if}
 use Rattle.needs.specs.declared.Needs.{Needs}
 use Rattle.needs.specs.Needs.{answer_length, field_count, fields_of, added_count, needed}

@@ -24,7 +24,7 @@ pub struct Needs {
 }
 
 // The answer buffer that the event is asked about.
-const ANSWER: usize = step::SHORTEST_ANSWER;
+const ANSWER: usize = records::SHORTEST_ANSWER;
 
 #[tactic(auto, unfolding(crate::specs::Needs::refused))]
 fn refused(refusal: u32) -> Needs
@@ -46,8 +46,8 @@ fn answer_length(out: Output) -> u32
         out.alarm,
         out.alarm2,
         out.count,
-        out.first,
-        out.second,
+        &out.first,
+        &out.second,
     )
 }
 
@@ -59,7 +59,7 @@ fn field_count(m: Record) -> u32
     bits::standing(m.map)
 }
 
-#[tactic(auto, unfolding(crate::specs::Needs::added_count), using(prelude::specs::Cases::if_true, prelude::specs::Cases::if_false))]
+#[tactic(auto, unfolding(crate::specs::Needs::added_count), using(prelude::specs::Laws::Cases::if_true, prelude::specs::Laws::Cases::if_false))]
 fn added_count(added: u8) -> u32
     ensures { result ≡ added_count added }
 {

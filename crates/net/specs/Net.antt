@@ -10,8 +10,8 @@ use Rattle.prelude.specs.Span.{span, splice}
 use Rattle.prelude.specs.Texts.{contents, text_of, same_text}
 use Rattle.prelude.specs.Totals.{total_of}
 use Rattle.prelude.specs.declared.Text.{Text}
-use Rattle.counted.specs.declared.Counted.{Counted}
-use Rattle.counted.specs.Counted.{refusing, counting}
+use Rattle.prelude.specs.declared.Counted.{Counted}
+use Rattle.prelude.specs.Counted.{refusing, counting}
 use Rattle.store.specs.declared.Order.{Order}
 use Rattle.store.specs.Book.{Book, order_in, book_of}
 use Rattle.machine.specs.Since.{filled_on}
@@ -26,16 +26,16 @@ pub record Signed : Type 0 where
   pub below : ℕ
 
 -- a less b
-abbrev pub less : (a b : ℕ) → Signed
-less a b = record { above = a - b; below = b - a }
+abbrev pub difference : (a b : ℕ) → Signed
+difference a b = record { above = a - b; below = b - a }
 
 abbrev pub nothing : Signed
-nothing = less 0 0
+nothing = difference 0 0
 
 -- ---- what is bought and sold
 
 abbrev pub netted : Amounts → Signed
-netted a = less a.bought a.sold
+netted a = difference a.bought a.sold
 
 -- of a client in a symbol, over all orders, done or not; a short sale is a sale
 unfoldable pub filled_in : Book → (client : ℕ) (symbol : Text) → Amounts
@@ -103,7 +103,7 @@ net_bytes ps = concat (map line_bytes ps)
 
 -- from 2^63 on it is below zero
 unfoldable pub signed_of : ℕ → Signed
-signed_of n = if ltb n (2 ^ 63) then less n 0 otherwise less 0 (2 ^ 64 - n)
+signed_of n = if ltb n (2 ^ 63) then difference n 0 otherwise difference 0 (2 ^ 64 - n)
 
 unfoldable pub read_line : List ℕ → Position
 read_line s = record {

@@ -6,7 +6,7 @@ use Rattle.prelude.specs.Number.{Bytes}
 use Rattle.prelude.specs.Texts.{contents}
 use Rattle.prelude.specs.Totals.{how_many, Every}
 use Rattle.prelude.specs.declared.Text.{Text}
-use Rattle.counted.specs.Counted.{refusing, counting}
+use Rattle.prelude.specs.Counted.{refusing, counting}
 use Rattle.store.specs.Book.{Book, order_in, book_of}
 use Rattle.machine.specs.Rules.{rules}
 use Rattle.rules.specs.Keeps.{keeps_of}
@@ -39,7 +39,7 @@ NetSmall = (b : Book) → rules b ≡ true → Every IsSmall (net_of b)
 
 -- ---- a line
 
--- the zeros behind a symbol: nobody reads them, yet they are promised
+-- behind a symbol are zeros: nobody reads them, yet they are promised
 abbrev pub LineZeros : Type 0
 LineZeros = (p : Position) (k : ℕ) → length (contents p.symbol) ≤ k → k < 16 → get_or (line_bytes p) (3 + k) 0 ≡ 0
 

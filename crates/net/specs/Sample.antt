@@ -8,7 +8,7 @@ use Rattle.prelude.specs.Texts.{contents, text_of, same_text}
 use Rattle.store.specs.declared.Order.{Order}
 use Rattle.store.specs.Orders.{no_order}
 use Rattle.store.specs.Book.{Book}
-use Rattle.net.specs.Net.{less, filled_in, Position, position_of, of_pair, positions, net_of, padded, twos, line_bytes, signed_of}
+use Rattle.net.specs.Net.{difference, filled_in, Position, position_of, of_pair, positions, net_of, padded, twos, line_bytes, signed_of}
 
 abbrev wheat : List ℕ
 wheat = 87 ∷ 72 ∷ 69 ∷ 65 ∷ 84 ∷ []
@@ -56,7 +56,7 @@ day = record {
 }
 
 abbrev position : (client : ℕ) (symbol : List ℕ) (bought sold : ℕ) → Position
-position client symbol bought sold = record { client = client; symbol = text_of symbol; net = less bought sold }
+position client symbol bought sold = record { client = client; symbol = text_of symbol; net = difference bought sold }
 
 -- 40 + 20 - 150, then 0 - 5, then 0 - 2
 abbrev day_net : List Position
@@ -86,15 +86,15 @@ unfolding line_bytes padded contents text_of twos if◌then◌otherwise◌
 sample_above = refl
 
 -- the least that 64 bits hold, -1, and the greatest
-pub sample_least : signed_of (2 ^ 63) ≡ less 0 (2 ^ 63)
+pub sample_least : signed_of (2 ^ 63) ≡ difference 0 (2 ^ 63)
 unfolding signed_of if◌then◌otherwise◌
 sample_least = refl
 
-pub sample_minus_one : signed_of (2 ^ 64 - 1) ≡ less 0 1
+pub sample_minus_one : signed_of (2 ^ 64 - 1) ≡ difference 0 1
 unfolding signed_of if◌then◌otherwise◌
 sample_minus_one = refl
 
-pub sample_greatest : signed_of (2 ^ 63 - 1) ≡ less (2 ^ 63 - 1) 0
+pub sample_greatest : signed_of (2 ^ 63 - 1) ≡ difference (2 ^ 63 - 1) 0
 unfolding signed_of if◌then◌otherwise◌
 sample_greatest = refl
 

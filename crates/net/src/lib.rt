@@ -6,7 +6,7 @@
 ghost use Rattle.std.specs.Prelude.{◌≡◌, ◌≤◌, ◌<◌, length};
 ghost use Rattle.prelude.specs.Span.{splice};
 ghost use Rattle.store.specs.Book.{book_of, order_count};
-ghost use Rattle.counted.specs.Counted.{counted_of};
+ghost use Rattle.prelude.specs.Counted.{counted_of};
 ghost use Rattle.net.specs.Net.{positions, net_of, net_bytes, least_lines, IsNet};
 ghost use Rattle.net.specs.Laws.Call.{IsNext};
 
@@ -27,7 +27,7 @@ pub struct Amounts {
 // A line.
 const LINE: usize = 27;
 
-// What is lent at least: numbers of scratch, and bytes of lines.
+// The least that is lent: numbers of scratch, and bytes of lines.
 const LEAST_SCRATCH: usize = 1;
 
 const LEAST_LINES: usize = 1728;
@@ -78,6 +78,6 @@ pub fn net_position(book: &[u8], scratch: &mut [u64], lines: &mut [u8]) -> Resul
         return Err(Refusal::ShortNet);
     }
     let count = put_lines(&book, lines);
-    // By `as`, which is proved to lose nothing.
+    // The cast by `as` is proved to lose nothing.
     Ok(count as u32)
 }

@@ -9,7 +9,7 @@ use crate::pair::Pair;
 
 // Writes w into s from index at. `store` has the same, for itself alone: a public function could ask nothing of
 // its callers.
-#[tactic(auto, using(prelude::specs::Span::part_splice))]
+#[tactic(auto, using(prelude::specs::Laws::Span::part_splice))]
 fn put(s: &mut [u8], at: usize, w: &[u8])
     requires { at + length w.now ≤ length s.old }
     ensures { s.new ≡ splice s.old at w.now }

@@ -1,18 +1,16 @@
 // The orders of one client in one symbol, read in place: whether there is one among the first, and what
-// they bought and sold. Rests on store's layout, words and text.
+// they bought and sold. Rests on format's codes, store's layout, words and text.
 ghost use Rattle.std.specs.Prelude.{◌≡◌, true, ◌+◌, ◌≤◌, ◌<◌};
 ghost use Rattle.store.specs.Book.{book_of, order_in, order_count};
 ghost use Rattle.net.specs.Net.{of_pair, unseen, netted, twos, filled_in};
 ghost use Rattle.net.specs.Laws.Pair.{InUse, IsSum};
 
 use crate::Amounts;
+use format::codes;
 use prelude::Text;
 use rules::Kept;
 use store::layout;
 use words::{get16, get64};
-
-// Side(54): a purchase. Every other is a sale: a byte of the book, in which any may stand, so no enum.
-const BUY: u8 = b'1';
 
 impl Amounts {
     // Bought less sold, in two's complement.
@@ -31,8 +29,8 @@ pub(crate) struct Pair {
 }
 
 impl Pair {
-    // Whether order k is that client's in that symbol. In place, by the layout: `load_order` would read the
-    // record whole for two of its fields, for each pair of orders.
+    // Whether order k is that client's in that symbol. Both are read in the book's bytes, by the layout:
+    // `load_order` would read a whole record for two of its fields, for each pair of orders.
     #[tactic(auto, using(store::specs::Laws::Stored::count_most, crate::specs::Laws::Pair::used_long))]
     fn has(self, book: &[u8], k: usize) -> bool
         requires { k < order_count book.now }
@@ -52,7 +50,7 @@ impl Pair {
         (0..n).all(|k| !self.has(book, k))
     }
 
-    // With what order k bought or sold of it: two fields more, in place as above.
+    // The amounts with what order k bought or sold of it: two fields more, read as above.
     fn with(self, book: &Kept<'_>, k: usize, a: Amounts) -> Amounts
         requires { InUse book.now.bytes.now k × IsSum (book_of book.now.bytes.now) self.client self.symbol k a }
         ensures { IsSum (book_of book.now.bytes.now) self.client self.symbol (k + 1) result }
@@ -63,7 +61,7 @@ impl Pair {
         let base = layout::ORDERS + k * layout::ORDER;
         let at = base + layout::CUMQTY;
         let filled = get64(&book.bytes[at..at + 8]);
-        if book.bytes[base + layout::SIDE] == BUY {
+        if book.bytes[base + layout::SIDE] == codes::BUY {
             Amounts {
                 bought: a.bought + filled,
                 ..a

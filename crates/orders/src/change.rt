@@ -2,7 +2,7 @@
 // to its book and its outputs, and `next_downstream`. Each function equals its definition in
 // machine's Changes. Rests on order and message.
 ghost use Rattle.std.specs.Prelude.{◌≡◌};
-ghost use Rattle.machine.specs.Changes.{is_first, is_replace, is_gateway, is_cancel, is_answered, no_requests, silent, unchanged, with_order, answering, superseding, adding, telling, alarming, next_link, next_number, next_downstream, next_request, numbered_order};
+ghost use Rattle.machine.specs.Changes.{has, is_first, is_replace, is_gateway, is_cancel, is_answered, no_requests, silent, unchanged, with_order, answering, superseding, adding, telling, alarming, next_link, next_number, next_downstream, next_request, numbered_order};
 ghost use Rattle.orders.specs.Alarms.{alarm_in};
 
 use crate::alarm::Alarm;
@@ -12,42 +12,49 @@ use prelude::Text;
 use records::Record;
 use store::{Order, Request, kinds};
 
+// A bit of the event's map stands.
+pub fn has(e: Record, k: u32) -> bool
+    ensures { result ≡ has e k }
+{
+    bits::has(e.map, k)
+}
+
 // This and the next two differ in a constant: each has the name of its definition in machine, and one
 // function of a kind would be the comparison itself.
 #[tactic(auto, unfolding(machine::specs::Changes::is_first))]
-pub fn is_first(q: Request) -> bool
-    ensures { result ≡ is_first q }
+pub fn is_first(request: Request) -> bool
+    ensures { result ≡ is_first request }
 {
-    q.kind == kinds::FIRST
+    request.kind == kinds::FIRST
 }
 
 #[tactic(auto, unfolding(machine::specs::Changes::is_replace))]
-pub fn is_replace(q: Request) -> bool
-    ensures { result ≡ is_replace q }
+pub fn is_replace(request: Request) -> bool
+    ensures { result ≡ is_replace request }
 {
-    q.kind == kinds::REPLACE
+    request.kind == kinds::REPLACE
 }
 
 #[tactic(auto, unfolding(machine::specs::Changes::is_gateway))]
-pub fn is_gateway(q: Request) -> bool
-    ensures { result ≡ is_gateway q }
+pub fn is_gateway(request: Request) -> bool
+    ensures { result ≡ is_gateway request }
 {
-    q.kind == kinds::GATEWAY
+    request.kind == kinds::GATEWAY
 }
 
 // The client's or the gateway's.
 #[tactic(auto, unfolding(machine::specs::Changes::is_cancel))]
-pub fn is_cancel(q: Request) -> bool
-    ensures { result ≡ is_cancel q }
+pub fn is_cancel(request: Request) -> bool
+    ensures { result ≡ is_cancel request }
 {
-    !is_first(q) && !is_replace(q)
+    !is_first(request) && !is_replace(request)
 }
 
 #[tactic(auto, unfolding(machine::specs::Changes::is_answered))]
-pub fn is_answered(q: Request) -> bool
-    ensures { result ≡ is_answered q }
+pub fn is_answered(request: Request) -> bool
+    ensures { result ≡ is_answered request }
 {
-    q.answered != 0
+    request.answered != 0
 }
 
 fn no_requests() -> Requests
@@ -75,7 +82,7 @@ fn silent() -> Output
     }
 }
 
-// The order at a place as it stands, and nothing else. Place and order one by one, here and below, as machine's
+// Nothing changes: the order at a place stands as it is given. Place and order one by one, here and below, as machine's
 // definitions take them: the order changes on the way, the place does not.
 #[tactic(auto, unfolding(machine::specs::Changes::unchanged))]
 pub fn unchanged(place: u16, o: Order) -> Change
@@ -90,117 +97,117 @@ pub fn unchanged(place: u16, o: Order) -> Change
     }
 }
 
-// The request of this link is answered, and comes to this: a number, as in the book.
+// The request of this link is answered, and comes to this outcome: a number, as in the book.
 #[tactic(auto, unfolding(machine::specs::Changes::answering))]
-pub fn answering(k: u16, outcome: u8, c: Change) -> Change
-    ensures { result ≡ answering k outcome c }
+pub fn answering(link: u16, outcome: u8, change: Change) -> Change
+    ensures { result ≡ answering link outcome change }
 {
-    let mut out = c;
-    out.requests.answered = k;
+    let mut out = change;
+    out.requests.answered = link;
     out.requests.outcome = outcome;
     out
 }
 
-// And so is the one that it supersedes, which comes to the same.
+// And so is the request that it supersedes, which comes to the same outcome.
 #[tactic(auto, unfolding(machine::specs::Changes::superseding))]
-pub fn superseding(k: u16, c: Change) -> Change
-    ensures { result ≡ superseding k c }
+pub fn superseding(link: u16, change: Change) -> Change
+    ensures { result ≡ superseding link change }
 {
-    let mut out = c;
-    out.requests.superseded = k;
+    let mut out = change;
+    out.requests.superseded = link;
     out
 }
 
 // A request is added.
 #[tactic(auto, unfolding(machine::specs::Changes::adding))]
-pub fn adding(q: Request, c: Change) -> Change
-    ensures { result ≡ adding q c }
+pub fn adding(request: Request, change: Change) -> Change
+    ensures { result ≡ adding request change }
 {
-    let mut out = c;
+    let mut out = change;
     out.requests.added = 1;
-    out.requests.request = q;
+    out.requests.request = request;
     out
 }
 
-// A message goes out, behind the one that is there.
+// A message goes out, behind the first one if there is one.
 #[tactic(auto, unfolding(machine::specs::Changes::telling), using(crate::specs::Laws::Choices::choices))]
-pub fn telling(m: Record, c: Change) -> Change
-    ensures { result ≡ telling m c }
+pub fn telling(message: Record, change: Change) -> Change
+    ensures { result ≡ telling message change }
 {
-    let mut out = c;
-    if c.output.count == 0 {
+    let mut out = change;
+    if change.output.count == 0 {
         out.output.count = 1;
-        out.output.first = m;
+        out.output.first = message;
     } else {
         out.output.count = 2;
-        out.output.second = m;
+        out.output.second = message;
     }
     out
 }
 
 // A message goes out, and the order at a place stands as it is given. This, `settled` and `raising` are each
 // one of machine's steps on `unchanged`: a function over them would take a closure to name the step.
-pub fn saying(m: Record, place: u16, o: Order) -> Change
-    ensures { result ≡ telling m (unchanged place o) }
+pub fn saying(message: Record, place: u16, o: Order) -> Change
+    ensures { result ≡ telling message (unchanged place o) }
 {
-    telling(m, unchanged(place, o))
+    telling(message, unchanged(place, o))
 }
 
 // The request of this link is answered, with this outcome, and the order at a place stands as it is given.
-pub fn settled(k: u16, outcome: u8, place: u16, o: Order) -> Change
-    ensures { result ≡ answering k outcome (unchanged place o) }
+pub fn settled(link: u16, outcome: u8, place: u16, o: Order) -> Change
+    ensures { result ≡ answering link outcome (unchanged place o) }
 {
-    answering(k, outcome, unchanged(place, o))
+    answering(link, outcome, unchanged(place, o))
 }
 
 // On top of a change: a message goes out, a request is added, and the order is given anew.
-pub fn sending_on(m: Record, q: Request, o: Order, c: Change) -> Change
-    ensures { result ≡ telling m (adding q (with_order o c)) }
+pub fn sending_on(message: Record, request: Request, o: Order, change: Change) -> Change
+    ensures { result ≡ telling message (adding request (with_order o change)) }
 {
-    let mut out = c;
+    let mut out = change;
     out.order = o;
-    telling(m, adding(q, out))
+    telling(message, adding(request, out))
 }
 
-// An alarm is raised, by its number, behind the one that is there. Any number, here and in `raising`: an
+// An alarm is raised, by its number, behind the first one if there is one. Any number, here and in `raising`: an
 // `Alarm` would ask more of callers.
 #[tactic(auto, unfolding(machine::specs::Changes::alarming), using(crate::specs::Laws::Choices::choices))]
-pub fn alarming(a: u8, c: Change) -> Change
-    ensures { result ≡ alarming a c }
+pub fn alarming(alarm: u8, change: Change) -> Change
+    ensures { result ≡ alarming alarm change }
 {
-    let mut out = c;
-    if c.output.alarm == 0 {
-        out.output.alarm = a;
+    let mut out = change;
+    if change.output.alarm == 0 {
+        out.output.alarm = alarm;
     } else {
-        out.output.alarm2 = a;
+        out.output.alarm2 = alarm;
     }
     out
 }
 
 // An alarm is raised, and the order at a place stands as it is given.
-pub fn raising(a: u8, place: u16, o: Order) -> Change
-    ensures { result ≡ alarming a (unchanged place o) }
+pub fn raising(alarm: u8, place: u16, o: Order) -> Change
+    ensures { result ≡ alarming alarm (unchanged place o) }
 {
-    alarming(a, unchanged(place, o))
+    alarming(alarm, unchanged(place, o))
 }
 
-// The same where there may be no alarm.
+// The same, if there may be no alarm.
 #[tactic(auto, using(crate::specs::Laws::Alarms::no_alarm))]
-pub fn raising_if(a: Option<Alarm>, place: u16, o: Order) -> Change
-    ensures { result ≡ alarming (alarm_in a) (unchanged place o) }
+pub fn raising_if(alarm: Option<Alarm>, place: u16, o: Order) -> Change
+    ensures { result ≡ alarming (alarm_in alarm) (unchanged place o) }
 {
-    match a {
-        Some(a) => raising(a.number(), place, o),
+    match alarm {
+        Some(alarm) => raising(alarm.number(), place, o),
         None => unchanged(place, o),
     }
 }
 
 // The link of a request that is added.
 #[tactic(auto, unfolding(machine::specs::Changes::next_link), using(crate::specs::Laws::Counts::one_more_lem))]
-pub fn next_link(f: Findings) -> u16
-    ensures { result ≡ next_link f }
+pub fn next_link(findings: Findings) -> u16
+    ensures { result ≡ next_link findings }
 {
-    f.requests.saturating_add(1)
+    findings.requests.saturating_add(1)
 }
 
 #[tactic(auto, unfolding(machine::specs::Changes::next_number), using(crate::specs::Laws::Counts::one_more_lem))]
@@ -220,11 +227,17 @@ pub fn next_downstream(o: Order) -> Text
 
 // The request under it.
 #[tactic(auto, unfolding(machine::specs::Changes::next_request))]
-pub fn next_request(f: Findings, o: Order, kind: u8, clordid: Text, origclordid: Text) -> Request
-    ensures { result ≡ next_request f o kind clordid origclordid }
+pub fn next_request(
+    findings: Findings,
+    o: Order,
+    kind: u8,
+    clordid: Text,
+    origclordid: Text,
+) -> Request
+    ensures { result ≡ next_request findings o kind clordid origclordid }
 {
     Request {
-        order: f.place.saturating_sub(1),
+        order: findings.place.saturating_sub(1),
         kind,
         answered: 0,
         clordid,
@@ -236,13 +249,13 @@ pub fn next_request(f: Findings, o: Order, kind: u8, clordid: Text, origclordid:
 
 // The order with that number taken. A cancel becomes the order's latest.
 #[tactic(auto, unfolding(machine::specs::Changes::numbered_order), using(crate::specs::Laws::Choices::choices))]
-pub fn numbered_order(f: Findings, cancels: bool, o: Order) -> Order
-    ensures { result ≡ numbered_order f cancels o }
+pub fn numbered_order(findings: Findings, cancels: bool, o: Order) -> Order
+    ensures { result ≡ numbered_order findings cancels o }
 {
     let mut out = o;
     out.links.amendments = next_number(o);
     if cancels {
-        out.links.cancel = next_link(f);
+        out.links.cancel = next_link(findings);
     }
     out
 }

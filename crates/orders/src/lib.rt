@@ -14,6 +14,9 @@ pub mod message;
 pub mod order;
 pub mod reasons;
 
+// How many times the gateway sends its cancel of an order before it gives up; `rules` holds a book to it.
+pub const MAX_GATEWAY_CANCEL_TRIES: u8 = 3;
+
 // A request that the book knows: its link, the request, its order, and what the handling needs
 // beside them. Contracts name each part, as `known.now.link`: machine's definitions take them one by one, and
 // the theorems name those parameters. It is lent, and an event's record beside it comes by value: both can be

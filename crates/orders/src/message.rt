@@ -98,57 +98,57 @@ pub fn no_message() -> Record
     NO_MESSAGE
 }
 
-// A map with one more bit where the test holds.
+// A map with one more bit if the test holds.
 #[tactic(auto, using(crate::specs::Laws::Choices::choices))]
-fn with_bit_if(map: u32, t: bool, k: u32) -> u32
-    ensures { result ≡ with_bit_if map t k }
+fn with_bit_if(map: u32, test: bool, k: u32) -> u32
+    ensures { result ≡ with_bit_if map test k }
 {
-    if t { bits::with_bit(map, k) } else { map }
+    if test { bits::with_bit(map, k) } else { map }
 }
 
-// Price and time in force are there where the terms have them.
+// Price and time in force are there if the terms have them.
 #[tactic(auto, unfolding(crate::specs::Laws::Maps::with_terms))]
-fn with_terms(map: u32, t: Terms) -> u32
-    ensures { result ≡ with_terms map t }
+fn with_terms(map: u32, terms: Terms) -> u32
+    ensures { result ≡ with_terms map terms }
 {
-    let priced = with_bit_if(map, t.ordtype == codes::LIMIT, bit::PRICE);
-    with_bit_if(priced, t.timeinforce != 0, bit::TIMEINFORCE)
+    let priced = with_bit_if(map, terms.ordtype == codes::LIMIT, bit::PRICE);
+    with_bit_if(priced, terms.timeinforce != 0, bit::TIMEINFORCE)
 }
 
 #[tactic(auto, unfolding(crate::specs::Laws::Maps::with_note))]
-fn with_note(map: u32, n: Note) -> u32
-    ensures { result ≡ with_note map n }
+fn with_note(map: u32, note: Note) -> u32
+    ensures { result ≡ with_note map note }
 {
-    let given = n.origin != 0;
-    let said = with_bit_if(map, n.text.len != 0, bit::TEXT);
-    let worded = with_bit_if(said, n.fixedtext != 0, bit::FIXEDTEXT);
+    let given = note.origin != 0;
+    let said = with_bit_if(map, note.text.len != 0, bit::TEXT);
+    let worded = with_bit_if(said, note.fixedtext != 0, bit::FIXEDTEXT);
     let reasoned = with_bit_if(worded, given, bit::REASON);
     with_bit_if(reasoned, given, bit::ORIGIN)
 }
 
 #[tactic(auto, unfolding(crate::specs::Laws::Maps::report_map))]
-fn report_map(origclordid: Text, terms: Terms, n: Note) -> u32
-    ensures { result ≡ report_map (not (is_empty origclordid)) terms n }
+fn report_map(origclordid: Text, terms: Terms, note: Note) -> u32
+    ensures { result ≡ report_map (not (is_empty origclordid)) terms note }
 {
     let map = format::required_of(codes::REPORT);
     let named = with_bit_if(map, !is_empty(origclordid), bit::ORIGCLORDID);
     let ordered = with_terms(named, terms);
-    with_note(ordered, n)
+    with_note(ordered, note)
 }
 
 // A cancel reject's reason comes with its note.
 #[tactic(auto, unfolding(crate::specs::Laws::Maps::reject_map))]
-fn reject_map(name: Text, n: Note) -> u32
-    ensures { result ≡ reject_map (not (is_empty name)) n }
+fn reject_map(name: Text, note: Note) -> u32
+    ensures { result ≡ reject_map (not (is_empty name)) note }
 {
     let map = bits::with_bit(bits::with_bit(0, bit::CLIENT), bit::CLORDID);
     let told = bits::with_bit(bits::with_bit(map, bit::ORIGCLORDID), bit::STATUS);
     let answered = bits::with_bit(told, bit::RESPONSETO);
     let named = with_bit_if(answered, !is_empty(name), bit::NAME);
-    with_note(named, n)
+    with_note(named, note)
 }
 
-// The venue's OrderID is there where the order has one.
+// The venue's OrderID is there if the order has one.
 #[tactic(auto, unfolding(crate::specs::Laws::Maps::venue_map))]
 fn venue_map(kind: u8, venueorderid: Text, terms: Terms) -> u32
     ensures { result ≡ venue_map kind (not (is_empty venueorderid)) terms }
@@ -159,16 +159,16 @@ fn venue_map(kind: u8, venueorderid: Text, terms: Terms) -> u32
 }
 
 // What a report says that no event does.
-fn told_of(o: Order, price: Priced, n: Note) -> Told
-    ensures { result ≡ told_of o price n }
+fn told_of(o: Order, price: Priced, note: Note) -> Told
+    ensures { result ≡ told_of o price note }
 {
     let fillprice = price.price;
     Told {
         leavesqty: leaves_qty(o),
         execseq: o.state.execseq,
         fillprice,
-        fixedtext: n.fixedtext,
-        origin: n.origin,
+        fixedtext: note.fixedtext,
+        origin: note.origin,
         responseto: 0,
         source: price.source,
     }
@@ -185,15 +185,15 @@ pub fn report(
     exectype: u8,
     lastqty: u64,
     price: Priced,
-    n: Note,
+    note: Note,
 ) -> Record
-    ensures { result ≡ report o clordid origclordid exectype lastqty price n }
+    ensures { result ≡ report o clordid origclordid exectype lastqty price note }
 {
     Record {
         kind: codes::REPORT,
-        map: report_map(origclordid, o.terms, n),
+        map: report_map(origclordid, o.terms, note),
         client: o.client,
-        reason: n.reason,
+        reason: note.reason,
         ids: Ids {
             name: o.names.name,
             clordid,
@@ -210,13 +210,13 @@ pub fn report(
             avgpx: o.state.avgpx,
             ..NO_EXEC
         },
-        told: told_of(o, price, n),
-        text: n.text,
+        told: told_of(o, price, note),
+        text: note.text,
         ..NO_MESSAGE
     }
 }
 
-// An OrderCancelReject under the ClOrdIDs of the request. Where there is no order the name is
+// An OrderCancelReject under the ClOrdIDs of the request. If there is no order the name is
 // empty.
 #[tactic(auto, unfolding(machine::specs::Messages::cancel_reject), using(crate::specs::Laws::Maps::reject_map_lem))]
 pub fn cancel_reject(
@@ -226,15 +226,15 @@ pub fn cancel_reject(
     clordid: Text,
     origclordid: Text,
     responseto: u8,
-    n: Note,
+    note: Note,
 ) -> Record
-    ensures { result ≡ cancel_reject client name status clordid origclordid responseto n }
+    ensures { result ≡ cancel_reject client name status clordid origclordid responseto note }
 {
     Record {
         kind: codes::CANCEL_REJECT,
-        map: reject_map(name, n),
+        map: reject_map(name, note),
         client,
-        reason: n.reason,
+        reason: note.reason,
         ids: Ids {
             name,
             clordid,
@@ -243,12 +243,12 @@ pub fn cancel_reject(
         },
         exec: Exec { status, ..NO_EXEC },
         told: Told {
-            fixedtext: n.fixedtext,
-            origin: n.origin,
+            fixedtext: note.fixedtext,
+            origin: note.origin,
             responseto,
             ..NO_TOLD
         },
-        text: n.text,
+        text: note.text,
         ..NO_MESSAGE
     }
 }

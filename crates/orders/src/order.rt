@@ -29,14 +29,13 @@ pub fn has_gateway(o: Order) -> bool
     o.gateway.origdownstream != 0
 }
 
-// `Status::is_done`. `rules`, which this crate does not rest on, has the same `matches!`: its status.rt
-// says why.
+// `Status::is_done`.
 #[tactic(auto, unfolding(machine::specs::Orders::is_done))]
-pub fn is_done(s: u8) -> bool
-    ensures { result ≡ is_done s }
+pub fn is_done(status: u8) -> bool
+    ensures { result ≡ is_done status }
 {
     matches!(
-        s,
+        status,
         codes::FILLED | codes::CANCELED | codes::EXPIRED | codes::REJECTED
     )
 }
@@ -60,70 +59,70 @@ pub fn leaves_qty(o: Order) -> u64
     leaves_of(o.state.status, o.terms.qty, o.state.cumqty)
 }
 
-// A status as the Rust's questions take it: done for the day is New where the cumulative is 0, and
+// A status as the Rust's questions take it: done for the day is New if the cumulative is 0, and
 // PartiallyFilled above.
 #[tactic(auto, unfolding(machine::specs::Orders::as_asked), using(crate::specs::Laws::Choices::choices))]
-pub fn as_asked(cumqty: u64, s: u8) -> u8
-    ensures { result ≡ as_asked cumqty s }
+pub fn as_asked(cumqty: u64, status: u8) -> u8
+    ensures { result ≡ as_asked cumqty status }
 {
-    match s {
+    match status {
         codes::DONE_FOR_DAY if cumqty == 0 => codes::NEW,
         codes::DONE_FOR_DAY => codes::PARTIALLY_FILLED,
-        _ => s,
+        _ => status,
     }
 }
 
 // The status that `set_status` leaves: above a cumulative of 0, New and PendingNew are
 // PartiallyFilled.
 #[tactic(auto, unfolding(machine::specs::Orders::status_at), using(crate::specs::Laws::Choices::choices))]
-pub fn status_at(cumqty: u64, s: u8) -> u8
-    ensures { result ≡ status_at cumqty s }
+pub fn status_at(cumqty: u64, status: u8) -> u8
+    ensures { result ≡ status_at cumqty status }
 {
-    match s {
+    match status {
         codes::NEW | codes::PENDING_NEW if 0 < cumqty => codes::PARTIALLY_FILLED,
-        _ => s,
+        _ => status,
     }
 }
 
 // A Filled below the quantity. Three numbers, here and in the next two: callers take them from an order, a report
 // or a pending replace, so a struct would be built field by field at each call.
 #[tactic(auto, unfolding(machine::specs::Orders::is_short))]
-fn is_short(qty: u64, cumqty: u64, s: u8) -> bool
-    ensures { result ≡ is_short qty cumqty s }
+fn is_short(qty: u64, cumqty: u64, status: u8) -> bool
+    ensures { result ≡ is_short qty cumqty status }
 {
-    s == codes::FILLED && cumqty < qty
+    status == codes::FILLED && cumqty < qty
 }
 
 // The status that is set: New in place of a Filled below the quantity.
 #[tactic(auto, unfolding(machine::specs::Orders::unless_short), using(crate::specs::Laws::Choices::choices))]
-fn unless_short(qty: u64, cumqty: u64, s: u8) -> u8
-    ensures { result ≡ unless_short qty cumqty s }
+fn unless_short(qty: u64, cumqty: u64, status: u8) -> u8
+    ensures { result ≡ unless_short qty cumqty status }
 {
-    if is_short(qty, cumqty, s) {
+    if is_short(qty, cumqty, status) {
         codes::NEW
     } else {
-        s
+        status
     }
 }
 
 // The alarm of a Filled below the quantity.
 #[tactic(auto, unfolding(machine::specs::Orders::short_alarm), using(crate::specs::Laws::Choices::choices))]
-pub fn short_alarm(qty: u64, cumqty: u64, s: u8) -> Option<Alarm>
-    ensures { alarm_in result ≡ short_alarm qty cumqty s }
+pub fn short_alarm(qty: u64, cumqty: u64, status: u8) -> Option<Alarm>
+    ensures { alarm_in result ≡ short_alarm qty cumqty status }
 {
-    is_short(qty, cumqty, s).then_some(Alarm::FilledShort)
+    is_short(qty, cumqty, status).then_some(Alarm::FilledShort)
 }
 
 // A done order has nothing pending and no gateway cancel.
 #[tactic(auto, unfolding(machine::specs::Orders::set_status), using(crate::specs::Laws::Choices::choices))]
-pub fn set_status(s: u8, o: Order) -> Order
-    ensures { result ≡ set_status s o }
+pub fn set_status(status: u8, o: Order) -> Order
+    ensures { result ≡ set_status status o }
 {
     let cumqty = o.state.cumqty;
-    let status = status_at(cumqty, unless_short(o.terms.qty, cumqty, s));
+    let set = status_at(cumqty, unless_short(o.terms.qty, cumqty, status));
     let mut out = o;
-    out.state.status = status;
-    if is_done(status) {
+    out.state.status = set;
+    if is_done(set) {
         out.pending = store::no_pending();
         out.gateway = store::no_gateway();
     }
@@ -131,7 +130,7 @@ pub fn set_status(s: u8, o: Order) -> Order
 }
 
 // FIX's placeholder for no OrderID. A text to compare with, all its bytes, as the definition has it: format's
-// `is_none` looks at four bytes and the length alone, so it gives another answer where the rest is not zeros.
+// `is_none` looks at four bytes and the length alone, so it gives another answer if the rest is not zeros.
 #[tactic(auto, unfolding(prelude::specs::Texts::text_of))]
 pub fn text_none() -> Text
     ensures { result ≡ text_none }
@@ -181,12 +180,12 @@ pub fn pending_terms(o: Order) -> Terms
 
 // The order takes the pending terms and the names of the replace's request.
 #[tactic(auto, unfolding(machine::specs::Orders::apply_replace))]
-pub fn apply_replace(q: Request, o: Order) -> Order
-    ensures { result ≡ apply_replace q o }
+pub fn apply_replace(request: Request, o: Order) -> Order
+    ensures { result ≡ apply_replace request o }
 {
     let mut out = o;
-    out.names.clordid = q.clordid;
-    out.names.downstream = q.downstream;
+    out.names.clordid = request.clordid;
+    out.names.downstream = request.downstream;
     out.terms = pending_terms(o);
     out.links.current = o.pending.request;
     out.pending = store::no_pending();

@@ -6,8 +6,8 @@ use Rattle.prelude.specs.Cases.{if◌then◌otherwise◌}
 use Rattle.prelude.specs.Span.{splice}
 use Rattle.prelude.specs.Texts.{contents}
 use Rattle.decimal.specs.Decimal.{blank, decimal, right}
-use Rattle.counted.specs.declared.Counted.{Counted}
-use Rattle.counted.specs.Counted.{refusing, counting}
+use Rattle.prelude.specs.declared.Counted.{Counted}
+use Rattle.prelude.specs.Counted.{refusing, counting}
 use Rattle.store.specs.declared.Order.{Order}
 use Rattle.store.specs.Book.{Book, book_of}
 use Rattle.machine.specs.Orders.{leaves_qty}

@@ -5,7 +5,7 @@ use Rattle.std.specs.Prelude.{ℕ, ◌+◌, ◌*◌, ◌/◌, ◌%◌, ◌^◌, 
 use Rattle.prelude.specs.Span.{span}
 use Rattle.prelude.specs.declared.Text.{Text}
 use Rattle.decimal.specs.Decimal.{blank, point, decimal, is_digit, number_in}
-use Rattle.counted.specs.Counted.{refusing, counting}
+use Rattle.prelude.specs.Counted.{refusing, counting}
 use Rattle.store.specs.declared.Order.{Order}
 use Rattle.store.specs.Book.{book_of, order_in, order_count}
 use Rattle.machine.specs.Orders.{leaves_qty}

@@ -8,7 +8,7 @@ ghost use Rattle.prelude.specs.Cases.{if◌then◌otherwise◌};
 ghost use Rattle.prelude.specs.Span.{splice};
 ghost use Rattle.prelude.specs.Texts.{contents};
 ghost use Rattle.store.specs.Book.{book_of, order_count};
-ghost use Rattle.counted.specs.Counted.{counted_of};
+ghost use Rattle.prelude.specs.Counted.{counted_of};
 ghost use Rattle.page.specs.Page.{printable, left, quantity, line_of, line_bytes, page_of, page_bytes, paged, page_call};
 ghost use Rattle.page.specs.Promise.{InRange};
 
@@ -19,7 +19,7 @@ use store::Order;
 // A line, with its line feed.
 const LINE: usize = 81;
 
-// Byte i of a text, as it prints: a blank for one below 32, and behind the end.
+// Byte i of a text, as it prints: a byte below 32 is a blank, and so is each column behind the text's end.
 #[tactic(auto, using(crate::specs::Laws::Line::shows))]
 fn shown(t: Text, i: usize) -> u8
     requires { i < 32 }
@@ -32,9 +32,9 @@ fn shown(t: Text, i: usize) -> u8
     }
 }
 
-// A text from the left of its columns, filled with blanks. By index: `array::from_fn` was tried, and its proof
-// did not close, since the library has no law from what its closure gives to the items of the array; a part of
-// `s` lent to `iter_mut` would need the same invariant, said of the part and then of `s`.
+// A text from the left of its columns, filled with blanks. The loop goes by index: `array::from_fn` was tried, and
+// its proof did not close, since the library has no law from what its closure gives to the items of the array; a
+// part of `s` lent to `iter_mut` would need the same invariant, said of the part and then of `s`.
 #[tactic(auto, using(crate::specs::Laws::Line::columns), unfolding(prelude::specs::Texts::contents))]
 fn put_left(s: &mut [u8], at: usize, width: usize, t: Text)
     requires { (at + width ≤ length s.old) × (width ≤ 32) }
@@ -96,6 +96,6 @@ pub fn page(book: &[u8], out: &mut [u8]) -> Result<u32, Refusal>
         return Err(Refusal::ShortPage);
     }
     put_lines(&book, out);
-    // By `as`, which is proved to lose nothing.
+    // The cast by `as` is proved to lose nothing.
     Ok(long as u32)
 }

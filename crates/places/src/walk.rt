@@ -11,7 +11,7 @@ fn byte_or_0(s: &[u8], at: usize) -> usize
     usize::from(s.get(at).copied().unwrap_or(0))
 }
 
-#[tactic(auto, using(prelude::specs::Cases::if_true, prelude::specs::Cases::if_false), unfolding(format::specs::Places::extent))]
+#[tactic(auto, using(prelude::specs::Laws::Cases::if_true, prelude::specs::Laws::Cases::if_false), unfolding(format::specs::Places::extent))]
 fn extent_of(s: &[u8], b: u8, at: usize) -> usize
     ensures { (result ≡ extent s.now b at) × (result ≤ 256) }
 {
@@ -24,7 +24,7 @@ fn extent_of(s: &[u8], b: u8, at: usize) -> usize
 }
 
 // The position after field b, which starts at `at`.
-#[tactic(auto, using(prelude::specs::Cases::if_true, prelude::specs::Cases::if_false), unfolding(format::specs::Places::next))]
+#[tactic(auto, using(prelude::specs::Laws::Cases::if_true, prelude::specs::Laws::Cases::if_false), unfolding(format::specs::Places::next))]
 pub(crate) fn after(s: &[u8], map: u32, b: u8, at: usize) -> usize
     requires { at < 131072 }
     ensures { (result ≡ next s.now map b at) × (result ≤ at + 256) }

@@ -1,8 +1,8 @@
 pub mod Cases
 pub mod Below
 pub mod Lists
-pub mod Chains
 pub mod Refusal
+pub mod Counted
 pub mod Totals
 pub mod Span
 pub mod Number
@@ -10,3 +10,4 @@ pub mod Pieces
 pub mod Bytes
 pub mod Table
 pub mod Texts
+pub mod Laws

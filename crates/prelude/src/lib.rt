@@ -1,9 +1,10 @@
 // The words of the definitions: specs and laws that every crate cites, the types that records
-// and book share, and why a call is refused. Rests on the kit's library alone.
+// and book share, why a call is refused, and what it returns to a host. Rests on the kit's library alone.
 #![tactic(auto)]
 
 ghost use Rattle.std.specs.Prelude.{◌≡◌};
 ghost use Rattle.prelude.specs.Refusal.{number_of};
+ghost use Rattle.prelude.specs.Counted.{counted_of, refusal_of};
 
 // A text of at most 32 bytes: the bytes, zeros after the text, and its length, the form of docs/SCOPE.md.
 #[derive(Clone, Copy, Debug, PartialEq, Eq)]
@@ -51,5 +52,41 @@ impl Refusal {
     {
         // By `as`: std has nothing else that gives the number of a variant.
         self as u32
+    }
+}
+
+// What calls return to a host is a number beside a refusal, or the refusal alone. Inside, both are a `Result`.
+
+// The refusal, or 0 and the number that was asked for. With a refusal the number is 0. The C structure
+// has both fields, and the host's header names them: `opens` has a type of its own, with a quantity.
+#[repr(C)]
+#[derive(Clone, Copy)]
+pub struct Counted {
+    pub refusal: u32,
+    pub number: u32,
+}
+
+impl From<Result<u32, Refusal>> for Counted {
+    fn from(answer: Result<u32, Refusal>) -> Counted
+        ensures { result ≡ counted_of answer }
+    {
+        match answer {
+            Ok(number) => Counted { refusal: 0, number },
+            Err(refusal) => Counted {
+                refusal: refusal.number(),
+                number: 0,
+            },
+        }
+    }
+}
+
+// The number of the refusal, or 0. Written by way of `Counted::from`, which needs an answer with a number, it
+// would be no plainer.
+pub fn refusal_of(answer: Result<(), Refusal>) -> u32
+    ensures { result ≡ refusal_of answer }
+{
+    match answer {
+        Ok(()) => 0,
+        Err(refusal) => refusal.number(),
     }
 }

@@ -1,7 +1,7 @@
 -- The first bytes of a list and what is behind them, as ranges of a slice give them and as a word reads them. Assumes nothing.
 use Rattle.std.proofs.Common.{◌≡◌, ℕ, ◌≤◌, ◌<◌, ◌+◌, ◌-◌, min, List, [], ◌∷◌, ap, ◌∙◌, length, take, drop, refl, arith, length-drop, take_all, drop_of_length-le, get_or}
 use Rattle.std.proofs.Math.Decide.{dec_le}
-use Rattle.prelude.specs.Span.{length_span}
+use Rattle.prelude.specs.Laws.Span.{length_span}
 use Rattle.prelude.specs.Number.{number, word64}
 use Rattle.format.specs.Laws.Seen.{Rising, between}
 

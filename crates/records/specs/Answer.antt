@@ -12,8 +12,8 @@ use Rattle.records.specs.Record.{record_bytes, record_at, is_message}
 use Rattle.format.specs.Refusal.{ranged, refusal_by, message_shaped}
 
 -- the head: the whole length in 2 bytes, how many messages, the alarm, the second alarm
-abbrev pub marks : (count alarm alarm2 : ℕ) → List ℕ
-marks count alarm alarm2 = count ∷ alarm ∷ alarm2 ∷ []
+abbrev pub head_counts : (count alarm alarm2 : ℕ) → List ℕ
+head_counts count alarm alarm2 = count ∷ alarm ∷ alarm2 ∷ []
 
 abbrev pub head_size : ℕ
 head_size = 5
@@ -37,6 +37,10 @@ most_record = 399
 abbrev pub most_answer : ℕ
 most_answer = head_size + 2 * most_record
 
+-- the shortest answer buffer that is taken
+abbrev pub shortest_answer : ℕ
+shortest_answer = 1024
+
 -- ---- written
 
 abbrev pub messages_bytes : List Record → List ℕ
@@ -44,7 +48,7 @@ messages_bytes [] = []
 messages_bytes (m ∷ ms) = record_bytes m ++ messages_bytes ms
 
 unfoldable pub head_bytes : (n count alarm alarm2 : ℕ) → List ℕ
-head_bytes n count alarm alarm2 = bytes_of 2 n ++ marks count alarm alarm2
+head_bytes n count alarm alarm2 = bytes_of 2 n ++ head_counts count alarm alarm2
 
 unfoldable pub answer_bytes : (alarm alarm2 : ℕ) → List Record → List ℕ
 answer_bytes alarm alarm2 ms = head_bytes (head_size + length (messages_bytes ms)) (length ms) alarm alarm2 ++ messages_bytes ms

@@ -10,3 +10,4 @@ pub mod Accepted
 pub mod Ranges
 pub mod RoundTrip
 pub mod Refused
+pub mod Cut

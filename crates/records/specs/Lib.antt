@@ -3,4 +3,5 @@ pub mod Record
 pub mod Answer
 pub mod RoundTrip
 pub mod Parts
+pub mod Place
 pub mod Laws

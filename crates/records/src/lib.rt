@@ -1,5 +1,6 @@
 // Events and messages: the record, read and written. Rests on format and places; the modules `shape`,
-// `fields`, `scan`, `take` and `put` do the work, and `parts` gives a message in place.
+// `fields`, `scan`, `take` and `put` do the work, `parts` gives a message in place, and `cut` says where a
+// message of an answer stands.
 #![tactic(auto)]
 
 ghost use Rattle.std.specs.Prelude.{◌≡◌, true, false, ◌<◌, ◌+◌, ◌≤◌, leb, length, IfOk, IfErr};
@@ -10,11 +11,12 @@ ghost use Rattle.prelude.specs.declared.Refusal.TheVariants.{OutOfRange};
 ghost use Rattle.format.specs.Refusal.{name_in, ranged, event_refusal};
 ghost use Rattle.records.specs.Record.{record_bytes, record_at, event_in};
 ghost use Rattle.records.specs.Laws.Seen.{Numbered, MessagesIn, refusal_from};
-ghost use Rattle.records.specs.Answer.{head_size, head_bytes, messages_bytes, answer_bytes, chosen, count_in, answer_refusal, messages_of, ReadsAnswer};
+ghost use Rattle.records.specs.Answer.{head_size, shortest_answer, head_bytes, messages_bytes, answer_bytes, chosen, count_in, answer_refusal, messages_of, ReadsAnswer};
 
 use format::{bit, codes};
 use prelude::{Refusal, Terms, Text};
 
+pub mod cut;
 mod fields;
 pub mod parts;
 mod put;
@@ -26,6 +28,9 @@ use shape::Shape;
 
 // The head of an answer: its length in 2 bytes, how many messages, the alarm, the second alarm.
 pub const HEAD: usize = 5;
+
+// The shortest answer buffer that is taken.
+pub const SHORTEST_ANSWER: usize = 1024;
 
 const COUNT: usize = 2;
 
@@ -106,17 +111,6 @@ pub enum Messages {
 }
 
 impl Messages {
-    // None, the first, or both.
-    fn of(count: u8, first: Record, second: Record) -> Messages
-        ensures { messages_of result ≡ chosen count first second }
-    {
-        match count {
-            0 => Messages::Nothing,
-            1 => Messages::One(first),
-            _ => Messages::Two(first, second),
-        }
-    }
-
     // How many they are.
     pub fn count(&self) -> u32
         ensures { result ≡ length (messages_of self.now) }
@@ -189,67 +183,78 @@ fn put_record(dst: &mut [u8], o: usize, r: &Record) -> usize
 }
 
 // Writes the head of an answer that ends at n.
-fn put_head(dst: &mut [u8], n: usize, answer: &Answer)
+fn put_head(dst: &mut [u8], n: usize, count: u8, alarm: u8, alarm2: u8)
     requires { head_size ≤ length dst.old }
-    ensures { dst.new ≡ splice dst.old 0 (head_bytes n (length (messages_of answer.now.messages)) answer.now.alarm answer.now.alarm2) }
+    ensures { dst.new ≡ splice dst.old 0 (head_bytes n count alarm alarm2) }
 {
-    // By `as`: std has no `From<usize>` for u64, and a count is at most 2.
+    // By `as`: std has no `From<usize>` for u64.
     fields::put_number(dst, 0, n as u64, COUNT);
-    let count = answer.messages.count() as u8;
-    dst[COUNT..HEAD].copy_from_slice(&[count, answer.alarm, answer.alarm2]);
+    dst[COUNT..HEAD].copy_from_slice(&[count, alarm, alarm2]);
 }
 
-// Writes messages behind a head, and returns where they end.
-fn put_messages(dst: &mut [u8], messages: &Messages) -> usize
-    requires { 1024 ≤ length dst.old }
-    ensures { (result ≡ head_size + length (messages_bytes (messages_of messages.now))) × (dst.new ≡ splice dst.old head_size (messages_bytes (messages_of messages.now))) }
+// Writes none, the first or both behind a head, and returns where they end.
+fn put_chosen(dst: &mut [u8], count: u8, first: &Record, second: &Record) -> usize
+    requires { shortest_answer ≤ length dst.old }
+    ensures { (result ≡ head_size + length (messages_bytes (chosen count first.now second.now))) × (dst.new ≡ splice dst.old head_size (messages_bytes (chosen count first.now second.now))) }
 {
-    match messages {
-        Messages::Nothing => HEAD,
-        Messages::One(first) => put_record(dst, HEAD, first),
-        Messages::Two(first, second) => {
+    match count {
+        0 => HEAD,
+        1 => put_record(dst, HEAD, first),
+        _ => {
             let p = put_record(dst, HEAD, first);
             put_record(dst, p, second)
         }
     }
 }
 
-// Writes an answer, and returns its length; writes nothing, and returns 0, if the buffer is shorter than 1,024
-// bytes. 0 and no Result: `write_answer`, which C's answers go through, promises 0, and would turn the Result
-// back.
-pub fn write(answer: &mut [u8], read: &Answer) -> u32
-    ensures { (result ≡ (if leb 1024 (length answer.old) then length (answer_bytes read.now.alarm read.now.alarm2 (messages_of read.now.messages)) otherwise 0)) × (answer.new ≡ (if leb 1024 (length answer.old) then splice answer.old 0 (answer_bytes read.now.alarm read.now.alarm2 (messages_of read.now.messages)) otherwise answer.old)) }
+// Writes messages behind a head, and returns where they end.
+fn put_messages(dst: &mut [u8], messages: &Messages) -> usize
+    requires { shortest_answer ≤ length dst.old }
+    ensures { (result ≡ head_size + length (messages_bytes (messages_of messages.now))) × (dst.new ≡ splice dst.old head_size (messages_bytes (messages_of messages.now))) }
 {
-    if answer.len() < 1024 {
+    match messages {
+        Messages::Nothing => HEAD,
+        Messages::One(first) => put_chosen(dst, 1, first, first),
+        Messages::Two(first, second) => put_chosen(dst, 2, first, second),
+    }
+}
+
+// Writes an answer, and returns its length; writes nothing, and returns 0, if the buffer is shorter than
+// `SHORTEST_ANSWER`. 0 and no Result: `write_answer`, which C's answers go through, promises 0, and would turn the
+// Result back.
+pub fn write(answer: &mut [u8], read: &Answer) -> u32
+    ensures { (result ≡ (if leb shortest_answer (length answer.old) then length (answer_bytes read.now.alarm read.now.alarm2 (messages_of read.now.messages)) otherwise 0)) × (answer.new ≡ (if leb shortest_answer (length answer.old) then splice answer.old 0 (answer_bytes read.now.alarm read.now.alarm2 (messages_of read.now.messages)) otherwise answer.old)) }
+{
+    if answer.len() < SHORTEST_ANSWER {
         return 0;
     }
     let end = put_messages(answer, &read.messages);
-    put_head(answer, end, read);
-    // An answer has at most 1,024 bytes: `as` is proved to lose nothing.
+    // A count is at most 2, and an answer has at most `SHORTEST_ANSWER` bytes: `as`, here and in
+    // `write_answer`, is proved to lose nothing.
+    let count = read.messages.count() as u8;
+    put_head(answer, end, count, read.alarm, read.alarm2);
     end as u32
 }
 
 // Writes an answer of at most two messages, as `write` does. It takes a count with two records, as the first
-// version did: any byte may stand in the count.
+// version did: any byte may stand in the count. The records are lent: an answer's `Messages` would be a copy of
+// both.
 pub fn write_answer(
     answer: &mut [u8],
     alarm: u8,
     alarm2: u8,
     count: u8,
-    first: Record,
-    second: Record,
+    first: &Record,
+    second: &Record,
 ) -> u32
-    ensures { (result ≡ (if leb 1024 (length answer.old) then length (answer_bytes alarm alarm2 (chosen count first second)) otherwise 0)) × (answer.new ≡ (if leb 1024 (length answer.old) then splice answer.old 0 (answer_bytes alarm alarm2 (chosen count first second)) otherwise answer.old)) }
+    ensures { (result ≡ (if leb shortest_answer (length answer.old) then length (answer_bytes alarm alarm2 (chosen count first.now second.now)) otherwise 0)) × (answer.new ≡ (if leb shortest_answer (length answer.old) then splice answer.old 0 (answer_bytes alarm alarm2 (chosen count first.now second.now)) otherwise answer.old)) }
 {
-    let messages = Messages::of(count, first, second);
-    write(
-        answer,
-        &Answer {
-            alarm,
-            alarm2,
-            messages,
-        },
-    )
+    if answer.len() < SHORTEST_ANSWER {
+        return 0;
+    }
+    let end = put_chosen(answer, count, first, second);
+    put_head(answer, end, count.min(2), alarm, alarm2);
+    end as u32
 }
 
 // The one message behind the head of an answer.

@@ -33,7 +33,7 @@ fn says_unknown_at_venue(e: Record) -> bool
 {
     e.exec.exectype == codes::EXEC_STATUS
         && e.exec.status == codes::REJECTED
-        && amend::has(e, bit::REASON)
+        && change::has(e, bit::REASON)
         && e.reason == UNKNOWN_ORDER
 }
 
@@ -68,18 +68,18 @@ fn pending_here(known: &Known) -> bool
 }
 
 // New, or filled in part.
-fn is_working(s: u8) -> bool
-    ensures { result ≡ (eqb s new || eqb s partially_filled) }
+fn is_working(status: u8) -> bool
+    ensures { result ≡ (eqb status new || eqb status partially_filled) }
 {
-    matches!(s, codes::NEW | codes::PARTIALLY_FILLED)
+    matches!(status, codes::NEW | codes::PARTIALLY_FILLED)
 }
 
 // A cancel or a replace is pending. The same two codes as in amend's `not_pending`: a public function for the
 // two would be longer than the pattern.
-fn is_pending(s: u8) -> bool
-    ensures { result ≡ (eqb s pending_cancel || eqb s pending_replace) }
+fn is_pending(status: u8) -> bool
+    ensures { result ≡ (eqb status pending_cancel || eqb status pending_replace) }
 {
-    matches!(s, codes::PENDING_CANCEL | codes::PENDING_REPLACE)
+    matches!(status, codes::PENDING_CANCEL | codes::PENDING_REPLACE)
 }
 
 // The report's status would roll the order's back.
@@ -111,14 +111,14 @@ fn stale(known: &Known, e: Record) -> bool
 
 // The report changes nothing.
 #[tactic(auto, unfolding(machine::specs::Report::repeats))]
-fn repeats(k: u16, o: Order, e: Record) -> bool
-    ensures { result ≡ repeats k o e }
+fn repeats(link: u16, o: Order, e: Record) -> bool
+    ensures { result ≡ repeats link o e }
 {
     let news = matches!(
         e.exec.exectype,
         codes::EXEC_RESTATED | codes::EXEC_REPLACED | codes::EXEC_DONE_FOR_DAY
     );
-    o.links.current == k
+    o.links.current == link
         && e.exec.status == o.state.status
         && e.exec.cumqty == o.state.cumqty
         && e.exec.lastqty == 0
@@ -186,20 +186,20 @@ fn ordered_qty(accepted: bool, o: Order) -> u64
 
 // The order with the replace applied that the report accepts.
 #[tactic(auto, using(orders::specs::Laws::Choices::choices))]
-fn replaced_order(accepted: bool, q: Request, o: Order) -> Order
-    ensures { result ≡ (if accepted then apply_replace q o otherwise o) }
+fn replaced_order(accepted: bool, request: Request, o: Order) -> Order
+    ensures { result ≡ (if accepted then apply_replace request o otherwise o) }
 {
     if accepted {
-        order::apply_replace(q, o)
+        order::apply_replace(request, o)
     } else {
         o
     }
 }
 
-// The order with the report's quantities and status; `s` is 0 where the status stays.
+// The order with the report's quantities and status; `status` is 0 if the order's own stays.
 #[tactic(auto, unfolding(machine::specs::Report::reported_order), using(orders::specs::Laws::Choices::choices))]
-fn reported_order(accepted: bool, s: u8, known: &Known, e: Record) -> Order
-    ensures { result ≡ reported_order accepted s known.now.request known.now.order e }
+fn reported_order(accepted: bool, status: u8, known: &Known, e: Record) -> Order
+    ensures { result ≡ reported_order accepted status known.now.request known.now.order e }
 {
     let o = known.order;
     let named = order::record_venue_order_id(e.ids.venueorderid, accepted, o);
@@ -207,10 +207,10 @@ fn reported_order(accepted: bool, s: u8, known: &Known, e: Record) -> Order
     order.state = o.state;
     order.state.cumqty = e.exec.cumqty;
     order.state.avgpx = e.exec.avgpx;
-    if s == 0 {
+    if status == 0 {
         order::set_status(o.state.status, order)
     } else {
-        order::set_status(s, order)
+        order::set_status(status, order)
     }
 }
 
@@ -240,7 +240,7 @@ fn report_note(e: Record) -> Note
     n.text = e.text;
     if is_rejection(e) {
         n.reason = e.reason;
-        if amend::has(e, bit::REASON) {
+        if change::has(e, bit::REASON) {
             n.origin = reasons::VENUES;
         }
     }
@@ -270,26 +270,26 @@ fn client_report(known: &Known, rise: u64, price: Priced, left: Order, e: Record
 // The requests that the report answers, which are accepted: a replace and the one that it supersedes,
 // or a cancel that was Canceled.
 #[tactic(auto, unfolding(machine::specs::Report::settles), using(orders::specs::Laws::Choices::choices))]
-fn settles(accepted: bool, s: u8, known: &Known, c: Change) -> Change
-    ensures { result ≡ settles accepted s known.now.link known.now.request known.now.order c }
+fn settles(accepted: bool, status: u8, known: &Known, change: Change) -> Change
+    ensures { result ≡ settles accepted status known.now.link known.now.request known.now.order change }
 {
     if accepted {
-        let answered = change::answering(known.link, outcomes::ACCEPTED, c);
+        let answered = change::answering(known.link, outcomes::ACCEPTED, change);
         return change::superseding(known.order.links.current, answered);
     }
-    if change::is_cancel(known.request) && s == codes::CANCELED {
-        return change::answering(known.link, outcomes::ACCEPTED, c);
+    if change::is_cancel(known.request) && status == codes::CANCELED {
+        return change::answering(known.link, outcomes::ACCEPTED, change);
     }
-    c
+    change
 }
 
 // The change of a report that leaves the order as it is given, with an alarm or none.
 #[tactic(auto, using(crate::specs::Laws::Alarmed::alarming_settles))]
-fn settling(alarm: Option<Alarm>, accepted: bool, s: u8, known: &Known, left: Order) -> Change
-    ensures { result ≡ alarming (alarm_in alarm) (settles accepted s known.now.link known.now.request known.now.order (unchanged known.now.findings.place left)) }
+fn settling(alarm: Option<Alarm>, accepted: bool, status: u8, known: &Known, left: Order) -> Change
+    ensures { result ≡ alarming (alarm_in alarm) (settles accepted status known.now.link known.now.request known.now.order (unchanged known.now.findings.place left)) }
 {
     let c = change::raising_if(alarm, known.findings.place, left);
-    settles(accepted, s, known, c)
+    settles(accepted, status, known, c)
 }
 
 // The report is applied, and a short Filled raises its alarm: `most` is the quantity once an

@@ -34,8 +34,8 @@ fn link_ok(book: &Bytes, k: usize, o: usize, link: u16) -> bool
         )
 }
 
-// The OrigClOrdID of request k of order o. One that is there is the same as a ClOrdID before it, which is
-// in range, and so needs no look at its own zeros.
+// The OrigClOrdID of request k of order o. If it has one, that equals a ClOrdID before it, which
+// is in range: so its own zeros need no look.
 #[tactic(auto, using(crate::proofs::Fields::request_fields, crate::specs::Laws::Origin::origin_empty, crate::specs::Laws::Origin::origin_absent, crate::specs::Laws::Origin::origin_linked, crate::specs::Laws::Origin::linked_text), unfolding(machine::specs::Changes::is_first, machine::specs::Changes::is_gateway, crate::specs::Laws::Origin::origin_here))]
 pub(crate) fn origin_ok(book: &Bytes, k: usize, o: usize) -> bool
     requires { (k < most_requests) × ((request_at book.now k).order ≡ o) × ((i : ℕ) → i < k → is_text (request_at book.now i).clordid ≡ true) }

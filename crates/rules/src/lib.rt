@@ -1,7 +1,7 @@
 // The rules of the book that a buffer is, decided in place: `keeps`, and a book that is known to keep
-// them, `Kept`. Rests on machine's definitions of the rules and on index's of what is stored to be found
-// quickly, on store's layout, and on text, words, bits and format. Its cost grows with the records in use. A
-// test of a few fields joins its parts by `&` and `|`, which no branch goes with; `&&` and `||` stand where a
+// them, `Kept`. Rests on machine's definitions of the rules, on index's of what is stored to be found
+// quickly, on store's layout, and on orders, text, words, bits and format. Its cost grows with the records in use. A
+// test of a few fields joins its parts by `&` and `|`, which need no branch; `&&` and `||` stand where a
 // part costs more than a branch. That an index is of a record, or a number below 1,000, stands in the
 // contracts: a type for it would be made at each turn of a loop and taken apart for each byte.
 #![tactic(auto)]
@@ -26,7 +26,6 @@ mod numbered; // a name with a number
 mod numbers; // requests
 mod cells; // words and texts at an index
 mod ranges; // fields in their ranges
-mod status; // a done status
 
 pub use checked::Kept;
 

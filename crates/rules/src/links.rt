@@ -1,4 +1,4 @@
-// One order: the requests that its links name, its counts and its status. Rests on store's marks, status
+// One order: the requests that its links name, its counts and its status. Rests on store's flags, orders
 // and cells.
 ghost use Rattle.std.specs.Prelude.{◌≡◌, ℕ, ◌+◌, ◌-◌, ◌<◌, true, false, ◌==◌, nat_le, slice_index, MatchOption};
 ghost use Rattle.prelude.specs.Below.{all_below, count_below};
@@ -12,16 +12,14 @@ ghost use Rattle.rules.specs.Laws.Here.{of_order_at, linked_at, optional_at, cou
 
 use crate::book::Book;
 use crate::cells::{same_at, u16_at, u64_at};
-use crate::status::is_done;
 use format::codes;
+use orders::MAX_GATEWAY_CANCEL_TRIES;
+use orders::order::is_done;
 use store::layout::{self, Bytes};
 use store::{kinds, unsent_of};
 
-// The most tries of a gateway cancel, and of one that is unsent: counts. gateway_cancel has the same 3 for
-// what it does: each is machine's `most_tries` by its contracts, and neither crate rests on the other.
-const MOST_TRIES: u8 = 3;
-
-const MOST_UNSENT: u8 = MOST_TRIES - 1;
+// The most tries of a gateway cancel that is unsent.
+const MOST_UNSENT: u8 = MAX_GATEWAY_CANCEL_TRIES - 1;
 
 // The request of a link, if it is there and is order i's.
 #[tactic(auto, using(crate::proofs::Fields::request_fields), unfolding(crate::specs::Laws::Here::own_at))]
@@ -103,14 +101,14 @@ fn status_ok(cumqty: u64, status: u8) -> bool
     (cumqty == 0) | !((status == codes::PENDING_NEW) | (status == codes::NEW))
 }
 
-// At most so many, and one fewer where unsent.
+// The tries are at most so many, and one fewer if the last is unsent.
 fn tries_ok(tries: u8, unsent: bool) -> bool
     ensures { result ≡ nat_le tries (if unsent then most_tries - 1 otherwise most_tries) }
 {
     if unsent {
         tries <= MOST_UNSENT
     } else {
-        tries <= MOST_TRIES
+        tries <= MAX_GATEWAY_CANCEL_TRIES
     }
 }
 

@@ -1,5 +1,5 @@
 // One request: its fields' ranges, its outcome, its order, its number among its order's, a gateway cancel
-// in flight, and its OrigClOrdID's link. Rests on store's marks, beside, numbered, status and cells.
+// in flight, and its OrigClOrdID's link. Rests on store's flags, orders, beside, numbered and cells.
 // A struct of book, request, order and number would be made and taken apart again for each request.
 ghost use Rattle.std.specs.Prelude.{◌≡◌, ℕ, ◌+◌, ◌<◌, ◌≤◌, true, false, ◌&&◌, MatchOption};
 ghost use Rattle.prelude.specs.Below.{all_below};
@@ -17,11 +17,11 @@ use crate::beside::origin_ok;
 use crate::book::Book;
 use crate::cells::{filled, same_at, u16_at};
 use crate::numbered::numbered;
-use crate::status::is_done;
+use orders::order::is_done;
 use store::layout::{self, Bytes};
 use store::{kinds, outcomes, stuck_of, unsent_of};
 
-// A text that is there exactly where it is not absent, zeros after it.
+// A text, zeros after it, that is empty exactly if it is to be absent.
 fn optional(book: &Bytes, at: usize, absent: bool) -> bool
     requires { at + 33 ≤ book_size }
     ensures { result ≡ (if absent then text_within 0 0 (text_at book.now at) otherwise text_within 1 32 (text_at book.now at)) }
@@ -42,7 +42,7 @@ fn fields_ok(book: &Bytes, j: usize) -> bool
         & optional(book, at + layout::REQUEST_CLORDID, kind == kinds::GATEWAY)
 }
 
-// Outcome 0 exactly where request j is unanswered, and at most 3.
+// The outcome is at most 3, and 0 exactly if request j is unanswered.
 #[tactic(auto, using(crate::proofs::Fields::request_fields, crate::specs::Laws::Here::outcome_mark), unfolding(machine::specs::Changes::is_answered, machine::specs::Rules::outcome_rule))]
 fn outcome_ok(book: &Bytes, j: usize) -> bool
     requires { j < most_requests }
@@ -68,7 +68,7 @@ fn named(book: &Bytes, j: usize, o: usize, k: u16) -> bool
     }
 }
 
-// Just number 0 is a first request.
+// Number 0 of an order, and no other, is a first request.
 #[tactic(auto, using(std::proofs::lemmas::Bool::and_right, crate::proofs::Fields::request_fields, crate::specs::Laws::Here::number_kind), unfolding(machine::specs::Changes::is_first, machine::specs::Rules::number_rule))]
 fn number_ok(book: &Bytes, j: usize, o: usize, k: u16) -> bool
     requires { (j < most_requests) × (o < most_orders) × (k < 1000) × (name_range (order_at book.now o).names.name ≡ true) }

@@ -1,4 +1,4 @@
-// Every field of an order is in its range. Rests on format, store's marks and cells.
+// Every field of an order is in its range. Rests on format, store's flags and cells.
 ghost use Rattle.std.specs.Prelude.{◌≡◌, ◌+◌, ◌<◌, ◌≤◌};
 ghost use Rattle.prelude.specs.Below.{all_below};
 ghost use Rattle.prelude.specs.Texts.{text_at};
@@ -15,7 +15,7 @@ use format::codes;
 use store::layout::{self, Bytes};
 use store::{stuck_of, unsent_of};
 
-// A text of low to high bytes, zeros after it.
+// A text is low to high bytes long, with zeros after it.
 #[tactic(auto, unfolding(machine::specs::Ranges::text_within))]
 fn within(book: &Bytes, at: usize, low: u8, high: u8) -> bool
     requires { at + 33 ≤ book_size }
@@ -46,7 +46,7 @@ fn letters(book: &Bytes, at: usize, len: u8) -> bool
     ok
 }
 
-#[tactic(auto, using(prelude::specs::Span::get_span), unfolding(format::specs::Codes::is_none))]
+#[tactic(auto, using(prelude::specs::Laws::Span::get_span), unfolding(format::specs::Codes::is_none))]
 fn is_none(book: &Bytes, at: usize) -> bool
     requires { at + 33 ≤ book_size }
     ensures { result ≡ is_none (text_at book.now at) }
@@ -111,7 +111,7 @@ fn terms_ok(book: &Bytes, i: usize) -> bool
 }
 
 // No pending terms are all zero.
-#[tactic(auto, using(crate::proofs::Fields::order_fields, prelude::specs::Cases::if_true, prelude::specs::Cases::if_false), unfolding(machine::specs::Rules::pending_range))]
+#[tactic(auto, using(crate::proofs::Fields::order_fields, prelude::specs::Laws::Cases::if_true, prelude::specs::Laws::Cases::if_false), unfolding(machine::specs::Rules::pending_range))]
 fn pending_ok(book: &Bytes, i: usize) -> bool
     requires { i < most_orders }
     ensures { result ≡ pending_range (order_at book.now i).pending }
@@ -128,7 +128,7 @@ fn pending_ok(book: &Bytes, i: usize) -> bool
     }
 }
 
-// Not both marks; no gateway cancel is all zero.
+// Not both flags; no gateway cancel is all zero.
 #[tactic(auto, using(crate::proofs::Fields::order_fields), unfolding(machine::specs::Rules::gateway_range))]
 fn gateway_ok(book: &Book<'_>, i: usize) -> bool
     requires { i < book.now.orders }

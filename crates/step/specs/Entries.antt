@@ -1,10 +1,10 @@
 -- What the entries `start`, `event` and `check` of gateway do, on bytes: what each returns and what it leaves in each buffer that it is lent.
--- Rests on rules (`keeps_of`), index (`origin_of`), records (`event_in`, `answer_bytes`), machine (`step_of`) and store (the book in its bytes).
+-- Rests on rules (`keeps_of`), index (`origin_of`), records (`event_in`, `answer_bytes`, `shortest_answer`), machine (`step_of`) and store (the book in its bytes).
 use Rattle.std.specs.Prelude.{ℕ, ◌-◌, not, List, eqb, leb, ltb, length}
 use Rattle.prelude.specs.Cases.{if◌then◌otherwise◌, maybe}
 use Rattle.prelude.specs.Span.{splice}
 use Rattle.records.specs.Record.{event_in}
-use Rattle.records.specs.Answer.{answer_bytes}
+use Rattle.records.specs.Answer.{shortest_answer, answer_bytes}
 use Rattle.store.specs.declared.Order.{Order}
 use Rattle.store.specs.Book.{Book, is_book, order_count, book_of, store_order, add_order, add_request, mark_answered, store_open, blank}
 use Rattle.store.specs.Finds.{find_client}
@@ -53,28 +53,28 @@ book_with b c = place_open (tables_with b c) (after (book_of b) c) c.place c.ord
 -- ---- the entries
 
 -- what a call returns, and what its buffers are then
-pub record Outcome : Type 0 where
+pub record Returned : Type 0 where
   pub returned : ℕ
   pub book : List ℕ
   pub answer : List ℕ
 
-abbrev pub outcome : (returned : ℕ) (book answer : List ℕ) → Outcome
-outcome n b a = record { returned = n; book = b; answer = a }
+abbrev pub returned : (number : ℕ) (book answer : List ℕ) → Returned
+returned n b a = record { returned = n; book = b; answer = a }
 
 -- the questions in their order, of a book, a record and the answer buffer's length: the first no gives its number. `step_of` asks 5, 6 and 7.
 unfoldable pub call_of : (book event : List ℕ) (room : ℕ) → Change
 call_of b r room =
     if not (keeps_of b) then refusing 1
-    otherwise if ltb room 1024 then refusing 2
+    otherwise if ltb room shortest_answer then refusing 2
     otherwise if not (eqb (event_refusal r) 0) then refusing (event_refusal r)
     otherwise step_of (book_of b) (event_in r)
 
 -- `event`: a refused one has written nothing anywhere
-unfoldable pub event_of : (book event answer : List ℕ) → Outcome
+unfoldable pub event_of : (book event answer : List ℕ) → Returned
 event_of b r a =
     let c = call_of b r (length a) in
-    if eqb c.refusal 0 then outcome 0 (book_with b c) (splice a 0 (answer_bytes c.output.alarm c.output.alarm2 (messages_of c)))
-    otherwise outcome c.refusal b a
+    if eqb c.refusal 0 then returned 0 (book_with b c) (splice a 0 (answer_bytes c.output.alarm c.output.alarm2 (messages_of c)))
+    otherwise returned c.refusal b a
 
 -- `start`: zeros but for the setting, or nothing where the length is another
 unfoldable pub start_refusal : List ℕ → ℕ

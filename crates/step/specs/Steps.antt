@@ -8,7 +8,7 @@ use Rattle.store.specs.Finds.{count_clordids}
 use Rattle.store.specs.Requests.{no_request}
 use Rattle.machine.specs.declared.Findings.{Findings}
 use Rattle.machine.specs.declared.Change.{Change}
-use Rattle.machine.specs.Constants.{failed_to_send}
+use Rattle.machine.specs.Constants.{failed_to_send, event_cancel, event_report, event_unknown, event_cancel_reject, event_send_failed}
 use Rattle.machine.specs.Changes.{Event}
 use Rattle.machine.specs.Amend.{cancel, replace, venue_cancel_reject, send_failed, unsent}
 use Rattle.machine.specs.Report.{unknown_at_venue}
@@ -30,20 +30,20 @@ is_full b client = leb b.setting (count_clordids b client)
 -- ---- events by kind
 
 unfoldable pub amended : Book → Event → Change
-amended b e = if eqb e.kind 2 then amending cancel b e otherwise amending replace b e
+amended b e = if eqb e.kind event_cancel then amending cancel b e otherwise amending replace b e
 
 -- events 4 to 8 on the request that they name
-unfoldable pub handled : Event → Findings → ℕ → Request → Order → Change
-handled e f k q o =
-    if eqb e.kind 4 then on_report e f k q o
-    otherwise if eqb e.kind 5 then unknown_at_venue f k o e
-    otherwise if eqb e.kind 6 then venue_cancel_reject f k q o e
-    otherwise if eqb e.kind 7 then send_failed f k q e.venue failed_to_send (text_note e) o
-    otherwise unsent f k q e.venue o
+unfoldable pub handled : Event → Findings → (link : ℕ) → Request → Order → Change
+handled event findings link request order =
+    if eqb event.kind event_report then on_report event findings link request order
+    otherwise if eqb event.kind event_unknown then unknown_at_venue findings link order event
+    otherwise if eqb event.kind event_cancel_reject then venue_cancel_reject findings link request order event
+    otherwise if eqb event.kind event_send_failed then send_failed findings link request event.venue failed_to_send (text_note event) order
+    otherwise unsent findings link request event.venue order
 
 -- and where they name none
 unfoldable pub unknown_of : Event → Change
-unknown_of e = if leb e.kind 6 then unknown_report otherwise nothing
+unknown_of e = if leb e.kind event_cancel_reject then unknown_report otherwise nothing
 
 -- ---- question 7
 

@@ -108,7 +108,7 @@ fn handle(known: &Known, e: Record) -> Change
 }
 
 // Events 4 to 8.
-#[tactic(auto, unfolding(machine::specs::Machine::on_request), using(crate::specs::Laws::Found::order_few, prelude::specs::Cases::maybe_some, prelude::specs::Cases::maybe_none))]
+#[tactic(auto, unfolding(machine::specs::Machine::on_request), using(crate::specs::Laws::Found::order_few, prelude::specs::Laws::Cases::maybe_some, prelude::specs::Laws::Cases::maybe_none))]
 fn on_request(book: &Kept<'_>, e: Record) -> Change
     ensures { result ≡ on_request (unknown_of e) (handled e) (book_of book.now.bytes.now) e }
 {
@@ -131,7 +131,7 @@ fn on_request(book: &Kept<'_>, e: Record) -> Change
 }
 
 // Event 9.
-#[tactic(auto, unfolding(machine::specs::Machine::on_name), using(crate::specs::Laws::Found::name_few, prelude::specs::Cases::maybe_some, prelude::specs::Cases::maybe_none))]
+#[tactic(auto, unfolding(machine::specs::Machine::on_name), using(crate::specs::Laws::Found::name_few, prelude::specs::Laws::Cases::maybe_some, prelude::specs::Laws::Cases::maybe_none))]
 fn on_name(book: &Kept<'_>, e: Record) -> Change
     ensures { result ≡ on_name (book_of book.now.bytes.now) e }
 {

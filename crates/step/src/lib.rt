@@ -8,13 +8,11 @@ ghost use Rattle.step.specs.Entries.{call_of};
 
 use machine::Change;
 use prelude::Refusal;
+use records::SHORTEST_ANSWER;
 use rules::Kept;
 
 mod events; // an event's whole effect, on a book that keeps its rules
 mod loads; // records in use, and what an event's handling needs of the book
-
-// What an answer buffer has at least.
-pub const SHORTEST_ANSWER: usize = 1024;
 
 // The change that the event in `record` makes of the book, or the first question that is answered
 // with no; `room` is the length of the answer buffer.

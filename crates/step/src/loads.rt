@@ -90,7 +90,7 @@ fn order_link(book: &Kept<'_>, k: usize) -> u16
 }
 
 // The link of the order in which the client used the ClOrdID, or 0.
-#[tactic(auto, unfolding(machine::specs::Machine::order_of), using(prelude::specs::Cases::maybe_some, prelude::specs::Cases::maybe_none))]
+#[tactic(auto, unfolding(machine::specs::Machine::order_of), using(prelude::specs::Laws::Cases::maybe_some, prelude::specs::Laws::Cases::maybe_none))]
 pub(crate) fn order_of(book: &Kept<'_>, client: u16, t: Text) -> u16
     ensures { result ≡ order_of (book_of book.now.bytes.now) client t }
 {

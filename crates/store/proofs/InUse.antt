@@ -1,4 +1,4 @@
--- The records in use, as a range of indices: none where the buffer is no book, and the first that passes a test. Rests on prelude's Chains.
+-- The records in use, as a range of indices: there are none if the buffer is no book, and the first that passes a test. Rests on prelude's Chains.
 use Rattle.std.specs.Prelude.{⊤}
 use Rattle.std.proofs.Common.{◌≡◌, ℕ, Bool, true, false, List, Option, None, MatchOption, Bor, refl, sym, ap, ◌∙◌, arith}
 use Rattle.std.specs.Fn.{Mut, CalledAt}
@@ -9,9 +9,10 @@ use Rattle.std.proofs.iter.Yields.{nat_range_steps}
 use Rattle.std.proofs.lemmas.Iterator.{YieldsList-from_range}
 use Rattle.std.proofs.lemmas.Iterator.Adapters.{option_map_id}
 use Rattle.std.proofs.lemmas.Iterator.Search.{find_from_yields_List}
-use Rattle.prelude.specs.Below.{first_below, first_none}
+use Rattle.prelude.specs.Below.{first_below}
+use Rattle.prelude.specs.Laws.Below.{first_none}
 use Rattle.prelude.specs.Cases.{if◌then◌otherwise◌}
-use Rattle.prelude.specs.Chains.{find_range}
+use Rattle.prelude.specs.Laws.Chains.{find_range}
 use Rattle.store.specs.Book.{is_book, count_at}
 
 pub none_counted : (at most : ℕ) (b : List ℕ) → is_book b ≡ false → count_at at most b ≡ 0

@@ -104,7 +104,7 @@ settle b i outcome = splice (splice b (request_base i + request·answered) (1 �
 unfoldable pub mark_answered : List ℕ → ℕ → (outcome : ℕ) → List ℕ
 mark_answered b i outcome = if is_book b && ltb i most_requests then settle b i outcome otherwise b
 
--- the word of order i's place behind the tables; it is no part of the book that the bytes are
+-- the word of order i behind the tables; it is no part of the book that the bytes are
 abbrev pub open_at : List ℕ → ℕ → ℕ
 open_at b i = word64 b (open_base i)
 

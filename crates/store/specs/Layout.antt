@@ -40,7 +40,7 @@ order_base i = orders_at + i * order_size
 abbrev pub request_base : ℕ → ℕ
 request_base i = requests_at + i * request_size
 
--- behind the tables, a word for each order's place: where it is its client's first, the client's open quantity
+-- behind the tables, a word for each order that the table has room for: if the order is its client's first, the client's open quantity
 abbrev pub opens_at : ℕ
 opens_at = 49408
 

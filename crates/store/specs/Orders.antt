@@ -1,12 +1,12 @@
 -- An order's record: what its bytes say, and the bytes that say it, group by group. Rests on Layout and Cells.
--- The two marks of the gateway cancel are one byte, its stage: 0 none, 1 unsent, 2 sent, 3 stuck.
+-- The two flags of the gateway cancel are one byte, its stage: 0 none, 1 unsent, 2 sent, 3 stuck.
 use Rattle.std.specs.Prelude.{◌≡◌, Bool, false, not, ◌&&◌, ◌||◌, List, [], ◌∷◌, ◌++◌, ℕ, ◌<◌, eqb, ltb, get_or, replicate}
 use Rattle.std.specs.List.{concat}
 use Rattle.prelude.specs.Cases.{if◌then◌otherwise◌}
 use Rattle.prelude.specs.Number.{word16, word32, word64, bytes_of, bound}
 use Rattle.prelude.specs.Texts.{text_at, WholeText}
 use Rattle.prelude.specs.declared.Terms.{Terms}
-use Rattle.text.specs.Words.{no_text}
+use Rattle.text.specs.Stored.{no_text}
 use Rattle.store.specs.declared.Names.{Names}
 use Rattle.store.specs.declared.State.{State}
 use Rattle.store.specs.declared.Links.{Links}
@@ -18,11 +18,11 @@ use Rattle.store.specs.Cells.{text_bytes}
 
 -- ---- the stage of a gateway cancel, with the link that says whether there is one
 
--- no stage without a link, and with one a stage from 1 to 3
+-- there is no stage without a link, and with one there is a stage from 1 to 3
 unfoldable pub malformed : ℕ → ℕ → Bool
 malformed stage link = if eqb link 0 then not (eqb stage 0) otherwise (eqb stage 0 || ltb 3 stage)
 
--- a malformed pair shows both marks, which no rule allows
+-- a malformed pair shows both flags, which no rule allows
 unfoldable pub unsent_of : ℕ → ℕ → Bool
 unsent_of stage link = malformed stage link || eqb stage 1
 
@@ -168,7 +168,7 @@ pub record IsOrder (s : List ℕ) (r : Order) : Type 0 where
   pub pending : IsPending s r.pending
   pub gateway : IsGateway s r.gateway
 
--- numbers fit their widths and texts have 32 bytes: so every value of the type
+-- numbers fit their widths and texts have 32 bytes, as in every value of the type
 pub record FitsOrder (r : Order) : Type 0 where
   pub client : r.client < 65536
   pub venue : r.venue < 65536
@@ -179,7 +179,7 @@ pub record FitsOrder (r : Order) : Type 0 where
   pub pending : FitsPending r.pending
   pub gateway : FitsGateway r.gateway
 
--- the marks are those of one stage: not both, and neither where there is no gateway cancel
+-- the flags are those of one stage: not both, and neither if there is no gateway cancel
 pub record OneStage (g : GatewayCancel) : Type 0 where
   pub one : g.unsent && g.stuck ≡ false
   pub none : g.origdownstream ≡ 0 → (g.unsent ≡ false) × (g.stuck ≡ false)

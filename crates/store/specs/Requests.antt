@@ -3,7 +3,7 @@ use Rattle.std.specs.Prelude.{◌≡◌, List, [], ◌∷◌, ◌++◌, ℕ, ◌
 use Rattle.std.specs.List.{concat}
 use Rattle.prelude.specs.Number.{word16, bytes_of}
 use Rattle.prelude.specs.Texts.{text_at, WholeText}
-use Rattle.text.specs.Words.{no_text}
+use Rattle.text.specs.Stored.{no_text}
 use Rattle.store.specs.declared.Request.{Request}
 use Rattle.store.specs.Layout.{request·order, request·kind, request·answered, request·clordid, request·origclordid, request·downstream, request·outcome}
 use Rattle.store.specs.Cells.{text_bytes}
@@ -56,7 +56,7 @@ encode_request origin r = concat (pieces_request origin r)
 abbrev pub no_request : Request
 no_request = record { order = 0; kind = 0; answered = 0; clordid = no_text; origclordid = no_text; downstream = no_text; outcome = 0 }
 
--- numbers fit their widths and texts have 32 bytes: so every value of the type, and every record that is written is read back
+-- numbers fit their widths and texts have 32 bytes, as in every value of the type: then the record that is written is read back
 pub record WholeRequest (r : Request) : Type 0 where
   pub order : r.order < 65536
   pub kind : r.kind < 256

@@ -35,7 +35,7 @@ pub(crate) fn u64_at(s: &[u8], at: usize) -> u64
     words::get64(&s[at..at + 8])
 }
 
-#[tactic(auto, using(prelude::specs::Span::part_span))]
+#[tactic(auto, using(prelude::specs::Laws::Span::part_span))]
 pub(crate) fn get_text(s: &[u8], at: usize) -> Text
     requires { at + 33 ≤ length s.now }
     ensures { result ≡ text_at s.now at }
@@ -49,7 +49,7 @@ pub(crate) fn get_text(s: &[u8], at: usize) -> Text
 }
 
 // Writes w into s from index at.
-#[tactic(auto, using(prelude::specs::Span::part_splice))]
+#[tactic(auto, using(prelude::specs::Laws::Span::part_splice))]
 pub(crate) fn put(s: &mut [u8], at: usize, w: &[u8])
     requires { at + length w.now ≤ length s.old }
     ensures { s.new ≡ splice s.old at w.now }
@@ -89,7 +89,7 @@ pub(crate) fn put_text(s: &mut [u8], at: usize, t: Text)
     put(s, at + TEXT_LEN, &[t.len]);
 }
 
-// The N bytes of s from index at as an array, where s has as many.
+// The N bytes of s from index at as an array, if s has as many.
 #[tactic(auto, unfolding(prelude::specs::Span::span))]
 pub(crate) fn part<const N: usize>(s: &[u8], at: usize) -> Option<&[u8; N]>
     requires { at ≤ length s.now }

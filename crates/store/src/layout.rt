@@ -1,4 +1,4 @@
-// The book's bytes: every place and size of the layout, once. The same numbers as definitions are
+// The book's bytes: every offset and size of the layout, once. The same numbers as definitions are
 // specs/Layout.antt, and docs/LAYOUT.md has them as a table. Rests on nothing.
 
 pub const BOOK: usize = 65536;
@@ -28,7 +28,7 @@ pub const REQUEST: usize = 128;
 
 pub const MOST_REQUESTS: usize = 256;
 
-// Behind the tables, a word for each order's place.
+// Behind the tables, a word for each order that the table has room for.
 pub const OPENS: usize = 49408;
 
 pub const OPEN: usize = 8;

@@ -55,8 +55,8 @@ pub struct Links {
     pub cancel: u16,
 }
 
-// A replace that waits for the venue's answer: the link of its request and its terms. All zero
-// where there is none. No Option: a book may hold terms with request 0, and the ranges have to see them.
+// A replace that waits for the venue's answer: the link of its request and its terms. All are zero if there
+// is none. It is no Option: a book may hold terms with request 0, and the ranges have to see them.
 #[derive(Clone, Copy, Debug, PartialEq, Eq)]
 pub struct Pending {
     pub request: u16,
@@ -66,9 +66,9 @@ pub struct Pending {
     pub timeinforce: u8,
 }
 
-// The gateway's own cancel of the order. All zero where there is none; where there is one,
-// `origdownstream` is the link of the request that its latest cancel named. No Option, likewise; and two
-// marks and no enum: a malformed stage shows both.
+// The gateway's own cancel of the order. All are zero if there is none; if there is one, `origdownstream` is
+// the link of the request that its latest cancel named. It is no Option for the same reason, and has two
+// flags and no enum: a malformed stage shows both.
 #[derive(Clone, Copy, Debug, PartialEq, Eq)]
 pub struct GatewayCancel {
     pub tries: u8,
@@ -201,7 +201,7 @@ pub fn no_request() -> Request
     NO_REQUEST
 }
 
-// The book, where the buffer has its length.
+// The book, if the buffer has its length.
 #[tactic(auto, using(crate::proofs::Loaded::sized))]
 fn whole(buffer: &[u8]) -> Option<&layout::Bytes>
     ensures { MatchOption result (is_book buffer.now ≡ false) (λ book. (is_book buffer.now ≡ true) × (book.now ≡ buffer.now)) }
@@ -216,7 +216,7 @@ fn has_record(book: &[u8], most: usize, i: usize) -> bool
     book.len() == layout::BOOK && i < most
 }
 
-// The bytes of record i of the table at an index, where there is one.
+// The bytes of record i of the table at an index, if there is one.
 fn record<const N: usize>(book: &[u8], table: usize, most: usize, i: usize) -> Option<&[u8; N]>
     requires { table + most * N ≤ book_size }
     ensures { MatchOption result (is_book book.now && ltb i most ≡ false) (λ bytes. (is_book book.now && ltb i most ≡ true) × (bytes.now ≡ span book.now (table + i * N) N)) }
@@ -271,15 +271,15 @@ fn write_order(book: &mut [u8], i: usize, o: Order)
     cells::put(book, at, &orders::encode(o));
 }
 
-// The order in record i, or the order of zeros where there is no such record.
+// The order in record i, or the order of zeros if there is no such record.
 pub fn load_order(book: &[u8], i: usize) -> Order
     ensures { result ≡ load_order book.now i }
 {
     record(book, layout::ORDERS, layout::MOST_ORDERS, i).map_or(NO_ORDER, orders::decode)
 }
 
-// Writes record i, or nothing where there is no such record.
-#[tactic(auto, using(prelude::specs::Cases::if_true, prelude::specs::Cases::if_false), unfolding(crate::specs::Book::store_order))]
+// Writes record i, or nothing if there is no such record.
+#[tactic(auto, using(prelude::specs::Laws::Cases::if_true, prelude::specs::Laws::Cases::if_false), unfolding(crate::specs::Book::store_order))]
 pub fn store_order(book: &mut [u8], i: usize, o: Order)
     ensures { book.new ≡ store_order book.old i o }
 {
@@ -288,8 +288,8 @@ pub fn store_order(book: &mut [u8], i: usize, o: Order)
     }
 }
 
-// Writes an order behind those in use, or nothing where the table is full.
-#[tactic(auto, using(prelude::specs::Cases::if_true, prelude::specs::Cases::if_false), unfolding(crate::specs::Book::add_order, crate::specs::Book::set_count))]
+// Writes an order behind those in use, or nothing if the table is full.
+#[tactic(auto, using(prelude::specs::Laws::Cases::if_true, prelude::specs::Laws::Cases::if_false), unfolding(crate::specs::Book::add_order, crate::specs::Book::set_count))]
 pub fn add_order(book: &mut [u8], o: Order)
     ensures { book.new ≡ add_order book.old o }
 {
@@ -301,15 +301,15 @@ pub fn add_order(book: &mut [u8], o: Order)
     }
 }
 
-// The request in record i, or the request of zeros where there is no such record.
+// The request in record i, or the request of zeros if there is no such record.
 pub fn load_request(book: &[u8], i: usize) -> Request
     ensures { result ≡ load_request book.now i }
 {
     request_record(book, i).map_or(NO_REQUEST, requests::decode)
 }
 
-// Writes a request behind those in use, with its origin, or nothing where the table is full.
-#[tactic(auto, using(prelude::specs::Cases::if_true, prelude::specs::Cases::if_false), unfolding(crate::specs::Book::add_request, crate::specs::Book::put_request, crate::specs::Book::set_count))]
+// Writes a request behind those in use, with its origin, or nothing if the table is full.
+#[tactic(auto, using(prelude::specs::Laws::Cases::if_true, prelude::specs::Laws::Cases::if_false), unfolding(crate::specs::Book::add_request, crate::specs::Book::put_request, crate::specs::Book::set_count))]
 pub fn add_request(book: &mut [u8], origin: u16, r: Request)
     ensures { book.new ≡ add_request book.old origin r }
 {
@@ -322,15 +322,15 @@ pub fn add_request(book: &mut [u8], origin: u16, r: Request)
     }
 }
 
-// The origin of request i, or 0 where there is no such record.
+// The origin of request i, or 0 if there is no such record.
 pub fn load_origin(book: &[u8], i: usize) -> u16
     ensures { result ≡ load_origin book.now i }
 {
     request_record(book, i).map_or(0, |bytes| u16_at(bytes, layout::REQUEST_ORIGIN))
 }
 
-// Sets the answered byte of request i, and the outcome where that was not set; or nothing where
-// there is no such record.
+// Sets the answered byte of request i, and its outcome if the byte was not set before; or nothing if there is
+// no such record.
 pub fn mark_answered(book: &mut [u8], i: usize, outcome: u8)
     ensures { book.new ≡ mark_answered book.old i outcome }
 {
@@ -342,15 +342,15 @@ pub fn mark_answered(book: &mut [u8], i: usize, outcome: u8)
     }
 }
 
-// The word of order i's place behind the tables, or 0 where there is no such place.
+// The word of order i behind the tables, or 0 if there is no such word.
 pub fn load_open(book: &[u8], i: usize) -> u64
     ensures { result ≡ load_open book.now i }
 {
     record(book, layout::OPENS, layout::MOST_ORDERS, i).map_or(0, |word| u64::from_le_bytes(*word))
 }
 
-// Writes the word of order i's place behind the tables, or nothing where there is no such place.
-#[tactic(auto, using(prelude::specs::Cases::if_true, prelude::specs::Cases::if_false), unfolding(crate::specs::Book::store_open))]
+// Writes the word of order i behind the tables, or nothing if there is no such word.
+#[tactic(auto, using(prelude::specs::Laws::Cases::if_true, prelude::specs::Laws::Cases::if_false), unfolding(crate::specs::Book::store_open))]
 pub fn store_open(book: &mut [u8], i: usize, quantity: u64)
     ensures { book.new ≡ store_open book.old i quantity }
 {
@@ -360,7 +360,7 @@ pub fn store_open(book: &mut [u8], i: usize, quantity: u64)
     }
 }
 
-// Makes the book empty, with its setting, or nothing where the length is another.
+// Makes the book empty, with its setting; a buffer of another length stays as it is.
 pub fn clear(book: &mut [u8], setting: u32)
     ensures { book.new ≡ clear_book book.old setting }
 {

@@ -11,7 +11,7 @@ use crate::layout::{self, ORDER};
 use crate::{GatewayCancel, Links, Names, Order, Pending, State};
 use prelude::Terms;
 
-// The stages of a gateway cancel; 0 where there is none. Any byte may stand there: numbers, no enum.
+// The stages of a gateway cancel; 0 if there is none. They are numbers and no enum: any byte may stand there.
 const UNSENT: u8 = 1;
 
 const SENT: u8 = 2;
@@ -19,7 +19,7 @@ const SENT: u8 = 2;
 const STUCK: u8 = 3;
 
 // Whether a stage and the link beside it do not go together.
-#[tactic(auto, using(prelude::specs::Cases::if_true, prelude::specs::Cases::if_false), unfolding(crate::specs::Orders::malformed))]
+#[tactic(auto, using(prelude::specs::Laws::Cases::if_true, prelude::specs::Laws::Cases::if_false), unfolding(crate::specs::Orders::malformed))]
 fn malformed_pair(stage: u8, link: u16) -> bool
     ensures { result ≡ malformed stage link }
 {
@@ -30,7 +30,7 @@ fn malformed_pair(stage: u8, link: u16) -> bool
     }
 }
 
-// Whether a stage and its link show a cancel that is not sent. A malformed pair shows both marks.
+// Whether a stage and its link show a cancel that is not sent. A malformed pair shows both flags.
 #[tactic(auto, unfolding(crate::specs::Orders::unsent_of))]
 pub fn unsent_of(stage: u8, link: u16) -> bool
     ensures { result ≡ unsent_of stage link }
@@ -46,7 +46,7 @@ pub fn stuck_of(stage: u8, link: u16) -> bool
     malformed_pair(stage, link) | (stage == STUCK)
 }
 
-#[tactic(auto, using(prelude::specs::Cases::if_true, prelude::specs::Cases::if_false), unfolding(crate::specs::Orders::stage_of))]
+#[tactic(auto, using(prelude::specs::Laws::Cases::if_true, prelude::specs::Laws::Cases::if_false), unfolding(crate::specs::Orders::stage_of))]
 fn stage_of(g: GatewayCancel) -> u8
     ensures { result ≡ stage_of g }
 {

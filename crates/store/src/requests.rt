@@ -51,8 +51,8 @@ pub(crate) fn encode(origin: u16, r: Request) -> [u8; REQUEST]
     s
 }
 
-// The outcome where the request is not answered yet, else the one that it has.
-#[tactic(auto, using(prelude::specs::Cases::if_true, prelude::specs::Cases::if_false))]
+// The outcome that is given, if the request is not answered yet, else the one that it has.
+#[tactic(auto, using(prelude::specs::Laws::Cases::if_true, prelude::specs::Laws::Cases::if_false))]
 pub(crate) fn settled_as(s: &[u8; REQUEST], outcome: u8) -> u8
     ensures { result ≡ (if eqb (get_or s.now request·answered 0) 0 then outcome otherwise get_or s.now request·outcome 0) }
 {

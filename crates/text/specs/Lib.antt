@@ -1,3 +1,3 @@
-pub mod Words
+pub mod Stored
 pub mod Numbered
 pub mod Laws

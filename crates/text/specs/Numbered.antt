@@ -1,9 +1,9 @@
--- Numbered names: a name, a dash, and a number in decimal. Rests on Words.
+-- Numbered names: a name, a dash, and a number in decimal. Rests on Stored.
 use Rattle.std.specs.Prelude.{List, [], ◌∷◌, ◌++◌, ℕ, zero, suc, ◌+◌, ◌/◌, ◌%◌, leb, ltb, length}
 use Rattle.prelude.specs.Cases.{if◌then◌otherwise◌}
 use Rattle.prelude.specs.Texts.{contents, text_of}
 use Rattle.prelude.specs.declared.Text.{Text}
-use Rattle.text.specs.Words.{no_text}
+use Rattle.text.specs.Stored.{no_text}
 
 -- ---- decimal
 

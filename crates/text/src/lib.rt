@@ -5,7 +5,7 @@
 ghost use Rattle.std.specs.Prelude.{◌≡◌, ◌+◌, ◌≤◌, length};
 ghost use Rattle.prelude.specs.Number.{word64};
 ghost use Rattle.prelude.specs.Texts.{text_at, same_text, is_text};
-ghost use Rattle.text.specs.Words.{no_text, holds, text_is, text_fine};
+ghost use Rattle.text.specs.Stored.{no_text, holds, text_is, text_fine};
 ghost use Rattle.text.specs.Numbered.{numbered_text};
 
 use prelude::Text;
@@ -60,7 +60,7 @@ fn same_here(s: &[u8], at: usize, t: Text) -> bool
 }
 
 // Whether the text at an index is t; false if the slice ends before it.
-#[tactic(auto, unfolding(crate::specs::Words::text_is))]
+#[tactic(auto, unfolding(crate::specs::Stored::text_is))]
 pub fn text_is(s: &[u8], at: usize, t: Text) -> bool
     ensures { result ≡ text_is s.now at t }
 {
@@ -85,7 +85,7 @@ pub fn text_ok(t: Text) -> bool
 }
 
 // Whether a text as it is stored stands at an index; false if the slice ends before it.
-#[tactic(auto, using(prelude::specs::Span::part_span), unfolding(crate::specs::Words::text_fine))]
+#[tactic(auto, using(prelude::specs::Laws::Span::part_span), unfolding(crate::specs::Stored::text_fine))]
 pub fn text_fine(s: &[u8], at: usize) -> bool
     ensures { result ≡ text_fine s.now at }
 {

@@ -1,7 +1,7 @@
 -- Two words divided one after the other: the upper word's rest is carried to the lower word. Rests on Rounding.
 use Rattle.std.proofs.Common.{ℕ, ◌+◌, ◌*◌, ◌/◌, ◌%◌, ◌^◌, ◌≡◌, ap, ◌∙◌, add-mul, mul_assoc, mul_comm, div-add-mod', arith}
 use Rattle.wide.specs.Wide.{up, nearest}
-use Rattle.wide.specs.Rounding.{up_low, nearest_by}
+use Rattle.wide.specs.Laws.Rounding.{up_low, nearest_by}
 use Rattle.wide.specs.Division.{Divides}
 
 -- the two quotients are the quotient's words

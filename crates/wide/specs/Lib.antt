@@ -1,6 +1,4 @@
 pub mod Wide
-pub mod Words
-pub mod Rounding
-pub mod Price
 pub mod Facts
 pub mod Division
+pub mod Laws

@@ -1,5 +1,5 @@
 -- Two-word numbers, division rounded to the nearest, and the price of a fill: the definitions that the contracts cite.
--- Rests on prelude's Cases. Words, Rounding and Price have the laws by which a caller uses them.
+-- Rests on prelude's Cases. The laws by which a caller uses them are in Laws: Words, Rounding and Price.
 use Rattle.std.specs.Prelude.{ℕ, ◌+◌, ◌-◌, ◌*◌, ◌/◌, ◌%◌, ◌^◌, Bool, ◌&&◌, ◌||◌, List, [], ◌∷◌, eqb, ltb, get_or}
 use Rattle.prelude.specs.Cases.{if◌then◌otherwise◌}
 use Rattle.wide.specs.declared.Priced.{Priced}

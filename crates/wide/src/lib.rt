@@ -59,7 +59,7 @@ pub fn less(a: [u64; 2], b: [u64; 2]) -> bool
 }
 
 // `a` less `b`, or 0 if `b` is above `a`.
-pub fn minus(a: [u64; 2], b: [u64; 2]) -> [u64; 2]
+pub fn difference(a: [u64; 2], b: [u64; 2]) -> [u64; 2]
     ensures { result ≡ words (value a - value b) }
 {
     split(joined(a).saturating_sub(joined(b)))
@@ -68,7 +68,7 @@ pub fn minus(a: [u64; 2], b: [u64; 2]) -> [u64; 2]
 // What rounding adds to a quotient, 0 or 1, if the division by `d` leaves `rest`: the rest is compared with
 // `d` less the rest, as its double may pass a word. A half has an arm of its own, and the quotient is given
 // though a half that goes up does not ask it, so that another rule for a half is one line (docs/DECISIONS.md).
-#[tactic(auto, using(std::proofs::lemmas::Bool::Decides::nat_tests, prelude::specs::Cases::if_true, prelude::specs::Cases::if_false), unfolding(crate::specs::Wide::up, crate::specs::Wide::at_half))]
+#[tactic(auto, using(std::proofs::lemmas::Bool::Decides::nat_tests, prelude::specs::Laws::Cases::if_true, prelude::specs::Laws::Cases::if_false), unfolding(crate::specs::Wide::up, crate::specs::Wide::at_half))]
 fn round(quotient: u64, rest: u64, d: u64) -> u64
     requires { rest < d }
     ensures { result ≡ up quotient rest d }
@@ -82,7 +82,7 @@ fn round(quotient: u64, rest: u64, d: u64) -> u64
 
 // `n / d` rounded to the nearest, or 0 if `d` is 0, so that it is total (docs/DECISIONS.md): long
 // division, a word at a time.
-#[tactic(auto, using(crate::proofs::Carried::by_words, crate::specs::Rounding::nearest_none, crate::specs::Rounding::nearest_le, crate::specs::Words::value_fits))]
+#[tactic(auto, using(crate::proofs::Carried::by_words, crate::specs::Laws::Rounding::nearest_none, crate::specs::Laws::Rounding::nearest_le, crate::specs::Laws::Words::value_fits))]
 pub fn long(n: [u64; 2], d: u64) -> [u64; 2]
     ensures { result ≡ words (nearest (value n) d) }
 {
@@ -96,7 +96,7 @@ pub fn long(n: [u64; 2], d: u64) -> [u64; 2]
 
 // The same of a single word, 0 for 0 too, by the machine's own division: in less than half the time
 // (docs/SPEED.md).
-#[tactic(auto, using(crate::specs::Rounding::nearest_none, crate::specs::Rounding::nearest_by, crate::specs::Rounding::nearest_le))]
+#[tactic(auto, using(crate::specs::Laws::Rounding::nearest_none, crate::specs::Laws::Rounding::nearest_by, crate::specs::Laws::Rounding::nearest_le))]
 pub fn plain(n: u64, d: u64) -> u64
     ensures { result ≡ nearest n d }
 {
@@ -108,7 +108,7 @@ pub fn plain(n: u64, d: u64) -> u64
 }
 
 // The same of two words: by the single word if that is all of it. `long` then gives the same words for
-// every `d`, 0 too: `plain_long` in specs/Rounding.antt.
+// every `d`, 0 too: `plain_long` in specs/Laws/Rounding.antt.
 pub fn quotient(n: [u64; 2], d: u64) -> [u64; 2]
     ensures { result ≡ words (nearest (value n) d) }
 {
@@ -160,17 +160,17 @@ impl Fill {
     }
 
     // The price that the change of the average implies for the rise; 0 if it is not positive.
-    #[tactic(auto, using(crate::specs::Words::value_of), unfolding(crate::specs::Wide::implied))]
+    #[tactic(auto, using(crate::specs::Laws::Words::value_of), unfolding(crate::specs::Wide::implied))]
     pub fn implied(self) -> [u64; 2]
         ensures { result ≡ words (implied self.cumqty self.avgpx self.oldcum self.oldavg self.rise) }
     {
         let new = product(self.cumqty, self.avgpx);
         let old = product(self.oldcum, self.oldavg);
-        quotient(minus(new, old), self.rise)
+        quotient(difference(new, old), self.rise)
     }
 
     // The price and where it came from.
-    #[tactic(auto, using(crate::specs::Words::value_of, crate::specs::Words::one_word, std::proofs::lemmas::Bool::Decides::nat_tests, prelude::specs::Cases::if_true, prelude::specs::Cases::if_false), unfolding(crate::specs::Wide::fill_price))]
+    #[tactic(auto, using(crate::specs::Laws::Words::value_of, crate::specs::Laws::Words::one_word, std::proofs::lemmas::Bool::Decides::nat_tests, prelude::specs::Laws::Cases::if_true, prelude::specs::Laws::Cases::if_false), unfolding(crate::specs::Wide::fill_price))]
     pub fn price(self) -> Priced
         ensures { result ≡ fill_price self.lastqty self.lastpx self.cumqty self.avgpx self.oldcum self.oldavg self.rise }
     {

@@ -2,7 +2,8 @@
 use Rattle.std.specs.Prelude.{ℕ, ◌≡◌, ◌+◌, min, refl, false, eqb}
 use Rattle.std.proofs.Common.{arith, ne_eqb}
 use Rattle.std.proofs.lemmas.Grind.{common_steps}
-use Rattle.prelude.specs.Cases.{if◌then◌otherwise◌, split_if}
+use Rattle.prelude.specs.Cases.{if◌then◌otherwise◌}
+use Rattle.prelude.specs.Laws.Cases.{split_if}
 use Rattle.machine.specs.Amend.{verdict_text}
 use Rattle.amend.specs.declared.why.Why.{Why}
 use Rattle.amend.specs.declared.why.Why.TheVariants.{Cancelling, ReplacePending, BelowFilled, Blocked, Duplicate, UnknownOrder, Done, TooMany, SideOrSymbol, Verdict}

@@ -1,6 +1,7 @@
 -- An order that is set as New above a cumulative of 0 is set as PartiallyFilled. Rests on machine's Orders.
 use Rattle.std.specs.Prelude.{◌≡◌, refl, ltb}
-use Rattle.prelude.specs.Cases.{if◌then◌otherwise◌, split_if}
+use Rattle.prelude.specs.Cases.{if◌then◌otherwise◌}
+use Rattle.prelude.specs.Laws.Cases.{split_if}
 use Rattle.format.specs.Codes.{new, partially_filled}
 use Rattle.store.specs.declared.Order.{Order}
 use Rattle.machine.specs.Orders.{set_status, status_at, unless_short, is_short}

@@ -3,7 +3,7 @@ use Rattle.std.proofs.Common.{◌≡◌, ◌≤◌, ◌*◌, ◌%◌, ◌^◌, �
 use Rattle.std.proofs.lemmas.Nat.{and_le_r}
 use Rattle.std.specs.Int.Bits.{or_add_and}
 use Rattle.std.specs.Option.{unwrap_or}
-use Rattle.prelude.specs.Cases.{if_false}
+use Rattle.prelude.specs.Laws.Cases.{if_false}
 use Rattle.bits.specs.Map.{with_bit}
 use Rattle.bits.specs.Laws.Map.{or_one}
 use Rattle.bits.proofs.with_bit.Goals as goal

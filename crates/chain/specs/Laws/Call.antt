@@ -1,14 +1,15 @@
--- The call as the code comes to it. Rests on Walk and Sound.
+-- The call as the code comes to it. Rests on Walk and Called.
 use Rattle.std.specs.Prelude.{ℕ, ◌*◌, ◌≤◌, ◌<◌, ◌≡◌, true, List, [], length, None, Some}
 use Rattle.std.proofs.Common.{arith, sym, ap, ap₂, ◌∙◌}
-use Rattle.prelude.specs.Span.{splice, splice_nil}
-use Rattle.counted.specs.declared.Counted.{Counted}
-use Rattle.counted.specs.Counted.{refusing, counting}
+use Rattle.prelude.specs.Span.{splice}
+use Rattle.prelude.specs.Laws.Span.{splice_nil}
+use Rattle.prelude.specs.declared.Counted.{Counted}
+use Rattle.prelude.specs.Counted.{refusing, counting}
 use Rattle.store.specs.Book.{book_of}
 use Rattle.rules.specs.Keeps.{keeps_of}
 use Rattle.chain.specs.Chain.{called_by, chain_of, entry_size, entries_of, chained, chain_call}
 use Rattle.chain.specs.Laws.Walk.{walk, chain_walk, chain_empty}
-use Rattle.chain.specs.Laws.Sound.{call_bad, call_short, call_written}
+use Rattle.chain.specs.Laws.Called.{call_bad, call_short, call_written}
 
 module _ (b : List ℕ) (client : ℕ) (name list : List ℕ) (keeps : keeps_of b ≡ true) where
   abbrev ks : List ℕ

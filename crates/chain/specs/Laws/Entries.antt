@@ -4,10 +4,14 @@ use Rattle.std.proofs.Common.{arith, ◌∙◌, length-take, sym, ap, ap₂, app
 use Rattle.std.proofs.lemmas.Bool.{and_parts}
 use Rattle.std.proofs.lemmas.List.{length-replicate}
 use Rattle.std.specs.List.{concat}
-use Rattle.prelude.specs.Cases.{if◌then◌otherwise◌, split_if}
-use Rattle.prelude.specs.Pieces.{Sized, length_joined, writes_joined}
-use Rattle.prelude.specs.Span.{span, splice, length_span, length_splice, splice_append}
-use Rattle.prelude.specs.Texts.{text_at, contents, text_of, is_text, text_contents}
+use Rattle.prelude.specs.Cases.{if◌then◌otherwise◌}
+use Rattle.prelude.specs.Laws.Cases.{split_if}
+use Rattle.prelude.specs.Pieces.{Sized}
+use Rattle.prelude.specs.Laws.Pieces.{length_joined, writes_joined}
+use Rattle.prelude.specs.Span.{span, splice}
+use Rattle.prelude.specs.Laws.Span.{length_span, length_splice, splice_append}
+use Rattle.prelude.specs.Texts.{text_at, contents, text_of, is_text}
+use Rattle.prelude.specs.Laws.Texts.{text_contents}
 use Rattle.prelude.specs.declared.Text.{Text}
 use Rattle.store.specs.Layout.{book_size, most_requests, request_base, request·clordid, request·clordidLen, request·outcome}
 use Rattle.store.specs.declared.Request.{Request}
@@ -16,7 +20,7 @@ use Rattle.store.specs.Laws.Fields.{request_clordid, request_clordid_len, reques
 use Rattle.store.specs.Laws.Stored.{length_requests, request_in_lem}
 use Rattle.machine.specs.Changes.{is_gateway}
 use Rattle.machine.specs.Ranges.{text_within}
-use Rattle.machine.proofs.Kept.Lift.{book_kept, range_kept}
+use Rattle.machine.proofs.Kept.Indexed.{book_kept, range_kept}
 use Rattle.rules.specs.Keeps.{keeps_of}
 use Rattle.rules.specs.Laws.Keeps.{keeps_held}
 use Rattle.chain.specs.Laws.Walk.{earlier, walk, walk_some, walk_end, walk_more}

@@ -1,16 +1,15 @@
--- The promises of the chain and of the call. Rests on Walk and Entries.
-use Rattle.std.specs.Prelude.{ℕ, zero, suc, ◌+◌, ◌-◌, ◌*◌, ◌≤◌, ◌<◌, ◌≡◌, ◌&&◌, ◌||◌, eqb, leb, get_or, take, drop, replicate, Option, None, Some, refl, Bool, true, false, not, List, [], ◌∷◌, ◌++◌, map, length}
-use Rattle.std.proofs.Common.{not-suc-le-zero, add-zero, zero-add, sym, ap, ◌∙◌, length-append, length-take, take_at, get_or-take, get_or-append-add, arith, subst, eqb-true, eq-eqb, ne_eqb, leb-true, le-leb, lt-ltb, le-ltb}
-use Rattle.std.proofs.Math.Decide.{dec_le, dec_lt}
-use Rattle.std.proofs.Math.ListN.{get_or-append, get_or-eq_default}
-use Rattle.std.proofs.Math.Seq.{drop-append-add, get_or-append_seam}
+-- The promises of the chain. Rests on Walk.
+use Rattle.std.specs.Prelude.{ℕ, zero, suc, ◌+◌, ◌-◌, ◌≤◌, ◌<◌, ◌≡◌, ◌&&◌, ◌||◌, eqb, leb, get_or, Option, None, Some, refl, Bool, true, false, not, List, [], ◌∷◌, length}
+use Rattle.std.proofs.Common.{not-suc-le-zero, sym, ap, ◌∙◌, length-take, arith, subst, eqb-true, eq-eqb, ne_eqb, leb-true, le-leb}
+use Rattle.std.proofs.Math.Decide.{dec_le}
 use Rattle.std.proofs.lemmas.Bool.{eqb-false, and_parts, and_from, or_from, not-true}
-use Rattle.std.proofs.lemmas.List.{length-replicate, get_or-replicate}
-use Rattle.std.specs.List.{concat}
-use Rattle.prelude.specs.Below.{count_below, count_hit}
-use Rattle.prelude.specs.Cases.{if◌then◌otherwise◌, maybe, if_true, if_false, maybe_none, maybe_some, none_some}
-use Rattle.prelude.specs.Span.{span, splice, length_span, length_splice, span_splice_same, span_splice_after, span_span, get_span}
-use Rattle.prelude.specs.Texts.{contents, text_of, same_text, is_text, same_text_lem, same_self, long_text, contents_text}
+use Rattle.prelude.specs.Below.{count_below}
+use Rattle.prelude.specs.Laws.Below.{count_hit}
+use Rattle.prelude.specs.Cases.{if◌then◌otherwise◌, maybe}
+use Rattle.prelude.specs.Laws.Cases.{if_true, if_false, maybe_none, maybe_some, none_some}
+use Rattle.prelude.specs.Laws.Span.{length_span}
+use Rattle.prelude.specs.Texts.{contents, text_of, same_text, is_text}
+use Rattle.prelude.specs.Laws.Texts.{same_text_lem, same_self, long_text, contents_text}
 use Rattle.prelude.specs.declared.Text.{Text}
 use Rattle.store.specs.Layout.{request_base, request·clordid, request·origclordid}
 use Rattle.store.specs.declared.Request.{Request}
@@ -18,20 +17,19 @@ use Rattle.store.specs.Book.{Book, book_of, order_in, request_in, request_count,
 use Rattle.store.specs.Finds.{has_clordid}
 use Rattle.store.specs.Laws.Fields.{request_clordid, request_origclordid}
 use Rattle.store.specs.Laws.Stored.{length_requests, request_in_lem}
-use Rattle.counted.specs.Counted.{refusing, counting}
 use Rattle.machine.specs.Orders.{is_empty}
 use Rattle.machine.specs.Changes.{is_first, is_gateway}
 use Rattle.machine.specs.Ranges.{text_within}
 use Rattle.machine.specs.Rules.{of_order, number_in, amendments_rule}
-use Rattle.machine.proofs.Kept.Lift.{BookKept, RangeKept, book_kept, range_kept}
+use Rattle.machine.proofs.Kept.Indexed.{BookKept, RangeKept, book_kept, range_kept}
 use Rattle.machine.proofs.Kept.Consequences.{numbers_rise}
 use Rattle.rules.specs.Keeps.{keeps_of}
 use Rattle.rules.specs.Laws.Keeps.{keeps_held}
-use Rattle.chain.specs.Chain.{chain_of, called_by, entry_size, entry_of, entries_of, chained, chain_call}
-use Rattle.chain.specs.Promise.{IsStep, Uses, IsChain, SoundChain, IsEntry, IsWritten, SoundCall}
+use Rattle.chain.specs.Chain.{chain_of, called_by}
+use Rattle.chain.specs.Promise.{IsStep, Uses, IsChain, SoundChain}
 use Rattle.index.specs.Laws.Named.{Bears, found_bears, bears_found}
 use Rattle.chain.specs.Laws.Walk.{earlier, back, walk, Step, step_back, walk_end, walk_more, chain_walk, chain_empty, called_found}
-use Rattle.chain.specs.Laws.Entries.{length_entry, length_entries, name_whole}
+use Rattle.chain.specs.Laws.Entries.{name_whole}
 
 -- ---- lists of requests
 
@@ -311,90 +309,4 @@ sound_chain b keeps = record {
   rest = chain_rest b keeps;
   unused = chain_unused b keeps;
   empty = chain_blank b keeps;
-}
-
--- ---- the call
-
--- entry i of many
-entry_at : (b ks : List ℕ) (i : ℕ) → i < length ks → span (entries_of b ks) (entry_size * i) entry_size ≡ entry_of b (get_or ks i 0)
-unfolding entries_of span
-entry_at b [] i h = absurd (omega arith)
-entry_at b (k ∷ ks) zero h = take_at (entry_of b k) (concat (map (entry_of b) ks)) entry_size (length_entry b k)
-entry_at b (k ∷ ks) (suc i) h =
-    let e : entry_size * suc i ≡ length (entry_of b k) + entry_size * i = omega (arith, length_entry b k) in
-    ap (λ (n : ℕ). take entry_size (drop n (entry_of b k ++ concat (map (entry_of b) ks)))) e
-    ∙ ap (take entry_size) (drop-append-add (entry_of b k) (concat (map (entry_of b) ks)) (entry_size * i))
-    ∙ entry_at b ks i (omega arith)
-
--- byte by byte
-filled : (name : List ℕ) (i : ℕ) → i < 32 → get_or (name ++ replicate 32 0) i 0 ≡ get_or name i 0
-filled name i h = go (dec_lt i (length name))
-  where
-    go : Dec (i < length name) → get_or (name ++ replicate 32 0) i 0 ≡ get_or name i 0
-    go (yes l) = get_or-append name (replicate 32 0) 0 i l
-    go (no l) =
-        let e : i ≡ length name + (i - length name) = omega arith in
-        ap (λ (n : ℕ). get_or (name ++ replicate 32 0) n 0) e
-        ∙ get_or-append-add name (replicate 32 0) (i - length name) 0
-        ∙ get_or-replicate 32 (i - length name) 0 0 (omega arith)
-        ∙ sym (get_or-eq_default name 0 (omega arith))
-
-is_entry : (b : List ℕ) (k : ℕ) → IsEntry b k (entry_of b k)
-unfolding entry_of
-is_entry b k =
-    let name : List ℕ = contents (request_in (book_of b) k).clordid in
-    let outcome : ℕ = (request_in (book_of b) k).outcome in
-    let text : List ℕ = take 32 (name ++ replicate 32 0) in
-    let l : length text ≡ 32 = simp (length-take, length-append, length-replicate) (omega arith) in
-    record {
-      size = length_entry b k;
-      long = refl;
-      name = λ i h. get_or-append text (outcome ∷ []) 0 i (omega arith) ∙ get_or-take 32 (name ++ replicate 32 0) i 0 h ∙ filled name i h;
-      outcome = ap (λ (n : ℕ). get_or (text ++ (outcome ∷ [])) n 0) (sym l) ∙ get_or-append_seam text (outcome) [] 0;
-    }
-
--- what the call comes to, written
-module _ (b : List ℕ) (client : ℕ) (name list : List ℕ) (keeps : keeps_of b ≡ true) where
-  abbrev ks : List ℕ
-  ks = chain_of (book_of b) client name
-
-  pub call_written : entry_size * length ks ≤ length list → chain_call b client name list ≡ chained (counting (length ks)) (splice list 0 (entries_of b ks))
-  unfolding chain_call
-  call_written h = if_false _ _ _ (ap not keeps) ∙ if_false _ _ _ (le-ltb (length list) (entry_size * length ks) h)
-
-  pub call_short : length list < entry_size * length ks → chain_call b client name list ≡ chained (refusing 12) list
-  unfolding chain_call
-  call_short h = if_false _ _ _ (ap not keeps) ∙ if_true _ _ _ (lt-ltb (length list) (entry_size * length ks) h)
-
-  is_written : entry_size * length ks ≤ length list → IsWritten b ks list (chained (counting (length ks)) (splice list 0 (entries_of b ks)))
-  is_written h =
-      let n : length (entries_of b ks) ≡ entry_size * length ks = length_entries b ks in
-      let l : length (splice list 0 (entries_of b ks)) ≡ length list = length_splice list 0 (entries_of b ks) (omega arith) in
-      record {
-        returned = refl;
-        size = l;
-        entries = λ i k. subst (IsEntry b (get_or ks i 0)) (sym (entry_in n h i k)) (is_entry b (get_or ks i 0));
-        rest = λ k g. sym (get_one (splice list 0 (entries_of b ks)) k) ∙ ap (λ (s : List ℕ). get_or s 0 0) (span_splice_after list 0 (entries_of b ks) k 1 (omega arith) (omega arith)) ∙ get_one list k;
-      }
-    where
-      entry_in : length (entries_of b ks) ≡ entry_size * length ks → entry_size * length ks ≤ length list → (i : ℕ) → i < length ks
-          → span (splice list 0 (entries_of b ks)) (entry_size * i) entry_size ≡ entry_of b (get_or ks i 0)
-      entry_in n h i k =
-          ap (λ (n : ℕ). span (splice list 0 (entries_of b ks)) n entry_size) (sym (zero-add (entry_size * i)))
-          ∙ sym (span_span (splice list 0 (entries_of b ks)) 0 (entry_size * length ks) (entry_size * i) entry_size (omega arith))
-          ∙ ap (λ (s : List ℕ). span s (entry_size * i) entry_size) (span_splice_same list 0 (entries_of b ks) (entry_size * length ks) n (omega arith))
-          ∙ entry_at b ks i k
-
-      get_one : (s : List ℕ) (k : ℕ) → get_or (span s k 1) 0 0 ≡ get_or s k 0
-      get_one s k = get_span s k 1 0 (omega arith) ∙ ap (λ (n : ℕ). get_or s n 0) (add-zero k)
-
-pub call_bad : (b : List ℕ) (client : ℕ) (name list : List ℕ) → keeps_of b ≡ false → chain_call b client name list ≡ chained (refusing 1) list
-unfolding chain_call
-call_bad b client name list e = if_true _ _ _ (ap not e)
-
-pub sound_call : SoundCall
-sound_call b client name list = record {
-  bad = call_bad b client name list;
-  short = λ e. call_short b client name list e;
-  enough = λ e h. subst (IsWritten b (chain_of (book_of b) client name) list) (sym (call_written b client name list e h)) (is_written b client name list e h);
 }

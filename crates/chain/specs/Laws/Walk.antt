@@ -3,9 +3,11 @@
 use Rattle.std.specs.Prelude.{ℕ, zero, suc, ◌+◌, ◌-◌, ◌≤◌, ◌<◌, ◌≡◌, refl, Bool, ◌&&◌, get_or, Option, None, Some, true, false, not, List, [], ◌∷◌, eqb, leb, length}
 use Rattle.std.proofs.Common.{not-suc-le-zero, ◌∙◌, arith, sym, ap, subst, eqb-true, ltb-true, leb-true, eq-eqb, ne_eqb, le-leb}
 use Rattle.std.proofs.lemmas.Bool.{lt-leb, eqb-false, and_parts}
-use Rattle.prelude.specs.Below.{all_elim}
-use Rattle.prelude.specs.Cases.{if◌then◌otherwise◌, maybe, if_true, if_false, split_if, split_maybe, maybe_none, maybe_some, none_some}
-use Rattle.prelude.specs.Texts.{text_of, same_text, same_length}
+use Rattle.prelude.specs.Laws.Below.{all_elim}
+use Rattle.prelude.specs.Cases.{if◌then◌otherwise◌, maybe}
+use Rattle.prelude.specs.Laws.Cases.{if_true, if_false, split_if, split_maybe, maybe_none, maybe_some, none_some}
+use Rattle.prelude.specs.Texts.{text_of, same_text}
+use Rattle.prelude.specs.Laws.Texts.{same_length}
 use Rattle.store.specs.declared.Request.{Request}
 use Rattle.store.specs.Book.{Book, book_of, order_in, request_in, request_count, origin_at}
 use Rattle.store.specs.Finds.{has_clordid, find_clordid}
@@ -14,7 +16,7 @@ use Rattle.store.specs.Laws.Fields.{request_origclordid}
 use Rattle.store.specs.Laws.Stored.{length_requests, request_in_lem}
 use Rattle.machine.specs.Orders.{is_empty}
 use Rattle.machine.specs.Rules.{client_of}
-use Rattle.machine.proofs.Kept.Lift.{BookKept, book_kept}
+use Rattle.machine.proofs.Kept.Indexed.{BookKept, book_kept}
 use Rattle.index.specs.Index.{link_right, links_right}
 use Rattle.rules.specs.Keeps.{keeps_of}
 use Rattle.rules.specs.Laws.Keeps.{keeps_held, keeps_links}

@@ -1,6 +1,7 @@
 -- `decimal::put_low` meets its contract: the digits that are left, written before those that stand, are all of them. Assumes nothing.
 use Rattle.std.proofs.Common.{◌≡◌, ℕ, suc, ◌+◌, ◌-◌, sym, ap, ◌∙◌, arith, set, length-set}
-use Rattle.prelude.specs.Span.{splice, splice_nil}
+use Rattle.prelude.specs.Span.{splice}
+use Rattle.prelude.specs.Laws.Span.{splice_nil}
 use Rattle.decimal.specs.Decimal.{low_digits}
 use Rattle.decimal.specs.Laws.Width.{low_put}
 use Rattle.decimal.proofs.put_low.Goals as goal

@@ -1,6 +1,7 @@
 -- `decimal::put_right` meets its contract: blanks, then the decimal, if they have room. Assumes nothing.
 use Rattle.std.proofs.Common.{◌≡◌, List, ℕ, ◌+◌, replicate, sym, ap, ◌∙◌, rules, arith, length-take, length-drop}
-use Rattle.prelude.specs.Span.{splice, part_splice}
+use Rattle.prelude.specs.Span.{splice}
+use Rattle.prelude.specs.Laws.Span.{part_splice}
 use Rattle.decimal.specs.Decimal.{blank, decimal, right}
 use Rattle.decimal.specs.Laws.Columns.{right_long, right_put, written_room, written_none}
 use Rattle.decimal.proofs.put_right.Goals as goal

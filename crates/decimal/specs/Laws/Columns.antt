@@ -5,8 +5,10 @@ use Rattle.std.proofs.Common.{sym, ap, ◌∙◌, append_assoc, arith, leb-true,
 use Rattle.std.proofs.Math.ListN.{get_or-append}
 use Rattle.std.proofs.lemmas.Bool.{lt-leb, and_parts}
 use Rattle.std.proofs.lemmas.List.{get_or-replicate, length-replicate, replicate-append-replicate}
-use Rattle.prelude.specs.Cases.{if◌then◌otherwise◌, split_if, if_true, if_false}
-use Rattle.prelude.specs.Span.{splice, length_splice, splice_append, set_splice}
+use Rattle.prelude.specs.Cases.{if◌then◌otherwise◌}
+use Rattle.prelude.specs.Laws.Cases.{split_if, if_true, if_false}
+use Rattle.prelude.specs.Span.{splice}
+use Rattle.prelude.specs.Laws.Span.{length_splice, splice_append, set_splice}
 use Rattle.decimal.specs.Decimal.{blank, point, lowest, digits_by, digits, low_digits, down, decimal, right, is_digit, read_from, number_in, written}
 use Rattle.decimal.specs.Laws.Back.{digit_is}
 

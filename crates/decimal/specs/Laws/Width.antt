@@ -4,8 +4,10 @@ use Rattle.std.proofs.Common.{sym, ap, ◌∙◌, append_assoc, lt_of_lt_of_le, 
 use Rattle.std.proofs.Math.Decide.{dec_lt}
 use Rattle.std.proofs.Math.ListN.{get_or-append}
 use Rattle.std.proofs.Math.Nat.{pow-succ', one-le-pow}
-use Rattle.prelude.specs.Cases.{if◌then◌otherwise◌, split_if, if_true, if_false}
-use Rattle.prelude.specs.Span.{splice, length_splice, splice_append, splice_before, set_splice}
+use Rattle.prelude.specs.Cases.{if◌then◌otherwise◌}
+use Rattle.prelude.specs.Laws.Cases.{split_if, if_true, if_false}
+use Rattle.prelude.specs.Span.{splice}
+use Rattle.prelude.specs.Laws.Span.{length_splice, splice_append, splice_before, set_splice}
 use Rattle.decimal.specs.Decimal.{point, lowest, digits_by, digits, low_digits, down, decimal}
 
 -- ---- low digits

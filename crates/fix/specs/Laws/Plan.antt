@@ -20,7 +20,7 @@ use Rattle.fix_words.specs.Values.{rows, type_of}
 use Rattle.fix_words.specs.Message.{version, is_text, inner}
 use Rattle.fix_words.specs.Record.{Session, writing_of, write_refusal}
 use Rattle.fix.specs.declared.value.Value.{Value}
-use Rattle.fix.specs.declared.value.Value.TheVariants.{Bytes, Number, Price, Words, Exec}
+use Rattle.fix.specs.declared.value.Value.TheVariants.{Bytes, Number, Price, Fixed, Exec}
 use Rattle.fix.specs.declared.write.Plan.{Plan}
 
 -- ---- a record's parts, as records gives them
@@ -45,7 +45,7 @@ unfoldable pub plain_plan : (to n high b : ℕ) → Value
 plain_plan to n high b = by_form to n high b (form_of b)
 
 unfoldable pub fixed_plan : (m n : ℕ) → Option Value
-fixed_plan m n = if bit m 27 then Some (Words n) otherwise None
+fixed_plan m n = if bit m 27 then Some (Fixed n) otherwise None
 
 -- the ExecID
 unfoldable pub exec_plan : (m : ℕ) (at ns : List ℕ) → Option Value
@@ -55,7 +55,7 @@ exec_plan m at ns = if bit m 25 then Some (Exec (get_or at 3 0 - get_or ns 2 0) 
 unfoldable pub instead_plan : (k m n b : ℕ) → Option Value
 instead_plan k m n b =
     if not (eqb k 17) then None otherwise
-    if eqb b 2 then Some (Words none_number) otherwise
+    if eqb b 2 then Some (Fixed none_number) otherwise
     if eqb b 20 then fixed_plan m n otherwise
     None
 
@@ -72,7 +72,7 @@ unfoldable pub said_by : List ℕ → Value → List ℕ
 said_by s (Bytes f n) = span s f n
 said_by s (Number n p) = decimal p n
 said_by s (Price l h p) = decimal p (l + 2 ^ 64 * h)
-said_by s (Words n) = get_or spoken n []
+said_by s (Fixed n) = get_or spoken n []
 said_by s (Exec f n l) = span s f n ++ (46 ∷ digits l)
 
 unfoldable pub shown : List ℕ → Option Value → Option (List ℕ)
@@ -83,7 +83,7 @@ unfoldable pub long_of : Value → ℕ
 long_of (Bytes f n) = n
 long_of (Number n p) = length (decimal p n)
 long_of (Price l h p) = length (decimal p (l + 2 ^ 64 * h))
-long_of (Words n) = length (get_or spoken n [])
+long_of (Fixed n) = length (get_or spoken n [])
 long_of (Exec f n l) = n + (1 + length (digits l))
 
 -- a field: the tag, =, the value, SOH
@@ -100,7 +100,7 @@ reach None = 0
 reach (Some (Bytes f n)) = f + n
 reach (Some (Number n p)) = 0
 reach (Some (Price l h p)) = 0
-reach (Some (Words n)) = 0
+reach (Some (Fixed n)) = 0
 reach (Some (Exec f n l)) = f + n
 
 -- its bytes stand in the buffer

@@ -4,10 +4,13 @@ use Rattle.std.proofs.Common.{sym, ap, subst, ◌∙◌, add-one, lit<, lit≤, 
 use Rattle.std.proofs.Math.Decide.{ℕ_discrete}
 use Rattle.std.proofs.Math.ListN.{get_or-append}
 use Rattle.std.proofs.lemmas.Bool.{and_parts}
-use Rattle.prelude.specs.Cases.{if◌then◌otherwise◌, split_if, if_true, if_false}
-use Rattle.prelude.specs.Below.{all_below, all_elim}
+use Rattle.prelude.specs.Cases.{if◌then◌otherwise◌}
+use Rattle.prelude.specs.Laws.Cases.{split_if, if_true, if_false}
+use Rattle.prelude.specs.Below.{all_below}
+use Rattle.prelude.specs.Laws.Below.{all_elim}
 use Rattle.prelude.specs.Number.{number}
-use Rattle.prelude.specs.Span.{span, span_none, span_drop}
+use Rattle.prelude.specs.Span.{span}
+use Rattle.prelude.specs.Laws.Span.{span_none, span_drop}
 use Rattle.bits.specs.Map.{bit}
 use Rattle.format.specs.Codes.{within}
 use Rattle.format.specs.Format.{size, range, fields, is_text_bit, in_range, side, status, quantity, price}
@@ -17,10 +20,10 @@ use Rattle.format.specs.Refusal.{ranged, message_shaped}
 use Rattle.records.specs.Parts.{whole_message}
 use Rattle.records.specs.Laws.Reading.{whole_of, within_most}
 use Rattle.decimal.specs.Decimal.{digits, decimal}
-use Rattle.fix_words.specs.Values.{texts, words_of, none_word, is_plain, places, spelling, over, or_else, either, exec_id, fixed_words, value_of}
+use Rattle.fix_words.specs.Values.{texts, fixed_text, none_text, is_plain, places, spelling, over, or_else, either, exec_id, fixed_text_in, value_of}
 use Rattle.fix_words.specs.Record.{field_at}
 use Rattle.fix.specs.declared.value.Value.{Value}
-use Rattle.fix.specs.declared.value.Value.TheVariants.{Bytes, Number, Price, Words, Exec}
+use Rattle.fix.specs.declared.value.Value.TheVariants.{Bytes, Number, Price, Fixed, Exec}
 use Rattle.fix.specs.Laws.Plan.{Parted, plain_plan, fixed_plan, exec_plan, instead_plan, planned, said_by, shown, Sound}
 use Rattle.fix_table.specs.Table.{spoken, form_of}
 
@@ -38,9 +41,9 @@ shown_price : (s : List ℕ) (l h p : ℕ) → shown s (Some (Price l h p)) ≡ 
 unfolding shown said_by
 shown_price s l h p = refl
 
-shown_words : (s : List ℕ) (n : ℕ) → shown s (Some (Words n)) ≡ Some (get_or spoken n [])
+shown_fixed : (s : List ℕ) (n : ℕ) → shown s (Some (Fixed n)) ≡ Some (get_or spoken n [])
 unfolding shown said_by
-shown_words s n = refl
+shown_fixed s n = refl
 
 shown_exec : (s : List ℕ) (f n l : ℕ) → shown s (Some (Exec f n l)) ≡ Some (span s f n ++ (46 ∷ digits l))
 unfolding shown said_by
@@ -50,11 +53,11 @@ shown_nothing : (s : List ℕ) → shown s None ≡ None
 unfolding shown
 shown_nothing s = refl
 
-spoken_text : (n : ℕ) → n < 19 → get_or spoken n [] ≡ words_of n
-unfolding spoken words_of texts
-spoken_text n h = get_or-append texts (none_word ∷ []) [] n h
+spoken_text : (n : ℕ) → n < 19 → get_or spoken n [] ≡ fixed_text n
+unfolding spoken fixed_text texts
+spoken_text n h = get_or-append texts (none_text ∷ []) [] n h
 
-spoken_none : get_or spoken 19 [] ≡ none_word
+spoken_none : get_or spoken 19 [] ≡ none_text
 unfolding spoken texts
 spoken_none = refl
 
@@ -233,16 +236,16 @@ module _ (s : List ℕ) (m : ℕ) (at ns : List ℕ) (high : ℕ) (p : Parted s 
       one_byte (x ∷ []) q = omega arith
       one_byte (x ∷ y ∷ c) q = absurd (omega arith)
 
-  fixed_shown : shown s (fixed_plan m (get_or ns 27 0)) ≡ over fixed_words (field_at s 27)
+  fixed_shown : shown s (fixed_plan m (get_or ns 27 0)) ≡ over fixed_text_in (field_at s 27)
   unfolding fixed_plan
   fixed_shown = go (bit m 27) refl
     where
-      go : (x : Bool) → bit m 27 ≡ x → shown s (if bit m 27 then Some (Words (get_or ns 27 0)) otherwise None) ≡ over fixed_words (field_at s 27)
+      go : (x : Bool) → bit m 27 ≡ x → shown s (if bit m 27 then Some (Fixed (get_or ns 27 0)) otherwise None) ≡ over fixed_text_in (field_at s 27)
       go true e =
-          ap (shown s) (if_true (bit m 27) (Some (Words (get_or ns 27 0))) None e) ∙ shown_words s (get_or ns 27 0)
-          ∙ ap {B = Option (List ℕ)} Some (spoken_text (get_or ns 27 0) (fixed_number e).1 ∙ ap words_of (fixed_number e).0)
-          ∙ ap (over fixed_words) (sym (on 27 e))
-      go false e = ap (shown s) (if_false (bit m 27) (Some (Words (get_or ns 27 0))) None e) ∙ shown_nothing s ∙ ap (over fixed_words) (sym (off 27 e))
+          ap (shown s) (if_true (bit m 27) (Some (Fixed (get_or ns 27 0))) None e) ∙ shown_fixed s (get_or ns 27 0)
+          ∙ ap {B = Option (List ℕ)} Some (spoken_text (get_or ns 27 0) (fixed_number e).1 ∙ ap fixed_text (fixed_number e).0)
+          ∙ ap (over fixed_text_in) (sym (on 27 e))
+      go false e = ap (shown s) (if_false (bit m 27) (Some (Fixed (get_or ns 27 0))) None e) ∙ shown_nothing s ∙ ap (over fixed_text_in) (sym (off 27 e))
 
   name_there : or_else [] (field_at s 2) ≡ content s 0 m 2
   name_there = go (bit m 2) refl
@@ -286,11 +289,11 @@ module _ (s : List ℕ) (m : ℕ) (at ns : List ℕ) (high : ℕ) (p : Parted s 
     where
       go : (x : Bool) → bit m 2 ≡ x → (y : Bool) → eqb k 17 ≡ y → Right k 2
       go true e true q =
-          rw q (planned_on k 2 (lit< tt) refl refl e ∙ ap {B = Option (List ℕ)} Some (text_spelled 2 (content s 0 m 2) refl) ∙ ap (λ (o : Option (List ℕ)). Some (or_else none_word o)) (sym (on 2 e)))
+          rw q (planned_on k 2 (lit< tt) refl refl e ∙ ap {B = Option (List ℕ)} Some (text_spelled 2 (content s 0 m 2) refl) ∙ ap (λ (o : Option (List ℕ)). Some (or_else none_text o)) (sym (on 2 e)))
       go true e false q =
           rw q (planned_on k 2 (lit< tt) refl refl e ∙ ap {B = Option (List ℕ)} Some (text_spelled 2 (content s 0 m 2) refl) ∙ sym (on 2 e))
       go false e true q =
-          rw (planned_off k 2 refl refl e, q) (shown_words s 19 ∙ ap {B = Option (List ℕ)} Some spoken_none ∙ ap (λ (o : Option (List ℕ)). Some (or_else none_word o)) (sym (off 2 e)))
+          rw (planned_off k 2 refl refl e, q) (shown_fixed s 19 ∙ ap {B = Option (List ℕ)} Some spoken_none ∙ ap (λ (o : Option (List ℕ)). Some (or_else none_text o)) (sym (off 2 e)))
       go false e false q = rw (planned_off k 2 refl refl e, q) (shown_nothing s ∙ sym (off 2 e))
 
   at_20 : (k : ℕ) → Right k 20
@@ -299,11 +302,11 @@ module _ (s : List ℕ) (m : ℕ) (at ns : List ℕ) (high : ℕ) (p : Parted s 
     where
       go : (x : Bool) → bit m 20 ≡ x → (y : Bool) → eqb k 17 ≡ y → Right k 20
       go true e true q =
-          rw q (planned_on k 20 (lit< tt) refl refl e ∙ ap {B = Option (List ℕ)} Some (text_spelled 20 (content s 0 m 20) refl) ∙ ap (λ (o : Option (List ℕ)). either o (over fixed_words (field_at s 27))) (sym (on 20 e)))
+          rw q (planned_on k 20 (lit< tt) refl refl e ∙ ap {B = Option (List ℕ)} Some (text_spelled 20 (content s 0 m 20) refl) ∙ ap (λ (o : Option (List ℕ)). either o (over fixed_text_in (field_at s 27))) (sym (on 20 e)))
       go true e false q =
           rw q (planned_on k 20 (lit< tt) refl refl e ∙ ap {B = Option (List ℕ)} Some (text_spelled 20 (content s 0 m 20) refl) ∙ sym (on 20 e))
       go false e true q =
-          rw (planned_off k 20 refl refl e, q) (fixed_shown ∙ ap (λ (o : Option (List ℕ)). either o (over fixed_words (field_at s 27))) (sym (off 20 e)))
+          rw (planned_off k 20 refl refl e, q) (fixed_shown ∙ ap (λ (o : Option (List ℕ)). either o (over fixed_text_in (field_at s 27))) (sym (off 20 e)))
       go false e false q = rw (planned_off k 20 refl refl e, q) (shown_nothing s ∙ sym (off 20 e))
 
   at_25 : (k : ℕ) → Right k 25

@@ -3,7 +3,8 @@ use Rattle.std.specs.Prelude.{ℕ, suc, ◌+◌, ◌-◌, ◌*◌, ◌^◌, ◌�
 use Rattle.std.proofs.Common.{sym, ap, subst, ◌∙◌, arith, leb-true, le-leb, leb-false, eq-eqb, length-append, drop-cons}
 use Rattle.std.proofs.lemmas.Bool.{lt-leb}
 use Rattle.prelude.specs.Cases.{if◌then◌otherwise◌}
-use Rattle.prelude.specs.Span.{span, splice, length_span, length_splice, splice_append, splice_nil, span_whole}
+use Rattle.prelude.specs.Span.{span, splice}
+use Rattle.prelude.specs.Laws.Span.{length_span, length_splice, splice_append, splice_nil, span_whole}
 use Rattle.decimal.specs.Decimal.{digits_by, digits, decimal}
 use Rattle.fix_words.specs.Spelling.{Field, field, spellings}
 use Rattle.fix_words.specs.Laws.Spelling.{spellings_append}
@@ -12,7 +13,7 @@ use Rattle.fix_words.specs.Laws.Rows.{or_right}
 use Rattle.fix_words.specs.Laws.Counting.{field_long_lem, decimal_none}
 use Rattle.fix_table.specs.Table.{spoken}
 use Rattle.fix.specs.declared.value.Value.{Value}
-use Rattle.fix.specs.declared.value.Value.TheVariants.{Bytes, Number, Price, Words, Exec}
+use Rattle.fix.specs.declared.value.Value.TheVariants.{Bytes, Number, Price, Fixed, Exec}
 use Rattle.fix.specs.Laws.Plan.{said_by, shown, long_of, field_long, field_shown, Sound, rows_long, rows_shown, less_by, head_long, stamp_fields, stamp_long}
 
 -- ---- the five forms of a value that stands: how long each is, and what it says
@@ -30,7 +31,7 @@ pub form_5 : (s : List ℕ) (v : Value) (l h p : ℕ) → v ≡ Price l h p
 unfolding long_of said_by
 form_5 s v l h p e = (rw e refl, rw e refl)
 
-pub form_3 : (s : List ℕ) (v : Value) (n : ℕ) → v ≡ Words n → (long_of v ≡ length (get_or spoken n [])) × (said_by s v ≡ get_or spoken n [])
+pub form_3 : (s : List ℕ) (v : Value) (n : ℕ) → v ≡ Fixed n → (long_of v ≡ length (get_or spoken n [])) × (said_by s v ≡ get_or spoken n [])
 unfolding long_of said_by
 form_3 s v n e = (rw e refl, rw e refl)
 
@@ -46,7 +47,7 @@ unfolding said_by long_of
 said_long s (Bytes f n) h = length_span s f n h
 said_long s (Number n p) h = refl
 said_long s (Price l g p) h = refl
-said_long s (Words n) h = refl
+said_long s (Fixed n) h = refl
 said_long s (Exec f n l) h = length-append (span s f n) (46 ∷ digits l) ∙ omega (arith, length_span s f n h)
 
 pub shown_long : (s : List ℕ) (tag : ℕ) (v : Option Value) → Sound s v → length (field_shown s tag v) ≡ field_long tag v

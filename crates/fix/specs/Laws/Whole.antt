@@ -6,10 +6,12 @@ use Rattle.std.proofs.Common.{ap, sym, ◌∙◌, append_assoc, arith, leb-true,
 use Rattle.std.proofs.lemmas.Bool.{lt-leb, and_parts}
 use Rattle.std.specs.Cmp.{both_ways}
 use Rattle.prelude.specs.Cases.{if◌then◌otherwise◌}
-use Rattle.prelude.specs.Below.{all_below, all_ext, all_intro, all_elim}
+use Rattle.prelude.specs.Below.{all_below}
+use Rattle.prelude.specs.Laws.Below.{all_ext, all_intro, all_elim}
 use Rattle.fix_words.specs.Lists.{every, is_print}
 use Rattle.fix_words.specs.Laws.Lists.{every_below, below_every}
-use Rattle.prelude.specs.Span.{span, splice, span_splice_same, span_splice_before, splice_append, length_splice}
+use Rattle.prelude.specs.Span.{span, splice}
+use Rattle.prelude.specs.Laws.Span.{span_splice_same, span_splice_before, splice_append, length_splice}
 use Rattle.bits.specs.Map.{bit}
 use Rattle.format.specs.Codes.{within}
 use Rattle.format.specs.Format.{range, is_text_bit, side, status, is_kind, bits_right}
@@ -57,7 +59,7 @@ room_none room T = go (leb T room) refl
     go true e q = cc
     go false e q = leb-false T room e
 
--- what is left, 0 where it did not fit
+-- what is left, 0 if it did not fit
 abbrev pub left_of : Option ℕ → ℕ
 left_of None = 0
 left_of (Some rest) = rest
@@ -66,7 +68,7 @@ pub room_body : (room T : ℕ) → T ≤ room → room - left_of (less_by (Some 
 unfolding less_by if◌then◌otherwise◌
 room_body room T h = rw (le-leb T room h) (omega arith)
 
--- the body and its frame fit where both together do
+-- the body and its frame fit if both together do
 pub room_fits : (room T : ℕ) → is_some (less_by (less_by (Some room) T) (frame_long (room - left_of (less_by (Some room) T)))) ≡ leb (T + frame_long T) room
 unfolding less_by if◌then◌otherwise◌
 room_fits room T = go (leb T room) refl

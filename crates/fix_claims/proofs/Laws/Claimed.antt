@@ -3,15 +3,17 @@ use Rattle.std.proofs.Common.{ℕ, ◌+◌, ◌%◌, ◌≤◌, ◌<◌, ◌≡�
 use Rattle.std.proofs.lemmas.Bool.{and_from}
 use Rattle.std.proofs.lemmas.List.{length-replicate}
 use Rattle.prelude.specs.Cases.{if◌then◌otherwise◌}
-use Rattle.prelude.specs.Bytes.{zeros, bytes_zeros}
+use Rattle.prelude.specs.Bytes.{zeros}
+use Rattle.prelude.specs.Laws.Bytes.{bytes_zeros}
 use Rattle.prelude.specs.Number.{Bytes}
-use Rattle.prelude.specs.Span.{splice, get_span, span_splice_same, span_splice_after}
+use Rattle.prelude.specs.Span.{splice}
+use Rattle.prelude.specs.Laws.Span.{get_span, span_splice_same, span_splice_after}
 use Rattle.format.specs.Refusal.{message_shaped, ranged}
 use Rattle.format.specs.Places.{end_of}
 use Rattle.records.specs.Parts.{whole_message}
 use Rattle.records.specs.Answer.{count_in, answer_refusal}
-use Rattle.cut.specs.Place.{place_of}
-use Rattle.cut.specs.Laws.Cut.{cut_at, cut_out, cut_written, none_past}
+use Rattle.records.specs.Place.{place_of}
+use Rattle.records.specs.Laws.Cut.{cut_at, cut_out, cut_written, none_past}
 use Rattle.decimal.specs.Decimal.{digits, low_digits}
 use Rattle.fix_words.specs.Spelling.{spellings}
 use Rattle.fix_words.specs.Message.{inner, front, sum, texted, is_message, read_of}

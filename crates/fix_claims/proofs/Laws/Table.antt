@@ -3,8 +3,9 @@
 use Rattle.std.proofs.Common.{ℕ, suc, ◌+◌, ◌≤◌, ◌<◌, ◌≡◌, true, leb, ltb, drop, Option, None, Some, refl, sym, ap, subst, ◌∙◌, arith, leb-true, lt-ltb, le-ltb, take-append-drop, drop-cons, drop_at, List, [], ◌∷◌, ◌++◌, append_assoc, length, get_or, take, length-append, take_at}
 use Rattle.std.proofs.Math.Decide.{dec_lt}
 use Rattle.std.proofs.Math.ListN.{get_or-eq_default}
-use Rattle.prelude.specs.Cases.{split_if, if_true, if_false}
-use Rattle.prelude.specs.Lists.{list_below, length_list, get_list}
+use Rattle.prelude.specs.Laws.Cases.{split_if, if_true, if_false}
+use Rattle.prelude.specs.Lists.{list_below}
+use Rattle.prelude.specs.Laws.Lists.{length_list, get_list}
 use Rattle.prelude.specs.Number.{Bytes}
 use Rattle.prelude.specs.Span.{span}
 use Rattle.format.specs.Codes.{within}

@@ -2,8 +2,9 @@
 use Rattle.std.specs.Prelude.{ℕ, zero, suc, ◌<◌, ◌≡◌, Bool, not, ◌&&◌, ◌||◌, eqb, leb, ltb, length, get_or, None, Some, refl, List, [], ◌∷◌, true, false}
 use Rattle.std.proofs.Common.{ap, sym, ◌∙◌, inl, arith, eqb-true, leb-true, leb-false, ltb-true, inr, ⊎_elim}
 use Rattle.std.proofs.lemmas.Bool.{not-true, and_parts, or_cases}
-use Rattle.prelude.specs.Cases.{if_true, if_false, clash}
-use Rattle.prelude.specs.Below.{all_below, all_elim}
+use Rattle.prelude.specs.Laws.Cases.{if_true, if_false, clash}
+use Rattle.prelude.specs.Below.{all_below}
+use Rattle.prelude.specs.Laws.Below.{all_elim}
 use Rattle.bits.specs.Map.{bit}
 use Rattle.format.specs.Codes.{listed}
 use Rattle.format.specs.Format.{size, fields, is_text_bit}

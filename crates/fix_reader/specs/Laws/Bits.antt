@@ -2,8 +2,10 @@
 use Rattle.std.specs.Prelude.{◌≡◌, ℕ, ◌<◌, ◌≤◌, Bool, true, false, not, ◌&&◌, ◌||◌, ◌==◌, ◌≢◌, nat_eq, refl}
 use Rattle.std.proofs.Common.{sym, ap, subst, ◌∙◌, ⊎_elim, arith, eqb-true, ne_eqb}
 use Rattle.std.proofs.lemmas.Bool.{not-true, and_parts, or_cases}
-use Rattle.prelude.specs.Cases.{if◌then◌otherwise◌, clash}
-use Rattle.prelude.specs.Below.{all_below, all_elim}
+use Rattle.prelude.specs.Cases.{if◌then◌otherwise◌}
+use Rattle.prelude.specs.Laws.Cases.{clash}
+use Rattle.prelude.specs.Below.{all_below}
+use Rattle.prelude.specs.Laws.Below.{all_elim}
 use Rattle.bits.specs.Map.{bit}
 use Rattle.format.specs.Codes.{within}
 use Rattle.format.specs.Format.{size, range, fields, is_text_bit, required, allowed, required_bits, allowed_bits}

@@ -4,9 +4,11 @@ use Rattle.std.proofs.Common.{sym, ap, ◌∙◌, ⊎_elim, arith, eqb-true, eq-
 use Rattle.std.proofs.Math.Bool.{and-true, not-not}
 use Rattle.std.proofs.lemmas.Bool.{not-true, and_parts, and_from, or_cases, not_from_false, or_left}
 use Rattle.std.specs.Cmp.{both_ways}
-use Rattle.prelude.specs.Cases.{if◌then◌otherwise◌, if_true, if_false, clash}
-use Rattle.prelude.specs.Number.{number, bytes_of, bound, length_bytes, number_bytes, number_bound}
-use Rattle.prelude.specs.Bytes.{bytes_of_lem}
+use Rattle.prelude.specs.Cases.{if◌then◌otherwise◌}
+use Rattle.prelude.specs.Laws.Cases.{if_true, if_false, clash}
+use Rattle.prelude.specs.Number.{number, bytes_of, bound}
+use Rattle.prelude.specs.Laws.Number.{length_bytes, number_bytes, number_bound}
+use Rattle.prelude.specs.Laws.Bytes.{bytes_of_lem}
 use Rattle.bits.specs.Map.{bit}
 use Rattle.decimal.specs.Decimal.{decimal, number_in}
 use Rattle.decimal.specs.Laws.Back.{decimal_back}
@@ -14,7 +16,7 @@ use Rattle.format.specs.Codes.{within, is_alnum}
 use Rattle.format.specs.Format.{size, range, fields, is_text_bit, in_range, required, allowed}
 use Rattle.format.specs.Places.{value}
 use Rattle.fix_words.specs.Lists.{every, is_print, same}
-use Rattle.fix_words.specs.Values.{is_plain, places, spelling, unspelled, held_in, none_word}
+use Rattle.fix_words.specs.Values.{is_plain, places, spelling, unspelled, held_in, none_text}
 use Rattle.fix_words.specs.Message.{shape_at, range_at, text_at, is_text, is_name_of}
 use Rattle.fix_words.specs.Laws.Lists.{same_true, same_self, below_every}
 use Rattle.fix_words.specs.Laws.Held.{number_one, shape_long}
@@ -25,7 +27,7 @@ use Rattle.fix_reader.specs.Laws.Fits.{respelled, fits, fits_right, fits_same, f
 bytes_every : (s n : ℕ) → every (λ x. ltb x 256) (bytes_of s n) ≡ true
 bytes_every s n = below_every (λ x. ltb x 256) (bytes_of s n) (λ i h. lt-ltb (slice_index (bytes_of s n) i) 256 (bytes_of_lem s n i))
 
--- a text that prints is one where it has a byte
+-- a text that prints is one if it has a byte
 pub text_some : (v : List ℕ) → every is_print v ≡ true → is_text v ≡ nat_lt 0 (length v)
 text_some [] e = refl
 text_some (c ∷ v) e = e ∙ sym (lt-ltb 0 (length (c ∷ v)) (omega arith))
@@ -184,7 +186,7 @@ module _ (k : ℕ) (nm v : List ℕ) (stand : (bit (required k) 2 || bit (allowe
   unfolding respelled if◌then◌otherwise◌
   name_again = same_self v
 
-  name_held : held_in 2 (Some v) ≡ (if same v none_word then None otherwise Some v)
+  name_held : held_in 2 (Some v) ≡ (if same v none_text then None otherwise Some v)
   unfolding held_in if◌then◌otherwise◌
   name_held = refl
 
@@ -195,14 +197,14 @@ module _ (k : ℕ) (nm v : List ℕ) (stand : (bit (required k) 2 || bit (allowe
   none_right : right k 2 None ≡ (k == 17)
   none_right = ap (λ (x : Bool). not x && true) must ∙ and-true (not (not (k == 17))) ∙ not-not (k == 17)
 
-  some_right : same v none_word ≡ false → right k 2 (Some v) ≡ as_name
+  some_right : same v none_text ≡ false → right k 2 (Some v) ≡ as_name
   some_right s = both_ways (right k 2 (Some v)) as_name to back
     where
       to : right k 2 (Some v) ≡ true → as_name ≡ true
       to e =
           let r = and_parts (range_at 2 (Some v)) (text_at 2 (Some v)) (and_parts (shape_at k 2 (Some v)) (range_at 2 (Some v) && text_at 2 (Some v)) e).1 in
           let i = and_parts (in_range (range 2) (value 2 v)) (is_name_of v) r.0 in
-          and_from _ _ (sym (name_range_lem (length v)) ∙ ap (in_range (range 2)) (sym value_2) ∙ i.0) (and_parts (every is_alnum v) (not (same v none_word)) i.1).0
+          and_from _ _ (sym (name_range_lem (length v)) ∙ ap (in_range (range 2)) (sym value_2) ∙ i.0) (and_parts (every is_alnum v) (not (same v none_text)) i.1).0
 
       back : as_name ≡ true → right k 2 (Some v) ≡ true
       back e =
@@ -211,13 +213,13 @@ module _ (k : ℕ) (nm v : List ℕ) (stand : (bit (required k) 2 || bit (allowe
           let x : is_text v ≡ true = text_some v prints ∙ lt-ltb 0 (length v) (omega arith) in
           and_from _ _ (shape_some k 2 nm v stand bytes v bytes (or_left (is_text_bit 2) (length v == size 2) text_bit_2))
           (and_from _ _
-          (and_from _ _ (ap (in_range (range 2)) value_2 ∙ name_range_lem (length v) ∙ h.0) (and_from _ _ h.1 (not_from_false (same v none_word) s)))
+          (and_from _ _ (ap (in_range (range 2)) value_2 ∙ name_range_lem (length v) ∙ h.0) (and_from _ _ h.1 (not_from_false (same v none_text) s)))
           (or_right (not (is_text_bit 2)) (is_text v) x))
 
-  pub name_fits : fits k nm 2 v ≡ (if same v none_word then (k == 17) otherwise as_name)
+  pub name_fits : fits k nm 2 v ≡ (if same v none_text then (k == 17) otherwise as_name)
   unfolding fits
-  name_fits = (λ i. right k 2 (name_held i) && name_again i) ∙ and-true (right k 2 (if same v none_word then None otherwise Some v)) ∙ go (same v none_word) refl
+  name_fits = (λ i. right k 2 (name_held i) && name_again i) ∙ and-true (right k 2 (if same v none_text then None otherwise Some v)) ∙ go (same v none_text) refl
     where
-      go : (x : Bool) → same v none_word ≡ x → right k 2 (if same v none_word then None otherwise Some v) ≡ (if same v none_word then (k == 17) otherwise as_name)
-      go true e = ap (right k 2) (if_true (same v none_word) None (Some v) e) ∙ none_right ∙ sym (if_true (same v none_word) (k == 17) as_name e)
-      go false e = ap (right k 2) (if_false (same v none_word) None (Some v) e) ∙ some_right e ∙ sym (if_false (same v none_word) (k == 17) as_name e)
+      go : (x : Bool) → same v none_text ≡ x → right k 2 (if same v none_text then None otherwise Some v) ≡ (if same v none_text then (k == 17) otherwise as_name)
+      go true e = ap (right k 2) (if_true (same v none_text) None (Some v) e) ∙ none_right ∙ sym (if_true (same v none_text) (k == 17) as_name e)
+      go false e = ap (right k 2) (if_false (same v none_text) None (Some v) e) ∙ some_right e ∙ sym (if_false (same v none_text) (k == 17) as_name e)

@@ -5,9 +5,11 @@ use Rattle.std.proofs.Common.{sym, ap, subst, ◌∙◌, arith, lt-ltb, le-ltb, 
 use Rattle.std.proofs.Math.Decide.{dec_lt}
 use Rattle.std.proofs.Math.ListN.{get_or-eq_default}
 use denote.Struct.Props.{props}
-use Rattle.prelude.specs.Cases.{if_false}
-use Rattle.prelude.specs.Lists.{list_below, length_list, get_list}
-use Rattle.prelude.specs.Span.{span, span_none, part_span}
+use Rattle.prelude.specs.Laws.Cases.{if_false}
+use Rattle.prelude.specs.Lists.{list_below}
+use Rattle.prelude.specs.Laws.Lists.{length_list, get_list}
+use Rattle.prelude.specs.Span.{span}
+use Rattle.prelude.specs.Laws.Span.{span_none, part_span}
 use Rattle.decimal.specs.Decimal.{digits}
 use Rattle.fix_words.specs.Lists.{every, is_print}
 use Rattle.fix_words.specs.Spelling.{Field, spellings, fields_in}

@@ -7,7 +7,7 @@ use Rattle.std.proofs.Math.Seq.{split_at, get_or_at}
 use Rattle.std.proofs.lemmas.List.{take_rest}
 use Rattle.std.proofs.lemmas.Bool.{and_parts, and_from, or_cases}
 use Rattle.std.specs.Cmp.{both_ways}
-use Rattle.prelude.specs.Cases.{if_true, if_false, clash}
+use Rattle.prelude.specs.Laws.Cases.{if_true, if_false, clash}
 use Rattle.decimal.specs.Decimal.{is_digit, point, digits, low_digits, down, decimal, read_from, number_in}
 use Rattle.decimal.specs.Laws.Back.{read_append, digits_back, low_back}
 use Rattle.decimal.specs.Laws.Columns.{Digits, low_are, same_digits}

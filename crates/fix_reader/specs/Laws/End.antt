@@ -3,8 +3,8 @@ use Rattle.std.specs.Prelude.{◌≡◌, ℕ, ◌<◌, true, false, List, [], le
 use Rattle.std.proofs.Common.{sym, ap, ◌∙◌, arith, lt-ltb}
 use Rattle.std.proofs.Math.Decide.{dec_lt}
 use Rattle.std.proofs.Math.ListN.{get_or-eq_default}
-use Rattle.prelude.specs.Bytes.{bytes_span}
-use Rattle.prelude.specs.Cases.{if_true, if_false}
+use Rattle.prelude.specs.Laws.Bytes.{bytes_span}
+use Rattle.prelude.specs.Laws.Cases.{if_true, if_false}
 use Rattle.prelude.specs.Number.{Bytes}
 use Rattle.prelude.specs.Span.{span}
 use Rattle.fix_claims.specs.declared.FixFields.{FixFields}
@@ -15,7 +15,8 @@ use Rattle.fix_claims.specs.Reading.{no_field, place_of, length_of, tabled, fiel
 use Rattle.fix_words.specs.Laws.Lists.{below_every}
 use Rattle.fix_reader.specs.Laws.Split.{NoFields, Found, plains_print}
 use Rattle.fix_reader.specs.Laws.Cut.{found_fields}
-use Rattle.fix_reader.specs.Laws.Checks.{checks, message_is}
+use Rattle.fix_reader.specs.Laws.Checks.{checks}
+use Rattle.fix_reader.specs.Laws.Passing.{message_is}
 use Rattle.fix_claims.proofs.Laws.Table.{value_stands}
 use Rattle.fix_reader.specs.Laws.Whole.{uncut}
 

@@ -6,7 +6,8 @@ use Rattle.std.proofs.Math.Bool.{and-false}
 use Rattle.std.proofs.Math.Decide.{ℕ_discrete}
 use Rattle.std.proofs.lemmas.Bool.{and_parts}
 use Rattle.std.proofs.lemmas.Bool.Decides.{nat_tests}
-use Rattle.prelude.specs.Cases.{if◌then◌otherwise◌, if_false, none_some, same_some}
+use Rattle.prelude.specs.Cases.{if◌then◌otherwise◌}
+use Rattle.prelude.specs.Laws.Cases.{if_false, none_some, same_some}
 use Rattle.format.specs.Codes.{within}
 use Rattle.fix_words.specs.Lists.{same}
 use Rattle.fix_words.specs.Spelling.{Field, fields_in}
@@ -102,7 +103,7 @@ abbrev pub kind_number : Option MessageKind → Option ℕ
 kind_number None = None
 kind_number (Some kind) = Some kind.number
 
--- the kind of a message, where its header is one that the writer yields
+-- the kind of a message, if its header is one that the writer yields
 unfoldable pub kind_headed : List Field → Option ℕ
 kind_headed fs = if headed fs then Some (kind_in fs) otherwise None
 
@@ -218,7 +219,7 @@ pub checks_unheaded : (fs : List Field) → headed fs ≡ false → checks fs �
 unfolding checks
 checks_unheaded fs e = ap (λ (b : Bool). b && ends fs (walk_all fs (kind_in fs))) e
 
--- a kind was found exactly where the header is right
+-- a kind was found exactly if the header is right
 pub kind_none : (fs : List Field) → kind_headed fs ≡ None → headed fs ≡ false
 unfolding kind_headed if◌then◌otherwise◌
 kind_none fs = go (headed fs)

@@ -6,8 +6,10 @@ use Rattle.std.proofs.Math.Decide.{ℕ_discrete}
 use Rattle.std.proofs.lemmas.Bool.{not-true, not-false, lt-leb, and_from}
 use Rattle.std.specs.Option.{is_some}
 use Rattle.std.specs.Cmp.Lexicographic.{pointwise}
-use Rattle.prelude.specs.Cases.{if◌then◌otherwise◌, split_if, if_true, if_false}
-use Rattle.prelude.specs.Number.{bound, bound_le}
+use Rattle.prelude.specs.Cases.{if◌then◌otherwise◌}
+use Rattle.prelude.specs.Laws.Cases.{split_if, if_true, if_false}
+use Rattle.prelude.specs.Number.{bound}
+use Rattle.prelude.specs.Laws.Number.{bound_le}
 use Rattle.prelude.specs.Span.{splice}
 use Rattle.decimal.specs.Decimal.{is_digit, read_from, number_in, written}
 use Rattle.decimal.specs.Laws.Back.{read_append}
@@ -27,7 +29,7 @@ abbrev pub Steps : ℕ → ℕ → Option ℕ → Type 0
 Steps n c None = word ≤ step_of n c
 Steps n c (Some m) = (m ≡ step_of n c) × (m < word)
 
--- the number, where it is below 2^64
+-- the number, if it is below 2^64
 abbrev pub Parses : List ℕ → Option ℕ → Type 0
 Parses v None = word ≤ number_in v
 Parses v (Some n) = (n ≡ number_in v) × (n < word)

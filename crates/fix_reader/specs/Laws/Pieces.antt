@@ -4,7 +4,8 @@ use Rattle.std.specs.Prelude.{◌≡◌, ℕ, suc, ◌+◌, ◌-◌, ◌*◌, �
 use Rattle.std.proofs.Common.{sym, ap, ◌∙◌, append_assoc, inl, inr, ⊎_elim, arith, add-one, leb-true, le-leb, lit<, length-append, length-drop, take-append-drop, drop-cons, get_or-drop, get_or-append-add, drop-drop}
 use Rattle.std.proofs.Math.Decide.{dec_lt}
 use Rattle.std.proofs.Math.ListN.{get_or-eq_default, get_or-append}
-use Rattle.prelude.specs.Span.{span, get_span, length_span}
+use Rattle.prelude.specs.Span.{span}
+use Rattle.prelude.specs.Laws.Span.{get_span, length_span}
 use Rattle.decimal.specs.Decimal.{digits, lowest}
 use Rattle.decimal.specs.Laws.Width.{digits_one, digits_more}
 use Rattle.fix_reader.specs.declared.pieces.Tag.{Tag}
@@ -89,7 +90,7 @@ module _ (t : List ℕ) (n : ℕ) where
 pub tag_within : (t : List ℕ) (n at : ℕ) → TagAt t n at → at ≤ length t
 tag_within t n at k = omega (arith, k.place, ap length k.whole ∙ length-append (digits n) (equals ∷ drop at t), length-drop at t)
 
--- what the bytes are where a tag of one, two or three digits stands first
+-- what the bytes are if a tag of one, two or three digits stands first
 pub record One (t : List ℕ) : Type 0 where
   pub low : 48 < slice_index t 0
   pub high : slice_index_or t 0 0 ≤ 57
@@ -134,7 +135,7 @@ tag_cases t n p h u w = go (dec_lt n 10) (dec_lt n 100)
         let g2 : slice_index_or t 2 0 ≡ lowest n = g 2 in
         inr (inr (record { low = omega arith; high = omega arith; low1 = omega arith; high1 = omega arith; low2 = omega arith; high2 = omega arith; end = g 3 }))
 
--- a byte as a digit, where it is one
+-- a byte as a digit, if it is one
 abbrev pub Digit : ℕ → Option ℕ → Type 0
 Digit c None = 48 ≤ c → 57 < c
 Digit c (Some d) = (c ≡ 48 + d) × (d < 10)

@@ -1,4 +1,4 @@
--- What fits the bits that go their own way: the ExecID, LastPx of two words, and the words of our own. What a value holds is its number modulo
+-- What fits the bits that go their own way: the ExecID, LastPx of two words, and the fixed texts. What a value holds is its number modulo
 -- the size of its bit, so that code may let the number wrap. Rests on Fits, Wrapping and Ending.
 use Rattle.std.specs.Prelude.{◌≡◌, ℕ, suc, ◌+◌, ◌-◌, ◌*◌, ◌%◌, ◌<◌, ◌≤◌, Bool, true, false, not, ◌&&◌, ◌||◌, cond, leb, ltb, List, [], ◌∷◌, ◌++◌, length, take, drop, ◌==◌, ◌≢◌, nat_eq, nat_le, nat_lt, slice_index, slice_index_or, Option, None, Some, refl}
 use Rattle.std.proofs.Common.{ap, sym, ◌∙◌, drop_of_length-le, drop-cons, arith, eq-eqb, ne_eqb, lt-ltb, le-leb, leb-true}
@@ -9,17 +9,20 @@ use Rattle.std.specs.List.{position_or_len}
 use Rattle.std.specs.Cmp.Lexicographic.{pointwise}
 use Rattle.std.proofs.lemmas.Bool.Decides.{nat_tests}
 use Rattle.std.specs.Cmp.{both_ways}
-use Rattle.prelude.specs.Cases.{if◌then◌otherwise◌, if_true, if_false, maybe_none, maybe_some}
-use Rattle.prelude.specs.Below.{all_below, all_elim, all_intro, first_below, First, first_some, first_none, first_more, first_hit}
-use Rattle.prelude.specs.Number.{number, bytes_of, length_bytes}
-use Rattle.prelude.specs.Bytes.{bytes_of_lem}
+use Rattle.prelude.specs.Cases.{if◌then◌otherwise◌}
+use Rattle.prelude.specs.Laws.Cases.{if_true, if_false, maybe_none, maybe_some}
+use Rattle.prelude.specs.Below.{all_below, first_below}
+use Rattle.prelude.specs.Laws.Below.{all_elim, all_intro, First, first_some, first_none, first_more, first_hit}
+use Rattle.prelude.specs.Number.{number, bytes_of}
+use Rattle.prelude.specs.Laws.Number.{length_bytes}
+use Rattle.prelude.specs.Laws.Bytes.{bytes_of_lem}
 use Rattle.bits.specs.Map.{bit}
 use Rattle.decimal.specs.Decimal.{decimal, digits, number_in}
 use Rattle.format.specs.Codes.{within}
 use Rattle.format.specs.Format.{size, range, fields, in_range, required, allowed}
 use Rattle.format.specs.Places.{value}
 use Rattle.fix_words.specs.Lists.{every, same, after}
-use Rattle.fix_words.specs.Values.{texts, words_of, word_number, is_plain, places, spelling, unspelled, held_in, none_word}
+use Rattle.fix_words.specs.Values.{texts, fixed_text, fixed_text_number, is_plain, places, spelling, unspelled, held_in, none_text}
 use Rattle.fix_words.specs.Message.{shape_at, range_at, text_at}
 use Rattle.fix_words.specs.Laws.Lists.{same_list, every_below, below_every}
 use Rattle.fix_words.proofs.Laws.Kinds.{right}
@@ -63,57 +66,57 @@ module _ (k : ℕ) (nm v : List ℕ) where
         ap (λ (b : Bool). b && same (decimal 8 (number d)) v) price_right_lem
         ∙ ap (λ (n : ℕ). same (decimal 8 n) v) (low_words (number_in v))
 
--- ---- words of our own
+-- ---- fixed texts
 
-abbrev pub is_words : List ℕ → ℕ → Bool
-is_words v n = same (words_of n) v
+abbrev pub is_fixed : List ℕ → ℕ → Bool
+is_fixed v n = same (fixed_text n) v
 
 module _ (v : List ℕ) where
-  pub words_none : first_below (is_words v) 19 ≡ None → word_number v ≡ 0
-  unfolding word_number
-  words_none e = maybe_none (first_below (is_words v) 19) 0 (λ n. n) e
+  pub fixed_none : first_below (is_fixed v) 19 ≡ None → fixed_text_number v ≡ 0
+  unfolding fixed_text_number
+  fixed_none e = maybe_none (first_below (is_fixed v) 19) 0 (λ n. n) e
 
-  pub words_some : (n : ℕ) → first_below (is_words v) 19 ≡ Some n → word_number v ≡ n
-  unfolding word_number
-  words_some n e = maybe_some (first_below (is_words v) 19) n 0 (λ n. n) e
+  pub fixed_some : (n : ℕ) → first_below (is_fixed v) 19 ≡ Some n → fixed_text_number v ≡ n
+  unfolding fixed_text_number
+  fixed_some n e = maybe_some (first_below (is_fixed v) 19) n 0 (λ n. n) e
 
-  pub words_found : (n : ℕ) → 1 ≤ n → n < 19 → first_below (is_words v) n ≡ None → is_words v n ≡ true → nat_le 1 (word_number v) ≡ true
-  words_found n l h e t = ap (leb 1) (words_some n (first_hit (is_words v) 19 n h e t)) ∙ le-leb 1 n l
+  pub fixed_found : (n : ℕ) → 1 ≤ n → n < 19 → first_below (is_fixed v) n ≡ None → is_fixed v n ≡ true → nat_le 1 (fixed_text_number v) ≡ true
+  fixed_found n l h e t = ap (leb 1) (fixed_some n (first_hit (is_fixed v) 19 n h e t)) ∙ le-leb 1 n l
 
-  pub words_missing : first_below (is_words v) 19 ≡ None → nat_le 1 (word_number v) ≡ false
-  words_missing e = ap (leb 1) (words_none e)
+  pub fixed_missing : first_below (is_fixed v) 19 ≡ None → nat_le 1 (fixed_text_number v) ≡ false
+  fixed_missing e = ap (leb 1) (fixed_none e)
 
-  -- no words of no bytes
-  pub words_empty : length v ≡ 0 → nat_le 1 (word_number v) ≡ false
-  unfolding words_of texts
-  words_empty l = ap (leb 1) (words_some 0 (first_hit (is_words v) 19 0 (omega arith) (first_none (is_words v)) (empty v l)))
+  -- no fixed text has no bytes
+  pub fixed_empty : length v ≡ 0 → nat_le 1 (fixed_text_number v) ≡ false
+  unfolding fixed_text texts
+  fixed_empty l = ap (leb 1) (fixed_some 0 (first_hit (is_fixed v) 19 0 (omega arith) (first_none (is_fixed v)) (empty v l)))
     where
       empty : (v : List ℕ) → length v ≡ 0 → same [] v ≡ true
       empty [] l = refl
       empty (x ∷ v) l = absurd (omega arith)
 
-  pub words_start : (length v ≢ 0) → first_below (is_words v) 1 ≡ None
-  unfolding words_of texts
-  words_start h = first_more (is_words v) 0 (first_none (is_words v)) (some_bytes v h)
+  pub fixed_start : (length v ≢ 0) → first_below (is_fixed v) 1 ≡ None
+  unfolding fixed_text texts
+  fixed_start h = first_more (is_fixed v) 0 (first_none (is_fixed v)) (some_bytes v h)
     where
       some_bytes : (v : List ℕ) → (length v ≢ 0) → same [] v ≡ false
       some_bytes [] h = absurd (h refl)
       some_bytes (x ∷ v) h = refl
 
-  known : 1 ≤ word_number v → First (is_words v) 19 (word_number v)
-  known l = go (first_below (is_words v) 19) refl
+  known : 1 ≤ fixed_text_number v → First (is_fixed v) 19 (fixed_text_number v)
+  known l = go (first_below (is_fixed v) 19) refl
     where
-      go : (o : Option ℕ) → first_below (is_words v) 19 ≡ o → First (is_words v) 19 (word_number v)
-      go None e = absurd (omega (arith, words_none e))
-      go (Some n) e = first_some (is_words v) 19 (word_number v) (e ∙ ap (λ (m : ℕ). Some m) (sym (words_some n e)))
+      go : (o : Option ℕ) → first_below (is_fixed v) 19 ≡ o → First (is_fixed v) 19 (fixed_text_number v)
+      go None e = absurd (omega (arith, fixed_none e))
+      go (Some n) e = first_some (is_fixed v) 19 (fixed_text_number v) (e ∙ ap (λ (m : ℕ). Some m) (sym (fixed_some n e)))
 
   module _ (k : ℕ) (nm : List ℕ) (stand : (bit (required k) 27 || bit (allowed k) 27) ≡ true) where
     abbrev n : ℕ
-    n = word_number v
+    n = fixed_text_number v
 
-    words_right : 1 ≤ n → n < 19 → right k 27 (Some (n ∷ [])) ≡ true
+    fixed_right : 1 ≤ n → n < 19 → right k 27 (Some (n ∷ [])) ≡ true
     unfolding size range fields in_range value if◌then◌otherwise◌
-    words_right l h =
+    fixed_right l h =
         let z : n + 256 * 0 ≡ n = omega arith in
         and_from _ _ (and_from _ _ stand (and_from _ _ (and_from _ _ (lt-ltb n 256 (omega arith)) refl) refl))
         (and_from _ _ (and_from _ _ (ap (within 1 18) z ∙ and_from _ _ (le-leb 1 n l) (le-leb n 18 (omega arith))) refl) refl)
@@ -127,19 +130,19 @@ module _ (v : List ℕ) where
         let w = and_parts (within 1 18 (n + 256 * 0)) true r.0 in
         omega (arith, leb-true 1 (n + 256 * 0) (and_parts (nat_le 1 (n + 256 * 0)) (nat_le (n + 256 * 0) 18) w.0).0)
 
-    words_again : fits k nm 27 v ≡ (right k 27 (Some (n ∷ [])) && same (words_of n) v)
+    fixed_again : fits k nm 27 v ≡ (right k 27 (Some (n ∷ [])) && same (fixed_text n) v)
     unfolding fits held_in respelled if◌then◌otherwise◌
-    words_again = refl
+    fixed_again = refl
 
-    pub words_fit : fits k nm 27 v ≡ nat_le 1 (word_number v)
-    words_fit = words_again ∙ both_ways (right k 27 (Some (n ∷ [])) && same (words_of n) v) (nat_le 1 n)
+    pub fixed_fits : fits k nm 27 v ≡ nat_le 1 (fixed_text_number v)
+    fixed_fits = fixed_again ∙ both_ways (right k 27 (Some (n ∷ [])) && same (fixed_text n) v) (nat_le 1 n)
         (λ e. le-leb 1 n (words_least (and_parts (right k 27 (Some (n ∷ []))) _ e).0))
-        (λ e. let f = known (leb-true 1 n e) in and_from _ _ (words_right (leb-true 1 n e) f.below) f.passes)
+        (λ e. let f = known (leb-true 1 n e) in and_from _ _ (fixed_right (leb-true 1 n e) f.below) f.passes)
 
--- the words n among all that are spoken
-pub spoken_words : (n : ℕ) → n < 19 → slice_index_or spoken n [] ≡ words_of n
-unfolding spoken words_of texts
-spoken_words n h = get_or-append texts (none_word ∷ []) [] n h
+-- fixed text n among all that are spoken
+pub spoken_fixed : (n : ℕ) → n < 19 → slice_index_or spoken n [] ≡ fixed_text n
+unfolding spoken fixed_text texts
+spoken_fixed n h = get_or-append texts (none_text ∷ []) [] n h
 
 -- ---- behind a point
 

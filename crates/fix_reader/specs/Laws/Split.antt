@@ -8,9 +8,11 @@ use Rattle.std.proofs.lemmas.Bool.{and_from}
 use mathlib.Core.HLevel.{Unit-prop, ×_prop}
 use denote.Struct.Props.{props}
 use Rattle.std.proofs.lemmas.List.{get_or-replicate, take-append-le, get_or_at}
-use Rattle.prelude.specs.Cases.{if_true, if_false}
-use Rattle.prelude.specs.Lists.{list_below, length_list, get_list}
-use Rattle.prelude.specs.Span.{span, length_span}
+use Rattle.prelude.specs.Laws.Cases.{if_true, if_false}
+use Rattle.prelude.specs.Lists.{list_below}
+use Rattle.prelude.specs.Laws.Lists.{length_list, get_list}
+use Rattle.prelude.specs.Span.{span}
+use Rattle.prelude.specs.Laws.Span.{length_span}
 use Rattle.decimal.specs.Decimal.{digits}
 use Rattle.fix_claims.specs.declared.FixFields.{FixFields}
 use Rattle.fix_words.specs.Lists.{every, is_print, is_not, after}

@@ -1,7 +1,7 @@
 -- The rows taken one by one, as the reader's code does it: where the walk stands, and what one row makes of it. Rests on Walk and Fits.
 use Rattle.std.specs.Prelude.{◌≡◌, ℕ, zero, suc, ◌+◌, ◌<◌, Bool, true, false, ◌||◌, List, [], ◌∷◌, length, drop, ◌==◌, slice_index_or, Option, None, Some, refl}
 use Rattle.std.proofs.Common.{sym, ap, ◌∙◌, arith, add-one, eq-eqb, drop_of_length-le, drop-cons, get_or-drop}
-use Rattle.prelude.specs.Cases.{if_true, if_false, clash}
+use Rattle.prelude.specs.Laws.Cases.{if_true, if_false, clash}
 use Rattle.fix_words.specs.Spelling.{Field}
 use Rattle.fix_words.specs.Rows.{Row, leads, rest, in_rows}
 use Rattle.fix_words.specs.Values.{rows}

@@ -5,14 +5,15 @@ use Rattle.std.proofs.Common.{sym, ap, subst, ◌∙◌, eqb-true, eq-eqb, ⊎_e
 use Rattle.std.proofs.Math.Bool.{and-false}
 use Rattle.std.proofs.lemmas.Bool.{not-true, and_parts, or_cases}
 use Rattle.std.specs.Option.{is_some}
-use Rattle.prelude.specs.Cases.{if◌then◌otherwise◌, if_true, if_false, clash, none_some, same_some}
+use Rattle.prelude.specs.Cases.{if◌then◌otherwise◌}
+use Rattle.prelude.specs.Laws.Cases.{if_true, if_false, clash, none_some, same_some}
 use Rattle.fix_words.specs.Spelling.{Field, field}
 use Rattle.fix_words.specs.Rows.{Row, Values, field_of, body, leads, first, rest, value_in, in_rows}
 use Rattle.fix_claims.specs.Reading.{no_field}
 use Rattle.fix_words.specs.Laws.Rows.{apart, all_apart, stand, missing, leads_apart, body_same, value_none, or_right}
 use Rattle.fix_words.proofs.Laws.Kinds.{must_in, must_row}
 
--- what is asked of the value of a bit, where the venue's text stood or not
+-- what is asked of the value of a bit, whether the venue's text stood or not
 abbrev pub Asked : Type 0
 Asked = Bool → ℕ → List ℕ → Bool
 
@@ -62,12 +63,12 @@ module _ (r : Row) (rows : List Row) (gs : List Field) where
   unfolding value_in
   value_past l b e = if_false (leads r.tag gs) _ _ l ∙ if_false (r.bit == b) _ _ e
 
--- the first field, where it has the row's tag
+-- the first field, if it has the row's tag
 leading : (n : ℕ) (gs : List Field) → leads n gs ≡ true → (first gs ≡ Some (first_value gs)) × (gs ≡ field n (first_value gs) ∷ rest gs)
 leading n [] l = clash false l refl
 leading n (f ∷ gs) l = (refl, λ i. field (sym (eqb-true n f.tag l) i) f.value ∷ gs)
 
--- the value of the first row, where it has one
+-- the value of the first row, if it has one
 pub head_value : (r : Row) (rows : List Row) (gs : List Field) → is_some (value_in (r ∷ rows) gs r.bit) ≡ true → value_in (r ∷ rows) gs r.bit ≡ Some (first_value gs)
 head_value r rows gs e = go (leads r.tag gs) refl
   where

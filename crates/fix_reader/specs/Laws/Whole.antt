@@ -3,7 +3,7 @@
 use Rattle.std.specs.Prelude.{◌≡◌, ℕ, Bool, true, false, ◌&&◌, List, [], ◌∷◌, ◌++◌, nat_le, nat_lt, Option, None, Some, refl}
 use Rattle.std.proofs.Common.{ltb-true}
 use Rattle.std.proofs.lemmas.Bool.{and_parts, and_from}
-use Rattle.prelude.specs.Cases.{split_if}
+use Rattle.prelude.specs.Laws.Cases.{split_if}
 use Rattle.format.specs.Codes.{within}
 use Rattle.fix_words.specs.Lists.{every, is_print, same}
 use Rattle.fix_words.specs.Spelling.{Field, spellings, fields_in, printable}

@@ -4,7 +4,8 @@ use Rattle.std.specs.Prelude.{◌≡◌, ℕ, zero, suc, ◌+◌, ◌-◌, ◌*�
 use Rattle.std.proofs.Common.{sym, ap, ◌∙◌, arith, lit<}
 use Rattle.std.proofs.Math.Arith.{digits_div, digits_mod}
 use Rattle.std.proofs.Math.Nat.{add-mod, mod-add-mod, mod-mod, add-mul-div_right, mul-add-mod_self_right}
-use Rattle.prelude.specs.Cases.{if◌then◌otherwise◌, if_true, if_false}
+use Rattle.prelude.specs.Cases.{if◌then◌otherwise◌}
+use Rattle.prelude.specs.Laws.Cases.{if_true, if_false}
 use Rattle.prelude.specs.Number.{number, bytes_of, bound}
 use Rattle.decimal.specs.Decimal.{is_digit}
 use Rattle.fix_reader.specs.Laws.Numbers.{word, step_of}

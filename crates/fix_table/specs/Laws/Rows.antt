@@ -5,8 +5,9 @@ use Rattle.std.proofs.Math.Decide.{dec_lt}
 use Rattle.std.proofs.Math.ListN.{get_or-eq_default}
 use Rattle.std.proofs.lemmas.Bool.{and_from}
 use Rattle.std.proofs.lemmas.List.{get_or-map, length-map}
-use Rattle.prelude.specs.Below.{all_below, all_elim}
-use Rattle.prelude.specs.Cases.{clash}
+use Rattle.prelude.specs.Below.{all_below}
+use Rattle.prelude.specs.Laws.Below.{all_elim}
+use Rattle.prelude.specs.Laws.Cases.{clash}
 use Rattle.fix_words.specs.Rows.{Row, in_rows}
 use Rattle.fix_words.specs.Values.{tables, rows, types, type_of}
 use Rattle.fix_words.proofs.Laws.Kinds.{row_small}

@@ -1,9 +1,10 @@
--- The words of our own one behind the other: where each starts in the whole, and that they are `spoken`, which code has word by word. Rests on Table.
+-- The fixed texts one behind the other: where each starts in the whole, and that they are `spoken`, which code has text by text. Rests on Table.
 use Rattle.std.specs.Prelude.{◌≡◌, ℕ, ◌+◌, ◌-◌, ◌<◌, ◌≤◌, Bool, true, ◌&&◌, List, [], ◌∷◌, length, get_or, ◌==◌, nat_le, slice_index, slice_index_or, refl}
 use Rattle.std.proofs.Common.{arith, leb-true, eqb-true}
 use Rattle.std.proofs.Math.ListN.{get_or-eq_default}
 use Rattle.std.proofs.lemmas.Bool.{and_parts}
-use Rattle.prelude.specs.Below.{all_below, all_elim}
+use Rattle.prelude.specs.Below.{all_below}
+use Rattle.prelude.specs.Laws.Below.{all_elim}
 use Rattle.prelude.specs.Span.{span}
 use Rattle.fix_words.specs.Lists.{same}
 use Rattle.fix_words.specs.Values.{texts}
@@ -34,7 +35,7 @@ all_test : all_below test 20 ≡ true
 unfolding starts all spoken texts all_below span
 all_test = refl
 
--- the words n stand from one start to the next
+-- fixed text n stands from one start to the next
 pub record Stands (n : ℕ) : Type 0 where
   pub order : get_or starts n 0 ≤ slice_index starts (n + 1)
   pub long : get_or starts (n + 1) 0 - slice_index starts n ≡ length (slice_index_or spoken n [])

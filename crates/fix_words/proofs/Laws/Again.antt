@@ -3,7 +3,8 @@ use Rattle.std.proofs.Common.{ℕ, suc, ◌-◌, ◌<◌, ◌≡◌, List, [], �
 use Rattle.std.proofs.Math.Decide.{ℕ_discrete}
 use Rattle.std.proofs.lemmas.Bool.{not-true, and_parts, and_from, or_cases}
 use Rattle.std.specs.Option.{is_some}
-use Rattle.prelude.specs.Cases.{if◌then◌otherwise◌, split_if, if_true, if_false, clash}
+use Rattle.prelude.specs.Cases.{if◌then◌otherwise◌}
+use Rattle.prelude.specs.Laws.Cases.{split_if, if_true, if_false, clash}
 use Rattle.prelude.specs.Number.{number}
 use Rattle.bits.specs.Map.{bit}
 use Rattle.format.specs.Codes.{within}
@@ -13,10 +14,10 @@ use Rattle.fix_words.specs.Lists.{every, is_print}
 use Rattle.decimal.specs.Decimal.{digits}
 use Rattle.fix_words.specs.Laws.Digits.{digits_print, decimal_print}
 use Rattle.fix_words.specs.Rows.{Values, in_rows}
-use Rattle.fix_words.specs.Values.{tables, rows, words_of, is_plain, places, spelling, over, or_else, either, exec_id, fixed_words, value_of, unspelled, unless_none, held_in, unsaid, contents, none_word}
+use Rattle.fix_words.specs.Values.{tables, rows, fixed_text, is_plain, places, spelling, over, or_else, either, exec_id, fixed_text_in, value_of, unspelled, unless_none, held_in, unsaid, contents, none_text}
 use Rattle.fix_words.specs.Message.{shape_at, range_at, text_at, is_text, paired}
 use Rattle.fix_words.specs.Laws.Held.{held_plain, held_name, held_none, held_exec, held_words, shape_long, number_one}
-use Rattle.fix_words.proofs.Laws.Kinds.{by_kind_lem, row_small, with_name, must_in, stand_all, must_stand, must_row, code_print, right, reasoned, unsaid_right, words_right}
+use Rattle.fix_words.proofs.Laws.Kinds.{by_kind_lem, row_small, with_name, must_in, stand_all, must_stand, must_row, code_print, right, reasoned, unsaid_right, fixed_right}
 use Rattle.fix_words.specs.Laws.Lists.{every_append}
 use Rattle.fix_words.specs.Laws.Rows.{stand, prints}
 
@@ -34,11 +35,11 @@ by_bit P p2 p20 p25 p27 b other = go (ℕ_discrete b 2) (ℕ_discrete b 20) (ℕ
     go (no x) (no y) (no z) (no w) = other (ne_eqb b 2 x) (ne_eqb b 20 y) (ne_eqb b 25 z) (ne_eqb b 27 w)
 
 module _ (k : ℕ) (at : Values) where
-  pub value_name : value_of k at 2 ≡ (if eqb k 17 then Some (or_else none_word (at 2)) otherwise at 2)
+  pub value_name : value_of k at 2 ≡ (if eqb k 17 then Some (or_else none_text (at 2)) otherwise at 2)
   unfolding value_of if◌then◌otherwise◌
   value_name = refl
 
-  pub value_text : value_of k at 20 ≡ (if eqb k 17 then either (at 20) (over fixed_words (at 27)) otherwise at 20)
+  pub value_text : value_of k at 20 ≡ (if eqb k 17 then either (at 20) (over fixed_text_in (at 27)) otherwise at 20)
   unfolding value_of if◌then◌otherwise◌
   value_text = refl
 
@@ -46,7 +47,7 @@ module _ (k : ℕ) (at : Values) where
   unfolding value_of if◌then◌otherwise◌
   value_exec = refl
 
-  pub value_words : value_of k at 27 ≡ over fixed_words (at 27)
+  pub value_words : value_of k at 27 ≡ over fixed_text_in (at 27)
   unfolding value_of if◌then◌otherwise◌
   value_words = refl
 
@@ -78,9 +79,9 @@ right_some k b (Some c) e h = refl
 -- ---- the texts of a reject
 
 -- fixed texts are 1 to 18
-word_number : (k : ℕ) (c : List ℕ) → right k 27 (Some c) ≡ true → (n : ℕ) × (n < 18) × (get_or c 0 0 ≡ suc n)
+fixed_text_number : (k : ℕ) (c : List ℕ) → right k 27 (Some c) ≡ true → (n : ℕ) × (n < 18) × (get_or c 0 0 ≡ suc n)
 unfolding size range fields in_range value if◌then◌otherwise◌
-word_number k c e =
+fixed_text_number k c e =
     let h = and_parts (shape_at k 27 (Some c)) (range_at 27 (Some c) && text_at 27 (Some c)) e in
     let l : length c ≡ 1 = shape_long k 27 c h.0 refl in
     let r = (and_parts (range_at 27 (Some c)) (text_at 27 (Some c)) h.1).0 in
@@ -92,13 +93,13 @@ word_number k c e =
 
 -- of the text and the fixed text one stands, and is a text
 reject_text : (o f : Option (List ℕ)) → right 17 20 o ≡ true → right 17 27 f ≡ true → (if is_some o then not (is_some f) otherwise is_some f) ≡ true
-    → (right 17 20 (either o (over fixed_words f)) ≡ true) × (is_some (either o (over fixed_words f)) ≡ true)
+    → (right 17 20 (either o (over fixed_text_in f)) ≡ true) × (is_some (either o (over fixed_text_in f)) ≡ true)
 unfolding if◌then◌otherwise◌
 reject_text (Some c) f a b e = (a, refl)
 reject_text None None a b e = clash false e refl
 reject_text None (Some c) a b e =
-    let w = word_number 17 c b in
-    (rw w.2 (words_right w.0 w.1), refl)
+    let w = fixed_text_number 17 c b in
+    (rw w.2 (fixed_right w.0 w.1), refl)
 
 paired_report : (at : Values) → paired 16 at
     ≡ ((if is_some (at 19) then is_some (at 28) otherwise not (is_some (at 28))) && not (is_some (at 20) && is_some (at 27)))
@@ -160,7 +161,7 @@ text_prints b None t e = refl
 text_prints b (Some []) t e = refl
 text_prints b (Some (x ∷ c)) t e = ⊎_elim (λ q. clash (is_text_bit b) t (not-true _ q)) (λ q. q) (or_cases (not (is_text_bit b)) (is_text (x ∷ c)) e)
 
-none_prints : (o : Option (List ℕ)) → prints o ≡ true → prints (Some (or_else none_word o)) ≡ true
+none_prints : (o : Option (List ℕ)) → prints o ≡ true → prints (Some (or_else none_text o)) ≡ true
 none_prints None e = refl
 none_prints (Some c) e = e
 
@@ -176,12 +177,12 @@ exec_prints name (Some c) p = every_append is_print (or_else [] name) (46 ∷ di
     or_prints None e = refl
     or_prints (Some c) e = e
 
-words_prints : (k : ℕ) (o : Option (List ℕ)) → right k 27 o ≡ true → prints (over fixed_words o) ≡ true
+words_prints : (k : ℕ) (o : Option (List ℕ)) → right k 27 o ≡ true → prints (over fixed_text_in o) ≡ true
 words_prints k None e = refl
 words_prints k (Some c) e =
-    let w = word_number k c e in
-    let r = (and_parts (shape_at 17 20 (Some (words_of (suc w.0)))) _ (words_right w.0 w.1)).1 in
-    rw w.2 (text_prints 20 (Some (words_of (suc w.0))) text_twenty (and_parts (range_at 20 (Some (words_of (suc w.0)))) _ r).1)
+    let w = fixed_text_number k c e in
+    let r = (and_parts (shape_at 17 20 (Some (fixed_text (suc w.0)))) _ (fixed_right w.0 w.1)).1 in
+    rw w.2 (text_prints 20 (Some (fixed_text (suc w.0))) text_twenty (and_parts (range_at 20 (Some (fixed_text (suc w.0)))) _ r).1)
 
 spelling_prints : (k b : ℕ) (o : Option (List ℕ)) → b < 32 → shape_at k b o ≡ true → range_at b o ≡ true → text_at b o ≡ true → prints (over (spelling b) o) ≡ true
 unfolding spelling is_plain
@@ -218,20 +219,20 @@ module _ (k : ℕ) (at : Values) (kind : within 16 20 k ≡ true) (ok : (b : ℕ
       b (λ x y z w l u. ap (held_in b) (value_plain k at b x y z w) ∙ held_plain k b (at b) x z w (shape b l))
       h t
     where
-      name : (x : Bool) → held_in 2 (if x then Some (or_else none_word (at 2)) otherwise at 2) ≡ at 2
-      name true = ap (held_in 2) (if_true true (Some (or_else none_word (at 2))) (at 2) refl) ∙ held_two (Some (or_else none_word (at 2))) ∙ held_none (at 2) (ranges 2 (lit< tt))
-      name false = ap (held_in 2) (if_false false (Some (or_else none_word (at 2))) (at 2) refl) ∙ held_two (at 2) ∙ held_name (at 2) (ranges 2 (lit< tt))
+      name : (x : Bool) → held_in 2 (if x then Some (or_else none_text (at 2)) otherwise at 2) ≡ at 2
+      name true = ap (held_in 2) (if_true true (Some (or_else none_text (at 2))) (at 2) refl) ∙ held_two (Some (or_else none_text (at 2))) ∙ held_none (at 2) (ranges 2 (lit< tt))
+      name false = ap (held_in 2) (if_false false (Some (or_else none_text (at 2))) (at 2) refl) ∙ held_two (at 2) ∙ held_name (at 2) (ranges 2 (lit< tt))
 
   -- ---- a reject's text
 
   module _ (reject : k ≡ 17) where
-    a_text : (value_of k at 20 ≡ either (at 20) (over fixed_words (at 27)))
+    a_text : (value_of k at 20 ≡ either (at 20) (over fixed_text_in (at 27)))
     a_text = value_text k at ∙ if_true (eqb k 17) _ _ (eq-eqb k 17 reject)
 
     text_right_lem : (right k 20 (value_of k at 20) ≡ true) × (is_some (value_of k at 20) ≡ true)
     text_right_lem =
         rw a_text
-        (subst (λ (j : ℕ). (right j 20 (either (at 20) (over fixed_words (at 27))) ≡ true) × (is_some (either (at 20) (over fixed_words (at 27))) ≡ true)) (sym reject)
+        (subst (λ (j : ℕ). (right j 20 (either (at 20) (over fixed_text_in (at 27))) ≡ true) × (is_some (either (at 20) (over fixed_text_in (at 27))) ≡ true)) (sym reject)
         (reject_text (at 20) (at 27) (subst (λ (j : ℕ). right j 20 (at 20) ≡ true) reject (ok 20 (lit< tt)))
         (subst (λ (j : ℕ). right j 27 (at 27) ≡ true) reject (ok 27 (lit< tt)))
         (sym (paired_reject at) ∙ subst (λ (j : ℕ). paired j at ≡ true) reject pair)))
@@ -244,7 +245,7 @@ module _ (k : ℕ) (at : Values) (kind : within 16 20 k ≡ true) (ok : (b : ℕ
       (λ j. rw (value_name k at) (split_if (λ (o : Option (List ℕ)). is_some o ≡ true) (eqb k 17) (λ e. refl) (λ e. j)))
       (λ j. rw (value_text k at) (split_if (λ (o : Option (List ℕ)). is_some o ≡ true) (eqb k 17) (λ e. ap is_some (either_some (at 20) _ j) ∙ j) (λ e. j)))
       (λ j. ap is_some (value_exec k at) ∙ some_over (exec_id (at 2)) (at 25) ∙ j)
-      (λ j. ap is_some (value_words k at) ∙ some_over fixed_words (at 27) ∙ j)
+      (λ j. ap is_some (value_words k at) ∙ some_over fixed_text_in (at 27) ∙ j)
       b (λ x y z w j. ap is_some (value_plain k at b x y z w) ∙ some_over (spelling b) (at b) ∙ j)
       h
 
@@ -287,7 +288,7 @@ module _ (k : ℕ) (at : Values) (kind : within 16 20 k ≡ true) (ok : (b : ℕ
       long : prints (at 20) ≡ true
       long = text_prints 20 (at 20) text_twenty (text 20 (lit< tt))
 
-      words : prints (over fixed_words (at 27)) ≡ true
+      words : prints (over fixed_text_in (at 27)) ≡ true
       words = words_prints k (at 27) (ok 27 (lit< tt))
 
   -- ---- the record that is read, from the values that were found
@@ -373,12 +374,12 @@ module _ (k : ℕ) (at : Values) (kind : within 16 20 k ≡ true) (ok : (b : ℕ
     pub again_values : (b : ℕ) → in_rows (rows k) b ≡ true → value_of k now b ≡ value_of k at b
     again_values b i =
         by_bit (λ b. in_rows (rows k) b ≡ true → value_of k now b ≡ value_of k at b)
-        (λ j. value_name k now ∙ ap (λ (o : Option (List ℕ)). if eqb k 17 then Some (or_else none_word o) otherwise o) (kept 2 j (λ z. clash false z refl)) ∙ sym (value_name k at))
+        (λ j. value_name k now ∙ ap (λ (o : Option (List ℕ)). if eqb k 17 then Some (or_else none_text o) otherwise o) (kept 2 j (λ z. clash false z refl)) ∙ sym (value_name k at))
         (λ j. texts_same j (ℕ_discrete k 17))
         (λ j. value_exec k now
         ∙ (λ x. over (exec_id (kept 2 (with_name k kind j) (λ z. clash false z refl) x)) (kept 25 j (λ z. clash false z refl) x))
         ∙ sym (value_exec k at))
-        (λ j. value_words k now ∙ ap (over fixed_words) (kept 27 j (λ z. clash false z refl)) ∙ sym (value_words k at))
+        (λ j. value_words k now ∙ ap (over fixed_text_in) (kept 27 j (λ z. clash false z refl)) ∙ sym (value_words k at))
         b (λ x y z w j. value_plain k now b x y z w ∙ ap (over (spelling b)) (kept b j (λ q. clash (eqb b 20) q y)) ∙ sym (value_plain k at b x y z w))
         i
       where

@@ -3,8 +3,10 @@
 use Rattle.std.proofs.Common.{ℕ, zero, suc, ◌<◌, ◌≡◌, Bool, ◌&&◌, ◌||◌, eqb, length, Option, None, Some, refl, sym, ap, subst, ◌∙◌, ⊎_elim, arith, eqb-true, eq-eqb, lit<, List, [], ◌∷◌, ◌++◌, append_assoc, true, false, not}
 use Rattle.std.proofs.lemmas.Bool.{not-true, and_parts, or_cases}
 use Rattle.std.specs.Option.{is_some}
-use Rattle.prelude.specs.Cases.{if◌then◌otherwise◌, if_true, if_false, clash}
-use Rattle.prelude.specs.Below.{all_below, all_elim}
+use Rattle.prelude.specs.Cases.{if◌then◌otherwise◌}
+use Rattle.prelude.specs.Laws.Cases.{if_true, if_false, clash}
+use Rattle.prelude.specs.Below.{all_below}
+use Rattle.prelude.specs.Laws.Below.{all_elim}
 use Rattle.prelude.specs.Number.{number, Bytes}
 use Rattle.format.specs.Codes.{within, listed}
 use Rattle.format.specs.Format.{size, range, fields, required, allowed, required_bits, allowed_bits}
@@ -14,7 +16,7 @@ use Rattle.decimal.specs.Decimal.{digits, decimal}
 use Rattle.fix_words.specs.Number.{IsNumber}
 use Rattle.fix_words.specs.Spelling.{Field, field, spellings}
 use Rattle.fix_words.specs.Rows.{Row, Values, field_of, body}
-use Rattle.fix_words.specs.Values.{tables, rows, type_of, words_of, is_plain, places, spelling, over, or_else, either, exec_id, fixed_words, value_of, none_word}
+use Rattle.fix_words.specs.Values.{tables, rows, type_of, fixed_text, is_plain, places, spelling, over, or_else, either, exec_id, fixed_text_in, value_of, none_text}
 use Rattle.fix_words.specs.Message.{version, stamp, inner, front, trailer, framed, fields_of, bytes_for, shape_at, paired, is_writing}
 use Rattle.fix_words.specs.Record.{field_at, Session, writing_of, write_of, write_refusal, session_typed}
 use Rattle.fix_words.specs.Carried.{tag_for, left_out, is_told, must_stand, rows_from, stands, held, texts, codes, quantities, prices, numbers, Holds, Told, in_turn, stamps, Carried}
@@ -107,9 +109,9 @@ spelled_number p b c e =
     let z : spelling b c ≡ decimal p (number c) = if_false (is_plain b) _ _ (not-true _ h.0) ∙ ap (λ (p : ℕ). decimal p (number c)) (eqb-true (places b) p h.1) in
     subst (IsNumber p (number c)) (sym z) (is_number_lem p (number c))
 
-named : (x : Bool) (o : Option (List ℕ)) (c : List ℕ) → o ≡ Some c → (if x then Some (or_else none_word o) otherwise o) ≡ Some c
+named : (x : Bool) (o : Option (List ℕ)) (c : List ℕ) → o ≡ Some c → (if x then Some (or_else none_text o) otherwise o) ≡ Some c
 unfolding if◌then◌otherwise◌
-named true o c e = ap {B = Option (List ℕ)} (λ (o : Option (List ℕ)). Some (or_else none_word o)) e
+named true o c e = ap {B = Option (List ℕ)} (λ (o : Option (List ℕ)). Some (or_else none_text o)) e
 named false o c e = e
 
 texted : (x : Bool) (o f : Option (List ℕ)) (c : List ℕ) → o ≡ Some c → (if x then either o f otherwise o) ≡ Some c
@@ -163,10 +165,10 @@ module _ (s : List ℕ) where
     words = λ e. absurd (omega arith);
   }
 
-  holds_words : length (held s 27) ≡ 1 → fixed_words (held s 27) ≡ words_of (number (held s 27))
-  holds_words l = ap words_of (sym (ap number (one_byte (held s 27) l) ∙ omega arith))
+  holds_fixed : length (held s 27) ≡ 1 → fixed_text_in (held s 27) ≡ fixed_text (number (held s 27))
+  holds_fixed l = ap fixed_text (sym (ap number (one_byte (held s 27) l) ∙ omega arith))
 
-  words_hold : length (held s 27) ≡ 1 → Holds s 27 (fixed_words (held s 27))
+  words_hold : length (held s 27) ≡ 1 → Holds s 27 (fixed_text_in (held s 27))
   words_hold l = record {
     text = λ l. clash false l refl;
     code = λ l. clash false l refl;
@@ -174,7 +176,7 @@ module _ (s : List ℕ) where
     price = λ l. clash false l refl;
     whole = λ l. clash false l refl;
     exec = λ e. absurd (omega arith);
-    words = λ e. holds_words l;
+    words = λ e. holds_fixed l;
   }
 
   -- ---- the value of a bit that stands, and of one that does not
@@ -198,9 +200,9 @@ module _ (s : List ℕ) where
     value_there b h =
         by_bit (λ b. b < 32 → stands s b ≡ true → (v : List ℕ) × (vs b ≡ Some v) × Holds s b v)
         (λ l e. (spelling 2 (held s 2), value_name k (field_at s) ∙ named (eqb k 17) (field_at s 2) (held s 2) (at_some 2 e) ∙ ap {B = Option (List ℕ)} Some (sym plain_two), holds_plain 2 l refl refl))
-        (λ l e. (spelling 20 (held s 20), value_text k (field_at s) ∙ texted (eqb k 17) (field_at s 20) (over fixed_words (field_at s 27)) (held s 20) (at_some 20 e) ∙ ap {B = Option (List ℕ)} Some (sym plain_twenty), holds_plain 20 l refl refl))
+        (λ l e. (spelling 20 (held s 20), value_text k (field_at s) ∙ texted (eqb k 17) (field_at s 20) (over fixed_text_in (field_at s 27)) (held s 20) (at_some 20 e) ∙ ap {B = Option (List ℕ)} Some (sym plain_twenty), holds_plain 20 l refl refl))
         (λ l e. (exec_id (field_at s 2) (held s 25), value_exec k (field_at s) ∙ ap (over (exec_id (field_at s 2))) (at_some 25 e), holds_exec))
-        (λ l e. (fixed_words (held s 27), value_words k (field_at s) ∙ ap (over fixed_words) (at_some 27 e), words_hold (one e)))
+        (λ l e. (fixed_text_in (held s 27), value_words k (field_at s) ∙ ap (over fixed_text_in) (at_some 27 e), words_hold (one e)))
         b (λ x y z w l e. (spelling b (held s b), value_plain k (field_at s) b x y z w ∙ ap (over (spelling b)) (at_some b e), holds_plain b l z w))
         h
 
@@ -210,7 +212,7 @@ module _ (s : List ℕ) where
         (λ e r. value_name k (field_at s) ∙ if_false (eqb k 17) _ _ (no_reject r) ∙ at_none 2 e)
         (λ e r. value_text k (field_at s) ∙ if_false (eqb k 17) _ _ (no_reject r) ∙ at_none 20 e)
         (λ e r. value_exec k (field_at s) ∙ ap (over (exec_id (field_at s 2))) (at_none 25 e))
-        (λ e r. value_words k (field_at s) ∙ ap (over fixed_words) (at_none 27 e))
+        (λ e r. value_words k (field_at s) ∙ ap (over fixed_text_in) (at_none 27 e))
         b (λ x y z w e r. value_plain k (field_at s) b x y z w ∙ ap (over (spelling b)) (at_none b e))
         e r
       where
@@ -255,10 +257,10 @@ module _ (s : List ℕ) (n : Session) (room : ℕ) (w : Bytes s) (t : session_ty
       let h : shape_at (k s) 27 (field_at s 27) ≡ true = all_elim (λ b. shape_at (k s) b (field_at s b)) 32 (shapes (writing_of s n) it_is).1.0 27 (lit< tt) in
       shape_long (k s) 27 (held s 27) (ap (shape_at (k s) 27) (sym (at_some s 27 q)) ∙ h) refl
 
-  reject_alone : k s ≡ 17 → stands s 2 ≡ false → part_of (k s) (vs s) 2 ≡ field 37 none_word ∷ []
+  reject_alone : k s ≡ 17 → stands s 2 ≡ false → part_of (k s) (vs s) 2 ≡ field 37 none_text ∷ []
   reject_alone q z =
-      part_name (k s) (vs s) none_word q
-      (value_name (k s) (field_at s) ∙ if_true (eqb (k s) 17) _ _ (eq-eqb (k s) 17 q) ∙ ap (λ (o : Option (List ℕ)). Some (or_else none_word o)) (at_none s 2 z))
+      part_name (k s) (vs s) none_text q
+      (value_name (k s) (field_at s) ∙ if_true (eqb (k s) 17) _ _ (eq-eqb (k s) 17 q) ∙ ap (λ (o : Option (List ℕ)). Some (or_else none_text o)) (at_none s 2 z))
 
   -- a reject that has no text has a fixed one
   fixed_stands : k s ≡ 17 → stands s 20 ≡ false → stands s 27 ≡ true
@@ -272,14 +274,14 @@ module _ (s : List ℕ) (n : Session) (room : ℕ) (w : Bytes s) (t : session_ty
       go true f = f
       go false f = clash false (rw (at_none s 20 z, at_none s 27 f) at pair) refl
 
-  reject_fixed : k s ≡ 17 → stands s 20 ≡ false → part_of (k s) (vs s) 20 ≡ field 58 (words_of (number (held s 27))) ∷ []
+  reject_fixed : k s ≡ 17 → stands s 20 ≡ false → part_of (k s) (vs s) 20 ≡ field 58 (fixed_text (number (held s 27))) ∷ []
   reject_fixed q z =
       let f = fixed_stands q z in
-      part_text (k s) (vs s) (words_of (number (held s 27))) q
+      part_text (k s) (vs s) (fixed_text (number (held s 27))) q
       (value_text (k s) (field_at s)
       ∙ if_true (eqb (k s) 17) _ _ (eq-eqb (k s) 17 q)
-      ∙ (λ i. either (at_none s 20 z i) (over fixed_words (at_some s 27 f i)))
-      ∙ ap {B = Option (List ℕ)} Some (holds_words s (fixed_long f)))
+      ∙ (λ i. either (at_none s 20 z i) (over fixed_text_in (at_some s 27 f i)))
+      ∙ ap {B = Option (List ℕ)} Some (holds_fixed s (fixed_long f)))
 
   abbrev last : Field
   last = trailer (spellings (front (inner (writing_of s n))))

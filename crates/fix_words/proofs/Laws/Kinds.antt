@@ -4,8 +4,10 @@ use Rattle.std.proofs.Common.{ℕ, suc, ◌<◌, ◌≡◌, refl, List, [], ◌�
 use Rattle.std.proofs.Math.Decide.{ℕ_discrete}
 use Rattle.std.proofs.lemmas.Bool.{not-true, and_parts, and_from, or_cases, or_right}
 use Rattle.std.specs.Option.{is_some}
-use Rattle.prelude.specs.Cases.{if◌then◌otherwise◌, if_false, clash}
-use Rattle.prelude.specs.Below.{all_below, all_elim}
+use Rattle.prelude.specs.Cases.{if◌then◌otherwise◌}
+use Rattle.prelude.specs.Laws.Cases.{if_false, clash}
+use Rattle.prelude.specs.Below.{all_below}
+use Rattle.prelude.specs.Laws.Below.{all_elim}
 use Rattle.bits.specs.Map.{bit}
 use Rattle.prelude.specs.Number.{number}
 use Rattle.format.specs.Codes.{within, listed, sides, ordtypes, timesinforce, statuses, exectypes, is_side, is_ordtype, is_timeinforce, is_status, is_exectype}
@@ -13,7 +15,7 @@ use Rattle.format.specs.Format.{size, range, fields, is_text_bit, in_range, requ
 use Rattle.format.specs.Places.{value}
 use Rattle.fix_words.specs.Lists.{every, is_print}
 use Rattle.fix_words.specs.Rows.{Row, Values, in_rows}
-use Rattle.fix_words.specs.Values.{tables, rows, types, type_of, kind_of, words_of, texts, unsaid}
+use Rattle.fix_words.specs.Values.{tables, rows, types, type_of, kind_of, fixed_text, texts, unsaid}
 use Rattle.fix_words.specs.Message.{shape_at, range_at, text_at}
 use Rattle.fix_words.specs.Laws.Held.{shape_long, one_byte, number_one}
 use Rattle.fix_words.specs.Laws.Rows.{all_apart, stand}
@@ -142,9 +144,9 @@ unsaid_right =
 
 -- ---- fixed texts as texts
 
-pub words_right : (n : ℕ) → n < 18 → right 17 20 (Some (words_of (suc n))) ≡ true
-unfolding words_of texts required required_bits allowed allowed_bits all_below size range fields in_range value if◌then◌otherwise◌
-words_right = all_elim (λ n. right 17 20 (Some (words_of (suc n)))) 18 refl
+pub fixed_right : (n : ℕ) → n < 18 → right 17 20 (Some (fixed_text (suc n))) ≡ true
+unfolding fixed_text texts required required_bits allowed allowed_bits all_below size range fields in_range value if◌then◌otherwise◌
+fixed_right = all_elim (λ n. right 17 20 (Some (fixed_text (suc n)))) 18 refl
 
 -- ---- codes print
 

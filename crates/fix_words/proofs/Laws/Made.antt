@@ -4,8 +4,10 @@ use Rattle.std.proofs.Math.Decide.{dec_lt}
 use Rattle.std.proofs.lemmas.Bool.{not-true, and_parts, and_from, or_cases}
 use Rattle.std.specs.Option.{is_some}
 use Rattle.prelude.specs.Texts.{text_of}
-use Rattle.prelude.specs.Cases.{if◌then◌otherwise◌, split_if, if_true, if_false, clash}
-use Rattle.prelude.specs.Below.{all_below, all_elim, all_intro}
+use Rattle.prelude.specs.Cases.{if◌then◌otherwise◌}
+use Rattle.prelude.specs.Laws.Cases.{split_if, if_true, if_false, clash}
+use Rattle.prelude.specs.Below.{all_below}
+use Rattle.prelude.specs.Laws.Below.{all_elim, all_intro}
 use Rattle.prelude.specs.Number.{Bytes, number, bytes_of}
 use Rattle.bits.specs.Map.{digit, bit, contains}
 use Rattle.format.specs.Codes.{within, is_name}
@@ -21,7 +23,7 @@ use Rattle.fix_words.specs.Lists.{every, same}
 use Rattle.fix_words.specs.Rows.{Values}
 use Rattle.fix_words.specs.Spelling.{Field, field, spellings, fields_in}
 use Rattle.decimal.specs.Decimal.{digits}
-use Rattle.fix_words.specs.Values.{type_of, or_else, none_word, over, either, exec_id, fixed_words, spelling, value_of, rows}
+use Rattle.fix_words.specs.Values.{type_of, or_else, none_text, over, either, exec_id, fixed_text_in, spelling, value_of, rows}
 use Rattle.fix_words.specs.Message.{Writing, is_name_of, is_text, inner, framed, stamp, bytes_for, fields_of, shape_at, range_at, text_at, paired, shaped, ranged, texted, typed, is_writing, loose_of, is_message, Read, read_of}
 use Rattle.fix_words.specs.Laws.Held.{every_bytes, shape_long}
 use Rattle.fix_words.proofs.Laws.Kinds.{by_kind_lem, row_small}
@@ -253,10 +255,10 @@ value_same : (k : ℕ) (at us : Values) → ((b : ℕ) → b < 32 → at b ≡ u
 unfolding value_of
 value_same k at us h b l =
     λ i.
-    if eqb b 2 then (if eqb k 17 then Some (or_else none_word (h 2 (lit< tt) i)) otherwise h 2 (lit< tt) i) otherwise
-    if eqb b 20 then (if eqb k 17 then either (h 20 (lit< tt) i) (over fixed_words (h 27 (lit< tt) i)) otherwise h 20 (lit< tt) i) otherwise
+    if eqb b 2 then (if eqb k 17 then Some (or_else none_text (h 2 (lit< tt) i)) otherwise h 2 (lit< tt) i) otherwise
+    if eqb b 20 then (if eqb k 17 then either (h 20 (lit< tt) i) (over fixed_text_in (h 27 (lit< tt) i)) otherwise h 20 (lit< tt) i) otherwise
     if eqb b 25 then over (exec_id (h 2 (lit< tt) i)) (h 25 (lit< tt) i) otherwise
-    if eqb b 27 then over fixed_words (h 27 (lit< tt) i) otherwise
+    if eqb b 27 then over fixed_text_in (h 27 (lit< tt) i) otherwise
     over (spelling b) (h b l i)
 
 -- ---- the promises on bytes

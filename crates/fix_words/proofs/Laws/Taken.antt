@@ -6,10 +6,12 @@ use Rattle.std.proofs.lemmas.Bool.{not-true, and_parts, and_from, or_cases}
 use Rattle.std.specs.Option.{is_some}
 use Rattle.std.specs.Cmp.{both_ways}
 use Rattle.prelude.specs.Texts.{text_of}
-use Rattle.prelude.specs.Cases.{if◌then◌otherwise◌, split_if, if_true, if_false, clash}
-use Rattle.prelude.specs.Below.{all_below, all_elim, all_intro}
+use Rattle.prelude.specs.Cases.{if◌then◌otherwise◌}
+use Rattle.prelude.specs.Laws.Cases.{split_if, if_true, if_false, clash}
+use Rattle.prelude.specs.Below.{all_below}
+use Rattle.prelude.specs.Laws.Below.{all_elim, all_intro}
 use Rattle.prelude.specs.Number.{Bytes}
-use Rattle.prelude.specs.Bytes.{bytes_span, bytes_drop}
+use Rattle.prelude.specs.Laws.Bytes.{bytes_span, bytes_drop}
 use Rattle.bits.specs.Map.{digit, bit, contains}
 use Rattle.format.specs.Codes.{within, is_name, is_none, is_alnum, alnum_at}
 use Rattle.format.specs.Format.{size, range, is_text_bit, in_range, is_kind, required, allowed, required_bits, allowed_bits, joined, bits_right}
@@ -21,7 +23,7 @@ use Rattle.format.specs.Laws.Places.{length_number}
 use Rattle.records.specs.Laws.Reading.{Whole, whole_of, in_field}
 use Rattle.fix_words.specs.Lists.{every, same}
 use Rattle.fix_words.specs.Rows.{Values}
-use Rattle.fix_words.specs.Values.{none_word}
+use Rattle.fix_words.specs.Values.{none_text}
 use Rattle.fix_words.specs.Message.{is_name_of, bytes_for, shape_at, range_at, paired, shaped, ranged, texted, typed, is_writing}
 use Rattle.fix_words.proofs.Laws.Kinds.{by_kind_lem}
 use Rattle.fix_words.specs.Laws.Lists.{below_every, every_below, same_true}
@@ -111,11 +113,11 @@ text_len : (c : List ℕ) → (text_of c).len ≡ length c
 unfolding text_of
 text_len c = refl
 
-none_is : is_none (text_of none_word) ≡ true
+none_is : is_none (text_of none_text) ≡ true
 unfolding is_none text_of
 none_is = refl
 
-none_same : (c : List ℕ) → is_none (text_of c) ≡ true → same c none_word ≡ true
+none_same : (c : List ℕ) → is_none (text_of c) ≡ true → same c none_text ≡ true
 unfolding is_none
 none_same c e =
     let t = (text_of c).bytes in
@@ -128,11 +130,11 @@ none_same c e =
     let g1 : get_or c 1 0 ≡ 79 = sym (text_byte c 1 (omega arith) (omega arith)) ∙ eqb-true (get_or t 1 0) 79 r.0 in
     let g2 : get_or c 2 0 ≡ 78 = sym (text_byte c 2 (omega arith) (omega arith)) ∙ eqb-true (get_or t 2 0) 78 u.0 in
     let g3 : get_or c 3 0 ≡ 69 = sym (text_byte c 3 (omega arith) (omega arith)) ∙ eqb-true (get_or t 3 0) 69 u.1 in
-    let z : c ≡ none_word = four_bytes c l ∙ (λ i. g0 i ∷ g1 i ∷ g2 i ∷ g3 i ∷ []) in
-    ap (λ (c : List ℕ). same c none_word) z
+    let z : c ≡ none_text = four_bytes c l ∙ (λ i. g0 i ∷ g1 i ∷ g2 i ∷ g3 i ∷ []) in
+    ap (λ (c : List ℕ). same c none_text) z
 
-is_none_lem : (c : List ℕ) → is_none (text_of c) ≡ same c none_word
-is_none_lem c = both_ways (is_none (text_of c)) (same c none_word) (none_same c) (λ e. ap (λ (c : List ℕ). is_none (text_of c)) (same_true c none_word e) ∙ none_is)
+is_none_lem : (c : List ℕ) → is_none (text_of c) ≡ same c none_text
+is_none_lem c = both_ways (is_none (text_of c)) (same c none_text) (none_same c) (λ e. ap (λ (c : List ℕ). is_none (text_of c)) (same_true c none_text e) ∙ none_is)
 
 name_of : (c : List ℕ) → is_name (text_of c) ≡ true → is_name_of c ≡ true
 unfolding is_name
@@ -140,14 +142,14 @@ name_of c e =
     let p = and_parts (within 1 20 (text_of c).len) (all_below (alnum_at (text_of c)) (text_of c).len && not (is_none (text_of c))) e in
     let q = and_parts (all_below (alnum_at (text_of c)) (text_of c).len) (not (is_none (text_of c))) p.1 in
     let l = leb-true (text_of c).len 20 (and_parts (leb 1 (text_of c).len) (leb (text_of c).len 20) p.0).1 in
-    and_from (every is_alnum c) (not (same c none_word))
+    and_from (every is_alnum c) (not (same c none_text))
     (below_every is_alnum c (λ i h. ap is_alnum (sym (text_byte c i (omega (arith, text_len c)) h)) ∙ all_elim (alnum_at (text_of c)) (text_of c).len q.0 i (omega (arith, text_len c))))
     (ap not (sym (is_none_lem c)) ∙ q.1)
 
 pub name_is : (c : List ℕ) → within 1 20 (length c) ≡ true → is_name_of c ≡ true → is_name (text_of c) ≡ true
 unfolding is_name
 name_is c l e =
-    let p = and_parts (every is_alnum c) (not (same c none_word)) e in
+    let p = and_parts (every is_alnum c) (not (same c none_text)) e in
     let h = leb-true (length c) 20 (and_parts (leb 1 (length c)) (leb (length c) 20) l).1 in
     and_from (within 1 20 (text_of c).len) (all_below (alnum_at (text_of c)) (text_of c).len && not (is_none (text_of c)))
     (ap (within 1 20) (text_len c) ∙ l)

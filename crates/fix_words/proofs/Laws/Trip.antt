@@ -2,8 +2,9 @@
 -- yields; 9 is the length of the body and 10 the sum modulo 256. Rests on Again.
 use Rattle.std.proofs.Common.{ℕ, ◌%◌, ◌<◌, ◌≡◌, Bool, true, false, ◌↔◌, ◌⊎◌, leb, length, None, refl, ap, sym, ◌∙◌, inl, inr, ⊎_elim, arith, List, [], ◌∷◌, ◌++◌, append_assoc}
 use Rattle.std.proofs.lemmas.Bool.{and_parts, and_from}
-use Rattle.prelude.specs.Cases.{split_if, if_true, if_false}
-use Rattle.prelude.specs.Below.{all_below, all_elim, all_intro}
+use Rattle.prelude.specs.Laws.Cases.{split_if, if_true, if_false}
+use Rattle.prelude.specs.Below.{all_below}
+use Rattle.prelude.specs.Laws.Below.{all_elim, all_intro}
 use Rattle.format.specs.Codes.{within}
 use Rattle.fix_words.specs.Lists.{every, same, is_print}
 use Rattle.decimal.specs.Decimal.{digits, low_digits, number_in, read_from, down}

@@ -1,8 +1,9 @@
 -- Laws by which code adds bytes up and writes a field. Rests on Spelling and Message.
 use Rattle.std.specs.Prelude.{ℕ, ◌+◌, ◌≤◌, ◌<◌, ◌≡◌, refl, List, [], ◌∷◌, ◌++◌, length, get_or, take, set}
 use Rattle.std.proofs.Common.{ap, ◌∙◌, add-one, arith, length-append, take-suc}
-use Rattle.prelude.specs.Span.{splice, length_splice, splice_append, set_splice}
-use Rattle.prelude.specs.Totals.{total_append}
+use Rattle.prelude.specs.Span.{splice}
+use Rattle.prelude.specs.Laws.Span.{length_splice, splice_append, set_splice}
+use Rattle.prelude.specs.Laws.Totals.{total_append}
 use Rattle.decimal.specs.Decimal.{digits, decimal}
 use Rattle.decimal.specs.Laws.Width.{three}
 use Rattle.fix_words.specs.Spelling.{field, piece, spellings}

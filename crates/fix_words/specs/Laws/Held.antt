@@ -4,9 +4,12 @@ use Rattle.std.specs.Prelude.{ℕ, zero, suc, ◌≤◌, ◌<◌, ◌≡◌, ref
 use Rattle.std.proofs.Common.{sym, ap, ◌∙◌, ⊎_elim, arith, eqb-true, ne_eqb, leb-true, ltb-true}
 use Rattle.std.proofs.Math.Decide.{ℕ_discrete}
 use Rattle.std.proofs.lemmas.Bool.{not-true, and_parts, or_cases, or_parts}
-use Rattle.prelude.specs.Cases.{if◌then◌otherwise◌, if_true, if_false, maybe, clash}
-use Rattle.prelude.specs.Below.{all_below, first_below, all_elim}
-use Rattle.prelude.specs.Number.{number, bytes_of, Bytes, bytes_number}
+use Rattle.prelude.specs.Cases.{if◌then◌otherwise◌, maybe}
+use Rattle.prelude.specs.Laws.Cases.{if_true, if_false, clash}
+use Rattle.prelude.specs.Below.{all_below, first_below}
+use Rattle.prelude.specs.Laws.Below.{all_elim}
+use Rattle.prelude.specs.Number.{number, bytes_of, Bytes}
+use Rattle.prelude.specs.Laws.Number.{bytes_number}
 use Rattle.bits.specs.Map.{bit}
 use Rattle.format.specs.Codes.{within, is_alnum}
 use Rattle.format.specs.Format.{size, range, fields, is_text_bit, in_range, required, allowed}
@@ -14,7 +17,7 @@ use Rattle.format.specs.Places.{value}
 use Rattle.fix_words.specs.Lists.{every, is_not, same}
 use Rattle.decimal.specs.Decimal.{digits, number_in}
 use Rattle.decimal.specs.Laws.Back.{decimal_back, digits_back}
-use Rattle.fix_words.specs.Values.{words_of, texts, word_number, is_plain, places, spelling, over, or_else, exec_id, fixed_words, unspelled, unless_none, held_in, none_word}
+use Rattle.fix_words.specs.Values.{fixed_text, texts, fixed_text_number, is_plain, places, spelling, over, or_else, exec_id, fixed_text_in, unspelled, unless_none, held_in, none_text}
 use Rattle.fix_words.specs.Message.{shape_at, range_at}
 use Rattle.fix_words.specs.Laws.Lists.{every_map, after_cut}
 
@@ -70,9 +73,9 @@ held_plain k b (Some c) x y z e = rw (x, y, z) (ap {B = Option (List ℕ)} Some 
 
 pub held_name : (o : Option (List ℕ)) → range_at 2 o ≡ true → unless_none o ≡ o
 held_name None e = refl
-held_name (Some c) e = if_false (same c none_word) _ _ (not-true _ (and_parts (every is_alnum c) _ (and_parts (in_range (range 2) (value 2 c)) _ e).1).1)
+held_name (Some c) e = if_false (same c none_text) _ _ (not-true _ (and_parts (every is_alnum c) _ (and_parts (in_range (range 2) (value 2 c)) _ e).1).1)
 
-pub held_none : (o : Option (List ℕ)) → range_at 2 o ≡ true → unless_none (Some (or_else none_word o)) ≡ o
+pub held_none : (o : Option (List ℕ)) → range_at 2 o ≡ true → unless_none (Some (or_else none_text o)) ≡ o
 unfolding if◌then◌otherwise◌
 held_none None e = refl
 held_none (Some c) e = held_name (Some c) e
@@ -102,9 +105,9 @@ held_exec k name (Some c) r e =
 
 -- ---- the fixed texts
 
-word_back : (n : ℕ) → n < 19 → word_number (words_of n) ≡ n
-unfolding word_number words_of texts first_below maybe all_below if◌then◌otherwise◌
-word_back n h = eqb-true _ n (all_elim (λ k. eqb (word_number (words_of k)) k) 19 refl n h)
+fixed_back : (n : ℕ) → n < 19 → fixed_text_number (fixed_text n) ≡ n
+unfolding fixed_text_number fixed_text texts first_below maybe all_below if◌then◌otherwise◌
+fixed_back n h = eqb-true _ n (all_elim (λ k. eqb (fixed_text_number (fixed_text k)) k) 19 refl n h)
 
 pub one_byte : (c : List ℕ) → length c ≡ 1 → c ≡ get_or c 0 0 ∷ []
 one_byte [] e = absurd (omega arith)
@@ -114,7 +117,7 @@ one_byte (x ∷ y ∷ c) e = absurd (omega arith)
 pub number_one : (c : List ℕ) → length c ≡ 1 → number (take 8 c) ≡ get_or c 0 0
 number_one c e = ap (λ (l : List ℕ). number (take 8 l)) (one_byte c e) ∙ omega arith
 
-pub held_words : (k : ℕ) (o : Option (List ℕ)) → shape_at k 27 o ≡ true → range_at 27 o ≡ true → held_in 27 (over fixed_words o) ≡ o
+pub held_words : (k : ℕ) (o : Option (List ℕ)) → shape_at k 27 o ≡ true → range_at 27 o ≡ true → held_in 27 (over fixed_text_in o) ≡ o
 unfolding held_in if◌then◌otherwise◌ size range fields in_range value
 held_words k None e r = refl
 held_words k (Some c) e r =
@@ -122,4 +125,4 @@ held_words k (Some c) e r =
     let w : within 1 18 (number (take 8 c)) ≡ true = (and_parts (within 1 18 (number (take 8 c))) _ r).0 in
     let m : number (take 8 c) ≤ 18 = leb-true _ 18 (and_parts (leb 1 (number (take 8 c))) (leb (number (take 8 c)) 18) w).1 in
     ap {B = Option (List ℕ)} Some
-    (ap (λ (n : ℕ). n ∷ []) (word_back (get_or c 0 0) (omega (arith, number_one c l))) ∙ sym (one_byte c l))
+    (ap (λ (n : ℕ). n ∷ []) (fixed_back (get_or c 0 0) (omega (arith, number_one c l))) ∙ sym (one_byte c l))

@@ -4,7 +4,7 @@ use Rattle.std.proofs.Common.{ap, ◌∙◌, arith, eqb-true, eq-eqb}
 use Rattle.std.proofs.lemmas.Bool.{not-true, and_parts, and_from}
 use Rattle.std.specs.List.{list_all}
 use Rattle.std.specs.Cmp.Lexicographic.{pointwise}
-use Rattle.prelude.specs.Cases.{if_true, if_false, clash}
+use Rattle.prelude.specs.Laws.Cases.{if_true, if_false, clash}
 use Rattle.fix_words.specs.Lists.{every, is_not, before, after, glue, pieces, same}
 
 pub every_append : (p : ℕ → Bool) (s t : List ℕ) → every p s ≡ true → every p t ≡ true → every p (s ++ t) ≡ true

@@ -1,6 +1,7 @@
 -- `format::maps_of` is the table, computed for each byte. Assumes nothing.
 use Rattle.std.proofs.Common.{◌≡◌, ◌∷◌, [], ℕ, List, ◌<◌, ◌+◌, true, get_or, eqb, eqb-true, rules, refl, ap, ◌∙◌}
-use Rattle.prelude.specs.Below.{all_below, all_elim}
+use Rattle.prelude.specs.Below.{all_below}
+use Rattle.prelude.specs.Laws.Below.{all_elim}
 use Rattle.format.specs.Format.{required, allowed, required_bits, allowed_bits}
 use Rattle.format.specs.declared.Maps.{Maps}
 use Rattle.format.proofs.maps_of.Goals as goal

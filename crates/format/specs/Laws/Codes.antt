@@ -4,8 +4,9 @@ use Rattle.std.proofs.Common.{ap, ◌∙◌, ⊎_elim, arith, eqb-true, ltb-true
 use Rattle.std.proofs.Math.Bool.{and-true}
 use Rattle.std.proofs.lemmas.Bool.{and_parts, or_cases}
 use Rattle.std.specs.List.{list_all}
-use Rattle.prelude.specs.Cases.{clash}
-use Rattle.prelude.specs.Below.{all_below, all_elim}
+use Rattle.prelude.specs.Laws.Cases.{clash}
+use Rattle.prelude.specs.Below.{all_below}
+use Rattle.prelude.specs.Laws.Below.{all_elim}
 use Rattle.format.specs.Codes.{listed, in_map}
 
 -- ---- a list as a map

@@ -2,8 +2,9 @@
 use Rattle.std.specs.Prelude.{ℕ, suc, ◌+◌, ◌-◌, ◌≤◌, ◌≡◌, refl, true, false, take, List, [], length}
 use Rattle.std.proofs.Common.{ap, ◌∙◌, le_refl, arith, length-drop}
 use Rattle.std.proofs.Math.Decide.{le_ind}
-use Rattle.prelude.specs.Cases.{if◌then◌otherwise◌, split_if, if_true, if_false}
-use Rattle.prelude.specs.Span.{span_none, length_span}
+use Rattle.prelude.specs.Cases.{if◌then◌otherwise◌}
+use Rattle.prelude.specs.Laws.Cases.{split_if, if_true, if_false}
+use Rattle.prelude.specs.Laws.Span.{span_none, length_span}
 use Rattle.prelude.specs.Number.{number}
 use Rattle.bits.specs.Map.{bit}
 use Rattle.format.specs.Format.{size, is_text_bit}

@@ -2,7 +2,8 @@
 -- Rests on Places.
 use Rattle.std.specs.Prelude.{ℕ, ◌+◌, ◌-◌, ◌≤◌, ◌<◌, ◌≡◌, Bool, true, length, get_or, refl, List}
 use Rattle.std.proofs.Common.{sym, ap, ◌∙◌, add-one, arith}
-use Rattle.prelude.specs.Cases.{if◌then◌otherwise◌, split_if}
+use Rattle.prelude.specs.Cases.{if◌then◌otherwise◌}
+use Rattle.prelude.specs.Laws.Cases.{split_if}
 use Rattle.prelude.specs.Span.{span}
 use Rattle.bits.specs.Map.{bit}
 use Rattle.format.specs.Format.{range, in_range}

@@ -5,7 +5,8 @@ use Rattle.std.proofs.Common.{ap, sym, ◌∙◌, append_assoc, append-nil, leng
 use Rattle.std.proofs.Math.Decide.{le_ind}
 use Rattle.std.proofs.Math.Seq.{get_or-append_seam, drop-append_seam, take-append_seam}
 use Rattle.prelude.specs.Cases.{if◌then◌otherwise◌}
-use Rattle.prelude.specs.Span.{span, span_none, span_join}
+use Rattle.prelude.specs.Span.{span}
+use Rattle.prelude.specs.Laws.Span.{span_none, span_join}
 use Rattle.bits.specs.Map.{bit}
 use Rattle.format.specs.Format.{size, is_text_bit}
 use Rattle.format.specs.Places.{extent, next, start, strip, part, content}

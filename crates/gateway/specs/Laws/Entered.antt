@@ -2,7 +2,8 @@
 use Rattle.std.specs.Prelude.{ℕ, ◌≡◌, Bool, leb, length, refl, true, false, List, eqb}
 use Rattle.std.proofs.Common.{sym, ap, ap₂, subst, ◌∙◌, eqb-true, eq-eqb, ne_eqb}
 use Rattle.std.proofs.lemmas.Bool.{eqb-false}
-use Rattle.prelude.specs.Cases.{if◌then◌otherwise◌, if_true, if_false}
+use Rattle.prelude.specs.Cases.{if◌then◌otherwise◌}
+use Rattle.prelude.specs.Laws.Cases.{if_true, if_false}
 use Rattle.prelude.specs.Span.{splice}
 use Rattle.prelude.specs.declared.Refusal.{Refusal}
 use Rattle.prelude.specs.Refusal.{number_of}
@@ -21,7 +22,7 @@ use Rattle.index.specs.Index.{opening_of}
 use Rattle.rules.specs.Keeps.{keeps_of}
 use Rattle.rules.specs.Laws.Keeps.{keeps_held, keeps_opens}
 use Rattle.index.specs.Laws.Moved.{SameClients, step_clients, opening_is}
-use Rattle.step.specs.Entries.{place_order, place_requests, place_open, tables_with, book_with, call_of, outcome, event_of, start_of, start_refusal}
+use Rattle.step.specs.Entries.{place_order, place_requests, place_open, tables_with, book_with, call_of, returned, event_of, start_of, start_refusal}
 use Rattle.step.specs.Laws.Asked.{room_enough, taken_step}
 use Rattle.step.specs.Laws.Taken.{numbered}
 
@@ -30,7 +31,7 @@ use Rattle.step.specs.Laws.Taken.{numbered}
 module _ (b r a : List ℕ) where
   -- this is what the event returns and leaves
   abbrev pub Leaves : (returned : ℕ) (book answer : List ℕ) → Type 0
-  Leaves n book answer = outcome n book answer ≡ event_of b r a
+  Leaves n book answer = returned n book answer ≡ event_of b r a
 
   -- the answer that the change has
   abbrev said : Change → List ℕ
@@ -84,7 +85,7 @@ module _ (b r a : List ℕ) where
         let placing : tables ≡ place_requests (place_order b c.place c.order) origin c.requests =
         q ∙ ap₂ (λ (y : List ℕ) (n : ℕ). place_requests y n c.requests) p f in
         let whole : book ≡ place_open tables (after (book_of b) c) c.place c.order.client = o ∙ opened_is e w is tables in
-        ap₂ (outcome 0) (whole ∙ ap (λ (y : List ℕ). place_open y (after (book_of b) c) c.place c.order.client) placing) (u ∙ if_true _ _ _ (long e)) ∙ left_taken e
+        ap₂ (returned 0) (whole ∙ ap (λ (y : List ℕ). place_open y (after (book_of b) c) c.place c.order.client) placing) (u ∙ if_true _ _ _ (long e)) ∙ left_taken e
 
   -- a refusal as the code has it, by its number
   pub left_err : (q : Refusal) (n : ℕ) → refusing (number_of q) ≡ call_of b r (length a) → n ≡ number_of q → Leaves n b a

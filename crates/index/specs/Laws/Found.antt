@@ -1,8 +1,8 @@
 -- A ClOrdID names a request in use, and an empty one none. Rests on store's Finds and Named.
 use Rattle.std.specs.Prelude.{ℕ, ◌+◌, ◌<◌, ◌≡◌, List, Some}
 use Rattle.std.proofs.Common.{sym, ◌∙◌, arith, eq-eqb}
-use Rattle.prelude.specs.Below.{First, first_some}
-use Rattle.prelude.specs.Cases.{maybe_none}
+use Rattle.prelude.specs.Laws.Below.{First, first_some}
+use Rattle.prelude.specs.Laws.Cases.{maybe_none}
 use Rattle.prelude.specs.declared.Text.{Text}
 use Rattle.store.specs.Layout.{header·requests, most_requests}
 use Rattle.store.specs.Book.{book_of, order_count, request_count}

@@ -3,8 +3,10 @@
 use Rattle.std.specs.Prelude.{◌≡◌, ℕ, zero, suc, ◌+◌, ◌*◌, ◌<◌, ◌≤◌, Bool, true, false, List, ◌==◌, nat_eq, Option, None, Some, refl}
 use Rattle.std.proofs.Common.{arith, ◌∙◌, sym, ap, ap₂, eqb-true, eq-eqb, ne_eqb}
 use Rattle.std.specs.Cmp.{both_ways}
-use Rattle.prelude.specs.Below.{First, all_below, all_elim, all_intro, all_miss, first_elim, first_some}
-use Rattle.prelude.specs.Cases.{if◌then◌otherwise◌, maybe, split_if, if_true, if_false, maybe_none, maybe_some, clash}
+use Rattle.prelude.specs.Below.{all_below}
+use Rattle.prelude.specs.Laws.Below.{First, all_elim, all_intro, all_miss, first_elim, first_some}
+use Rattle.prelude.specs.Cases.{if◌then◌otherwise◌, maybe}
+use Rattle.prelude.specs.Laws.Cases.{split_if, if_true, if_false, maybe_none, maybe_some, clash}
 use Rattle.prelude.specs.Lists.{list_below}
 use Rattle.prelude.specs.Totals.{total_of}
 use Rattle.store.specs.declared.Order.{Order}

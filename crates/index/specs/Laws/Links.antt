@@ -4,9 +4,11 @@ use Rattle.std.specs.Prelude.{◌≡◌, ℕ, ◌+◌, ◌-◌, ◌<◌, Bool, t
 use Rattle.std.proofs.Common.{arith, sym, ap, subst, ◌∙◌, eqb-true, eq-eqb, ltb-true, lt-ltb, leb-true, le-leb}
 use Rattle.std.proofs.lemmas.Bool.{and_parts, and_from}
 use Rattle.std.specs.Cmp.{both_ways}
-use Rattle.prelude.specs.Below.{all_below, first_below, First, all_intro, all_miss, first_elim, first_some}
-use Rattle.prelude.specs.Cases.{clash, maybe_some}
-use Rattle.prelude.specs.Texts.{same_text, same_length}
+use Rattle.prelude.specs.Below.{all_below, first_below}
+use Rattle.prelude.specs.Laws.Below.{First, all_intro, all_miss, first_elim, first_some}
+use Rattle.prelude.specs.Laws.Cases.{clash, maybe_some}
+use Rattle.prelude.specs.Texts.{same_text}
+use Rattle.prelude.specs.Laws.Texts.{same_length}
 use Rattle.store.specs.declared.Request.{Request}
 use Rattle.store.specs.Requests.{no_request}
 use Rattle.store.specs.Book.{Book, book_of, order_in, request_in, origin_at}

@@ -5,11 +5,14 @@ use Rattle.std.proofs.Common.{arith, sym, ap, ap₂, subst, ◌∙◌, inl, leng
 use Rattle.std.proofs.Math.Decide.{ℕ_discrete, dec_lt}
 use Rattle.std.proofs.lemmas.Bool.{lt-leb}
 use Rattle.std.proofs.lemmas.List.{get_or_at}
-use Rattle.prelude.specs.Below.{first_below, First, first_ext, first_elim, first_hit, first_some}
-use Rattle.prelude.specs.Cases.{if◌then◌otherwise◌, maybe, if_true, if_false, maybe_none, maybe_some, clash}
+use Rattle.prelude.specs.Below.{first_below}
+use Rattle.prelude.specs.Laws.Below.{First, first_ext, first_elim, first_hit, first_some}
+use Rattle.prelude.specs.Cases.{if◌then◌otherwise◌, maybe}
+use Rattle.prelude.specs.Laws.Cases.{if_true, if_false, maybe_none, maybe_some, clash}
 use Rattle.prelude.specs.Number.{bytes_of}
 use Rattle.prelude.specs.Span.{splice}
-use Rattle.prelude.specs.Totals.{total_of, total_append, total_set}
+use Rattle.prelude.specs.Totals.{total_of}
+use Rattle.prelude.specs.Laws.Totals.{total_append, total_set}
 use Rattle.store.specs.declared.Order.{Order}
 use Rattle.store.specs.Layout.{book_size, header·orders, most_orders, open_base}
 use Rattle.store.specs.Orders.{no_order}

@@ -3,9 +3,10 @@ use Rattle.std.specs.Prelude.{ℕ, ◌<◌, ◌≡◌, refl, Bool, eqb, ltb, len
 use Rattle.std.proofs.Common.{arith, ap, ◌∙◌, sym, eqb-true, eq-eqb, ltb-true, lt-ltb}
 use Rattle.std.proofs.Math.Decide.{dec_lt}
 use Rattle.std.proofs.lemmas.Bool.{and_parts}
-use Rattle.prelude.specs.Below.{First, first_some, first_elim}
-use Rattle.prelude.specs.Cases.{clash}
-use Rattle.prelude.specs.Texts.{same_text, same_back, same_trans}
+use Rattle.prelude.specs.Laws.Below.{First, first_some, first_elim}
+use Rattle.prelude.specs.Laws.Cases.{clash}
+use Rattle.prelude.specs.Texts.{same_text}
+use Rattle.prelude.specs.Laws.Texts.{same_back, same_trans}
 use Rattle.prelude.specs.declared.Text.{Text}
 use Rattle.store.specs.Book.{Book, request_in}
 use Rattle.store.specs.Finds.{has_clordid, of_client, bears_clordid, find_clordid}

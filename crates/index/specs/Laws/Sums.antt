@@ -5,11 +5,15 @@ use Rattle.std.proofs.Common.{arith, ◌∙◌, get_or-set_same, get_or-set_othe
 use Rattle.std.proofs.Math.Decide.{ℕ_discrete}
 use Rattle.std.proofs.lemmas.Bool.{and_parts}
 use Rattle.std.specs.Cmp.{both_ways}
-use Rattle.prelude.specs.Below.{first_below, First, all_elim, first_elim, first_hit, first_some}
-use Rattle.prelude.specs.Cases.{if◌then◌otherwise◌, maybe, split_if, split_maybe, if_true, if_false, maybe_none, maybe_some, clash}
-use Rattle.prelude.specs.Lists.{list_below, list_more}
+use Rattle.prelude.specs.Below.{first_below}
+use Rattle.prelude.specs.Laws.Below.{First, all_elim, first_elim, first_hit, first_some}
+use Rattle.prelude.specs.Cases.{if◌then◌otherwise◌, maybe}
+use Rattle.prelude.specs.Laws.Cases.{split_if, split_maybe, if_true, if_false, maybe_none, maybe_some, clash}
+use Rattle.prelude.specs.Lists.{list_below}
+use Rattle.prelude.specs.Laws.Lists.{list_more}
 use Rattle.prelude.specs.Number.{bound}
-use Rattle.prelude.specs.Totals.{total_of, total_append}
+use Rattle.prelude.specs.Totals.{total_of}
+use Rattle.prelude.specs.Laws.Totals.{total_append}
 use Rattle.format.specs.Codes.{is_side}
 use Rattle.store.specs.declared.Order.{Order}
 use Rattle.store.specs.Layout.{most_orders}
@@ -21,7 +25,7 @@ use Rattle.store.specs.Laws.Stored.{length_orders, order_in_lem}
 use Rattle.machine.specs.Orders.{leaves_of, leaves_qty}
 use Rattle.machine.specs.Exchange.{open_of}
 use Rattle.machine.specs.Rules.{force_range, priced_range, terms_range, rules}
-use Rattle.machine.proofs.Kept.Lift.{book_kept}
+use Rattle.machine.proofs.Kept.Indexed.{book_kept}
 use Rattle.index.specs.Index.{stored_open, open_right, opens_right}
 
 -- ---- totals of a list that a function makes

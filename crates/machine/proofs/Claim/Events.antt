@@ -2,7 +2,8 @@
 use Rattle.std.proofs.Common.{ℕ, ◌+◌, ◌≤◌, ◌<◌, arith, ◌≡◌, refl, sym, ap, ◌∙◌, ◌⊎◌, inl, inr, Bool, true, false, not, ◌&&◌, Some, eqb, length, eq-eqb, ne_eqb}
 use Rattle.std.proofs.Math.Bool.{and-false}
 use Rattle.std.proofs.lemmas.Bool.{and_from, cases_Bool}
-use Rattle.prelude.specs.Cases.{if◌then◌otherwise◌, maybe, clash, maybe_some}
+use Rattle.prelude.specs.Cases.{if◌then◌otherwise◌, maybe}
+use Rattle.prelude.specs.Laws.Cases.{clash, maybe_some}
 use Rattle.store.specs.declared.GatewayCancel.{GatewayCancel}
 use Rattle.store.specs.declared.Order.{Order}
 use Rattle.store.specs.Book.{Book, order_in, request_in}
@@ -21,8 +22,9 @@ use Rattle.machine.specs.declared.Change.{Change}
 use Rattle.machine.proofs.Claim.Ruled.{Ruled, order_ruled, request_ruled, done_none}
 use Rattle.machine.proofs.Claim.Walk.{found_request, found_text, Either, Handles, requests_order}
 use Rattle.machine.proofs.Claim.Filled.{Moved, handles_moved}
-use Rattle.machine.proofs.Claim.Turn.{asks_at, find_cong, gateway_cancels}
-use Rattle.machine.proofs.Made.{not_kind, left, repeated, turned, unpriced, cancel_sent, replace_sent, Fails, unfailed, refused, freed, fell, ended, Resends, new_again, cancel_again, replace_again, failing, fails, resends, alarms, names, applies, informs, quietly, retries, stays, refusing!, resumes, declined, waits, goes}
+use Rattle.machine.proofs.Claim.Tries.{asks_at, find_cong, gateway_cancels}
+use Rattle.machine.proofs.Walked.{not_kind}
+use Rattle.machine.proofs.Made.{left, repeated, turned, unpriced, cancel_sent, replace_sent, Fails, unfailed, refused, freed, fell, ended, Resends, new_again, cancel_again, replace_again, failing, fails, resends, alarms, names, applies, informs, quietly, retries, stays, refusing!, resumes, declined, waits, goes}
 use Rattle.machine.proofs.Stepped.{MadeBy, AskedBy, AmendedBy}
 use Rattle.machine.proofs.Claim.Shapes.{plain_reject, plain_report, plain_client, plain_new, plain_replace, one_cancel, Near, near_self, near_trans, status_near, told_near, named_near, refused_near, reported_near, Mute, calm_mute, says_mute, Idle, left_idle, Sent, send_fields, refuses_near, refuses_links, retried_sent, resumed_sent, cancel_out, cancel_fields, replace_fields, begun_out, begun_once, begun_none}
 use Rattle.machine.proofs.Claim.Steps.{Shape, idle, repeats, client, gateway, begins!, fails!, Shaped, findings_index}

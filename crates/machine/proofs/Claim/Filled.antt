@@ -4,10 +4,12 @@ use Rattle.std.proofs.Math.Decide.{ℕ_discrete, dec_lt}
 use Rattle.std.proofs.Math.ListN.{get_or-append}
 use Rattle.std.proofs.Math.Seq.{get_or_at}
 use Rattle.std.proofs.lemmas.Bool.{lt-leb, cases_Bool}
-use Rattle.prelude.specs.Below.{first_some, first_hit, first_ext, First}
-use Rattle.prelude.specs.Cases.{if◌then◌otherwise◌, maybe, split_if, if_true, if_false, none_some}
+use Rattle.prelude.specs.Laws.Below.{first_some, first_hit, first_ext, First}
+use Rattle.prelude.specs.Cases.{if◌then◌otherwise◌, maybe}
+use Rattle.prelude.specs.Laws.Cases.{split_if, if_true, if_false, none_some}
 use Rattle.prelude.specs.Texts.{same_text}
-use Rattle.prelude.specs.Totals.{total_of, Every, every[], every∷, total_append, total_set, every_map}
+use Rattle.prelude.specs.Totals.{total_of, Every, every[], every∷}
+use Rattle.prelude.specs.Laws.Totals.{total_append, total_set, every_map}
 use Rattle.prelude.specs.declared.Text.{Text}
 use Rattle.store.specs.declared.Order.{Order}
 use Rattle.store.specs.Book.{Book, order_in}
@@ -20,7 +22,7 @@ use Rattle.machine.specs.Rules.{rules, filled_rule}
 use Rattle.machine.specs.History.{Decoded, unread, read_as, comes_to, messages_of, left_by, line_of, State, next, run, start_from}
 use Rattle.machine.specs.Claim.{status_of, Each}
 use Rattle.machine.specs.declared.Change.{Change}
-use Rattle.machine.proofs.Kept.Lift.{BookKept}
+use Rattle.machine.proofs.Kept.Indexed.{BookKept}
 use Rattle.machine.proofs.Claim.Laws.{tells, Whose, whose, last_qty_by, filled_by}
 use Rattle.machine.proofs.Claim.Moves.{Moves, made_moves, asked_moves, amended_moves}
 use Rattle.machine.proofs.Claim.Ruled.{ruled}

@@ -1,9 +1,11 @@
 -- An order's next downstream ClOrdID is no request's yet. Rests on Ruled and the laws of numbered texts.
 use Rattle.std.proofs.Common.{ℕ, zero, suc, ◌+◌, ◌≤◌, ◌<◌, eq-or-lt_of_le, le_of_suc-le-suc, arith, ◌≡◌, refl, ap, subst, ◌⊎◌, inl, inr, ⊎_elim, Bool, true, false, Option, None, Some, eqb, length, eqb-true, eq-eqb}
 use Rattle.std.proofs.lemmas.Bool.{eqb-false, cases_Bool}
-use Rattle.prelude.specs.Below.{count_below, count_hit, count_le}
-use Rattle.prelude.specs.Cases.{clash, if_true, if_false}
-use Rattle.prelude.specs.Texts.{same_text, same_back, same_trans}
+use Rattle.prelude.specs.Below.{count_below}
+use Rattle.prelude.specs.Laws.Below.{count_hit, count_le}
+use Rattle.prelude.specs.Laws.Cases.{clash, if_true, if_false}
+use Rattle.prelude.specs.Texts.{same_text}
+use Rattle.prelude.specs.Laws.Texts.{same_back, same_trans}
 use Rattle.prelude.specs.declared.Text.{Text}
 use Rattle.text.specs.Numbered.{numbered_text}
 use Rattle.store.specs.Book.{Book, order_in, request_in}

@@ -1,8 +1,10 @@
 -- The image, as the history since it begins: each gateway cancel that it holds has its record, and each once. Rests on Turn and the book's rules.
 use Rattle.std.proofs.Common.{ℕ, zero, suc, ◌<◌, not-suc-le-zero, le_of_suc-le-suc, arith, ◌≡◌, refl, ap, ◌∙◌, ◌⊎◌, inl, inr, Bool, true, false, ◌||◌, Option, None, Some, List, [], ◌∷◌, length, get_or, eqb-true, eq-eqb}
 use Rattle.std.proofs.lemmas.Bool.{and_parts, and_from, or_cases, or_right, false_from_ne_true}
-use Rattle.prelude.specs.Cases.{if◌then◌otherwise◌, maybe, split_if, clash, if_true, if_false, maybe_some}
-use Rattle.prelude.specs.Texts.{same_text, same_back}
+use Rattle.prelude.specs.Cases.{if◌then◌otherwise◌, maybe}
+use Rattle.prelude.specs.Laws.Cases.{split_if, clash, if_true, if_false, maybe_some}
+use Rattle.prelude.specs.Texts.{same_text}
+use Rattle.prelude.specs.Laws.Texts.{same_back}
 use Rattle.prelude.specs.Totals.{how_many}
 use Rattle.prelude.specs.declared.Text.{Text}
 use Rattle.store.specs.declared.Request.{Request}
@@ -11,16 +13,16 @@ use Rattle.store.specs.Requests.{no_request}
 use Rattle.store.specs.Finds.{find_downstream}
 use Rattle.machine.specs.Claim.{holds, failed}
 use Rattle.machine.specs.Since.{is_held, downstreams}
-use Rattle.machine.proofs.Kept.Lift.{BookKept}
+use Rattle.machine.proofs.Kept.Indexed.{BookKept}
 use Rattle.machine.proofs.Kept.Consequences.{downstreams_apart, found_downstream}
 use Rattle.machine.proofs.Claim.Walk.{found_request, found_text}
-use Rattle.machine.proofs.Claim.Turn.{mine, held_at, Distinct, holds_self, find_cong, Base, At}
+use Rattle.machine.proofs.Claim.Tries.{mine, held_at, Distinct, holds_self, find_cong, Base, At}
 use Rattle.machine.proofs.Numbered.{NumberedLaws}
 
 -- ---- the requests that pass a test
 
 module _ (p : Request → Bool) where
-  -- where a request of that text stands
+  -- the place of the request of that text
   record Place (d : Text) (qs : List Request) : Type 0 where
     at : ℕ
     below : at < length qs

@@ -1,7 +1,8 @@
 -- Words and laws of messages that the claim's proofs share. Rests on the definitions alone.
 use Rattle.std.proofs.Common.{ℕ, suc, ◌≤◌, arith, ◌≡◌, refl, ap, ◌∙◌, Bool, true, false, ◌&&◌, List, [], ◌∷◌, ◌++◌, eqb, eq-eqb}
 use Rattle.std.proofs.lemmas.Bool.{eqb-false}
-use Rattle.prelude.specs.Cases.{if◌then◌otherwise◌, split_if}
+use Rattle.prelude.specs.Cases.{if◌then◌otherwise◌}
+use Rattle.prelude.specs.Laws.Cases.{split_if}
 use Rattle.prelude.specs.Texts.{same_text}
 use Rattle.prelude.specs.declared.Text.{Text}
 use Rattle.store.specs.declared.Order.{Order}
@@ -40,7 +41,7 @@ bears client name w = eqb w.client client && same_text w.name name
 pub filled_same : (p : Whose → Bool) (o q : Order) (n : ℕ) → whose q ≡ whose o → q.state.cumqty ≡ n → filled_by p q ≡ (if p (whose o) then n otherwise 0)
 filled_same p o q n w c = ap (λ (x : Whose). if p x then q.state.cumqty otherwise 0) w ∙ ap (λ (x : ℕ). if p (whose o) then x otherwise 0) c
 
--- a message goes behind the one that is there
+-- a message that is told stands behind the first one if there is one
 pub tells_more : (m : Message) (c : Change) → c.output.count ≤ 1 → tells (telling m c) ≡ tells c ++ (m ∷ [])
 unfolding telling if◌then◌otherwise◌
 tells_more m c h = go (eqb c.output.count 0) refl

@@ -2,9 +2,11 @@
 use Rattle.std.proofs.Common.{ℕ, ◌+◌, ◌-◌, ◌≤◌, arith, ◌≡◌, refl, sym, ap, ◌∙◌, ◌⊎◌, inl, inr, Bool, true, false, ◌&&◌, List, eqb, eqb-true}
 use Rattle.std.proofs.Math.Bool.{and-false}
 use Rattle.wide.specs.declared.Priced.{Priced}
-use Rattle.prelude.specs.Cases.{if◌then◌otherwise◌, split_if, clash, if_false}
+use Rattle.prelude.specs.Cases.{if◌then◌otherwise◌}
+use Rattle.prelude.specs.Laws.Cases.{split_if, clash, if_false}
 use Rattle.prelude.specs.Texts.{same_text}
-use Rattle.prelude.specs.Totals.{total_of, total_append}
+use Rattle.prelude.specs.Totals.{total_of}
+use Rattle.prelude.specs.Laws.Totals.{total_append}
 use Rattle.prelude.specs.declared.Text.{Text}
 use Rattle.prelude.specs.declared.Terms.{Terms}
 use Rattle.store.specs.declared.Order.{Order}
@@ -14,7 +16,7 @@ use Rattle.store.specs.declared.GatewayCancel.{GatewayCancel}
 use Rattle.format.specs.Codes.{pending_new, rejected}
 use Rattle.machine.specs.Orders.{is_done, set_status, record_venue_order_id, apply_replace, pending_terms, next_exec, with_pending, with_gateway}
 use Rattle.store.specs.Orders.{no_pending}
-use Rattle.text.specs.Words.{no_text}
+use Rattle.text.specs.Stored.{no_text}
 use Rattle.machine.specs.Constants.{gateway_kind}
 use Rattle.machine.specs.Messages.{report, cancel_reject, to_venue, new_order, cancel_request, replace_request}
 use Rattle.machine.specs.Changes.{Event, Message, unchanged, refusing, adding, telling, next_downstream, next_request, numbered_order}

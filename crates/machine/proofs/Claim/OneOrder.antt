@@ -2,9 +2,10 @@
 -- numbered texts.
 use Rattle.std.proofs.Common.{ℕ, ◌+◌, ◌-◌, ◌≤◌, ◌<◌, arith, ◌≡◌, refl, sym, ap, ◌∙◌, subst, ◌⊎◌, inl, inr, true, false, Option, None, Some, List, [], eqb, length, set, eqb-true, ⊎_elim}
 use Rattle.std.proofs.lemmas.Bool.{cases_Bool}
-use Rattle.prelude.specs.Below.{first_elim}
-use Rattle.prelude.specs.Cases.{split_if, clash, same_some}
-use Rattle.prelude.specs.Texts.{same_text, same_back, same_trans}
+use Rattle.prelude.specs.Laws.Below.{first_elim}
+use Rattle.prelude.specs.Laws.Cases.{split_if, clash, same_some}
+use Rattle.prelude.specs.Texts.{same_text}
+use Rattle.prelude.specs.Laws.Texts.{same_back, same_trans}
 use Rattle.prelude.specs.Totals.{total_of}
 use Rattle.prelude.specs.declared.Text.{Text}
 use Rattle.text.specs.Numbered.{numbered_text}
@@ -26,7 +27,7 @@ use Rattle.machine.proofs.Claim.Filled.{Moved, handles_moved, orders_set, after_
 use Rattle.machine.proofs.Claim.Records.{there_other, added_own}
 use Rattle.machine.proofs.Claim.Touches.{Touches, made_touches}
 use Rattle.machine.proofs.Claim.Steps.{findings_index}
-use Rattle.machine.proofs.Claim.Whole.{after_same}
+use Rattle.machine.proofs.Claim.Rounds.{after_same}
 use Rattle.machine.proofs.Claim.Fresh.{named_zero, named_more, number_small, above_zero}
 use Rattle.machine.proofs.Numbered.{NumberedLaws, numbered_laws}
 

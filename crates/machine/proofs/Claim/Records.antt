@@ -4,8 +4,8 @@ use Rattle.std.proofs.Math.Decide.{ℕ_discrete, dec_lt}
 use Rattle.std.proofs.Math.ListN.{get_or-append}
 use Rattle.std.proofs.Math.Seq.{get_or_at}
 use Rattle.std.proofs.lemmas.Bool.{eqb-false}
-use Rattle.prelude.specs.Below.{first_some, first_elim, first_hit, first_ext, First}
-use Rattle.prelude.specs.Cases.{split_if, clash, if_true, if_false}
+use Rattle.prelude.specs.Laws.Below.{first_some, first_elim, first_hit, first_ext, First}
+use Rattle.prelude.specs.Laws.Cases.{split_if, clash, if_true, if_false}
 use Rattle.prelude.specs.Texts.{same_text}
 use Rattle.prelude.specs.declared.Text.{Text}
 use Rattle.store.specs.declared.Request.{Request}
@@ -181,7 +181,7 @@ module _ (b : Book) (c : Change) where
           let z : k ≡ length b.requests = omega (arith, added_long n) in
           record { adds = n; at = z; same = subst (λ (q : Request). same_text q.downstream d ≡ true) (ap (λ (j : ℕ). request_in (after b c) j) z ∙ added_at n) t }
 
-  -- the record that was added is found by its text, where it was free
+  -- the record that was added is found by its text, if no request had it
   pub find_added : (c.requests.added ≡ 0 → ⊥) → (d : Text) → same_text c.requests.request.downstream d ≡ true → find_downstream b d ≡ None
       → find_downstream (after b c) d ≡ Some (length b.requests)
   unfolding find_downstream

@@ -2,9 +2,11 @@
 use Rattle.std.proofs.Common.{ℕ, ◌+◌, ◌-◌, ◌≤◌, ◌<◌, arith, ◌≡◌, ◌⊎◌, inl, inr, Bool, true, false, not, ◌&&◌, ◌||◌, List, eqb, leb, ltb, length, get_or, ltb-true, leb-true, eqb-true}
 use Rattle.std.proofs.Math.Decide.{dec_lt}
 use Rattle.std.proofs.lemmas.Bool.{not-true, and_parts, or_cases}
-use Rattle.prelude.specs.Below.{all_below, all_elim}
-use Rattle.prelude.specs.Cases.{clash}
-use Rattle.prelude.specs.Texts.{same_text, same_back}
+use Rattle.prelude.specs.Below.{all_below}
+use Rattle.prelude.specs.Laws.Below.{all_elim}
+use Rattle.prelude.specs.Laws.Cases.{clash}
+use Rattle.prelude.specs.Texts.{same_text}
+use Rattle.prelude.specs.Laws.Texts.{same_back}
 use Rattle.prelude.specs.declared.Text.{Text}
 use Rattle.store.specs.declared.Names.{Names}
 use Rattle.store.specs.declared.Order.{Order}
@@ -16,7 +18,7 @@ use Rattle.machine.specs.Changes.{is_gateway, is_answered}
 use Rattle.machine.specs.Ranges.{name_range}
 use Rattle.machine.specs.Rules.{rules, linked, order_rule, request_rule, name_rule, names_apart, key_rule, names_range, order_range, request_range, outcome_rule, current_rule, cancel_rule, pending_rule, amendments_rule, filled_rule, status_rule, done_rule, tries_rule, number_rule, number_in, name_number, in_flight_rule, origin_rule}
 
--- of a chain of tests that hold
+-- the first test of a chain that holds, and the rest
 front : (a b : Bool) → a && b ≡ true → a ≡ true
 front a b e = (and_parts a b e).0
 

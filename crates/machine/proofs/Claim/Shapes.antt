@@ -1,7 +1,8 @@
 -- What a change does to the gateway's cancel of its order: the cancel requests in the answer, the request added, and the tries. Rests on Laws and Made.
 use Rattle.std.proofs.Common.{ℕ, ◌+◌, ◌-◌, ◌≤◌, ◌<◌, arith, ◌≡◌, refl, sym, ap, ◌∙◌, ◌⊎◌, inl, inr, Bool, true, false, not, List, [], ◌∷◌, ◌++◌, eqb}
 use Rattle.wide.specs.declared.Priced.{Priced}
-use Rattle.prelude.specs.Cases.{if◌then◌otherwise◌, split_if, clash}
+use Rattle.prelude.specs.Cases.{if◌then◌otherwise◌}
+use Rattle.prelude.specs.Laws.Cases.{split_if, clash}
 use Rattle.prelude.specs.declared.Text.{Text}
 use Rattle.prelude.specs.declared.Terms.{Terms}
 use Rattle.store.specs.declared.Order.{Order}
@@ -76,7 +77,7 @@ says_cancel o d c l s =
     ap cancels_in (tells_more (cancel_request o d) c l) ∙ cancels_append (tells c) (cancel_request o d ∷ [])
     ∙ ap (λ (x : List Text). x ++ cancels_in (cancel_request o d ∷ [])) s ∙ one_cancel o d
 
--- the same, with its request added
+-- the same message, with its request added
 says_added : (o : Order) (d : Text) (q : Request) (c : Change) → c.output.count ≤ 1 → cancels_in (tells c) ≡ [] → cancels_in (tells (telling (cancel_request o d) (adding q c))) ≡ d ∷ []
 unfolding adding
 says_added o d q c l s = says_cancel o d (adding q c) l s
@@ -95,7 +96,7 @@ none_said p o = refl
 
 -- ---- the order
 
--- an order that keeps its name, its number and, where its gateway cancel stands, the tries
+-- an order that keeps its name, its number and, if its gateway cancel stands, the tries
 pub record Near (o p : Order) : Type 0 where
   pub same_name : p.names.name ≡ o.names.name
   pub same_number : p.links.amendments ≡ o.links.amendments

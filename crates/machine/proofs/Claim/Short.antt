@@ -1,6 +1,6 @@
--- No event leaves an order Filled and short where none was; so after start a Filled order is filled whole. And the alarm goes by the order as it is left. Rests on Moves, Start and Stepped.
+-- No event leaves an order Filled and short if none was before; so after start a Filled order is filled whole. And the alarm goes by the order as it is left. Rests on Moves, Start and Stepped.
 use Rattle.std.proofs.Common.{ℕ, ◌≤◌, arith, ◌≡◌, refl, Bool, false, List, [], ◌∷◌, get_or, ltb-false, eq-eqb}
-use Rattle.prelude.specs.Cases.{split_if}
+use Rattle.prelude.specs.Laws.Cases.{split_if}
 use Rattle.format.specs.Codes.{new, filled, rejected}
 use Rattle.store.specs.declared.Order.{Order}
 use Rattle.store.specs.declared.Request.{Request}
@@ -20,7 +20,8 @@ use Rattle.machine.specs.declared.Change.{Change}
 use Rattle.machine.proofs.Kept.Fits.{set_all, more_all}
 use Rattle.machine.proofs.Claim.Moves.{reported_grown, refused_keeps}
 use Rattle.machine.proofs.Claim.Start.{demand}
-use Rattle.machine.proofs.Made.{Closed, closed_made, declined, waits, goes, repeated, turned, unpriced, cancel_sent, replace_sent}
+use Rattle.machine.proofs.Walked.{Closed, closed_made}
+use Rattle.machine.proofs.Made.{declined, waits, goes, repeated, turned, unpriced, cancel_sent, replace_sent}
 use Rattle.machine.proofs.Stepped.{MadeBy, AskedBy, AmendedBy, Ways, step_made}
 
 -- ---- an order
@@ -37,7 +38,7 @@ unfolding unless_short
 never_short qty cumqty s =
     split_if (λ (n : ℕ). is_short qty cumqty (status_at cumqty n) ≡ false) _ (λ h. at_status qty cumqty new (unfold is_short in refl)) (λ h. at_status qty cumqty s h)
 
--- where a status is set, it is decided
+-- if a status is set, it is decided then
 set_sound : (s : ℕ) (o : Order) → Sound (set_status s o)
 unfolding set_status
 set_sound s o = record { sound = never_short o.terms.qty o.state.cumqty s }
@@ -61,7 +62,7 @@ refused_sound k r o h =
 record Leaves (c : Change) : Type 0 where
   leaves : Sound c.order
 
--- what is left of an order that is not short is not
+-- an order that is not short is left not short
 made_leaves : {f : Findings} {k : ℕ} {q : Request} {o : Order} {e : Event} → Sound o → (c c' : Change) → MadeBy f k q o e c c' → Leaves c
 unfolding record_venue_order_id reported_order send_gateway_cancel telling adding numbered_order
 made_leaves {f} {k} {q} {o} {e} h c c' = closed_made z
@@ -96,7 +97,7 @@ amended_leaves h c c' (replace_sent t u) = record { leaves = record { sound = h.
 
 -- ---- the book
 
--- its orders, and what is read past their end
+-- the book's orders, and what is read past their end
 record SoundBook (b : Book) : Type 0 where
   each : (i : ℕ) → Sound (order_in b i)
 

@@ -1,8 +1,10 @@
--- Demand 3, whole: the claim from an image, where the image is the empty book. Rests on Whole.
+-- Demand 3, whole: the claim from an image, with the empty book as the image. Rests on Whole.
 use Rattle.std.proofs.Common.{ℕ, ◌+◌, arith, ◌≡◌, refl, ap, ◌∙◌, subst, Bool, false, not, ◌&&◌, ◌||◌, List, [], ◌∷◌, ◌++◌, length}
 use Rattle.prelude.specs.Below.{first_below}
-use Rattle.prelude.specs.Cases.{if◌then◌otherwise◌, maybe, split_if}
-use Rattle.prelude.specs.Totals.{how_many, those_ext}
+use Rattle.prelude.specs.Cases.{if◌then◌otherwise◌, maybe}
+use Rattle.prelude.specs.Laws.Cases.{split_if}
+use Rattle.prelude.specs.Totals.{how_many}
+use Rattle.prelude.specs.Laws.Totals.{those_ext}
 use Rattle.prelude.specs.declared.Text.{Text}
 use Rattle.store.specs.Book.{Book, order_in}
 use Rattle.store.specs.Finds.{find_name, find_downstream}

@@ -3,8 +3,10 @@ use Rattle.std.proofs.Common.{ℕ, ◌+◌, ◌-◌, ◌≤◌, ◌<◌, arith, 
 use Rattle.std.proofs.Math.Bool.{and-false, not-and_self}
 use Rattle.std.proofs.Math.Decide.{ℕ_discrete}
 use Rattle.std.proofs.lemmas.Bool.{not-true, and_parts, and_from, or_cases, cases_Bool, false_from_ne_true}
-use Rattle.prelude.specs.Cases.{if◌then◌otherwise◌, maybe, clash, if_true, if_false}
-use Rattle.prelude.specs.Texts.{same_text, same_self, same_back, same_trans}
+use Rattle.prelude.specs.Cases.{if◌then◌otherwise◌, maybe}
+use Rattle.prelude.specs.Laws.Cases.{clash, if_true, if_false}
+use Rattle.prelude.specs.Texts.{same_text}
+use Rattle.prelude.specs.Laws.Texts.{same_self, same_back, same_trans}
 use Rattle.prelude.specs.declared.Text.{Text}
 use Rattle.store.specs.declared.GatewayCancel.{GatewayCancel}
 use Rattle.store.specs.declared.Order.{Order}
@@ -27,7 +29,8 @@ use Rattle.machine.proofs.Claim.Walk.{found_request, found_text}
 use Rattle.machine.proofs.Claim.Filled.{orders_set, after_orders, at, beside}
 use Rattle.machine.proofs.Claim.Fresh.{fresh_text}
 use Rattle.machine.proofs.Claim.Records.{there_like, there_other, there_answered, find_stays, find_new, find_added, added_at}
-use Rattle.machine.proofs.Claim.Turn.{asks_at, begins_at, answered_at, Own, Same, Goes, silent, repeated, fresh, new_of, Tried, begun, goes_on_lem, fell, Turn}
+use Rattle.machine.proofs.Claim.Tries.{asks_at, begins_at, answered_at, Own}
+use Rattle.machine.proofs.Claim.Turn.{Same, Goes, silent, repeated, fresh, new_of, Tried, begun, goes_on_lem, fell, Turn}
 use Rattle.machine.proofs.Claim.Shapes.{Out}
 use Rattle.machine.proofs.Numbered.{NumberedLaws}
 use Rattle.machine.proofs.Kept.Tables.{at_link}

@@ -7,7 +7,8 @@ use Rattle.machine.specs.GatewayCancel.{send_gateway_cancel}
 use Rattle.machine.specs.Amend.{cancel_goes, replace_goes}
 use Rattle.machine.specs.declared.Findings.{Findings}
 use Rattle.machine.specs.declared.Change.{Change}
-use Rattle.machine.proofs.Made.{Closed, closed_made, declined, waits, goes, repeated, turned, unpriced, cancel_sent, replace_sent}
+use Rattle.machine.proofs.Walked.{Closed, closed_made}
+use Rattle.machine.proofs.Made.{declined, waits, goes, repeated, turned, unpriced, cancel_sent, replace_sent}
 use Rattle.machine.proofs.Stepped.{MadeBy, AskedBy, AmendedBy}
 
 -- k is the link of the request that the event names

@@ -1,164 +1,30 @@
--- The tries of a gateway cancel: what holds of a book's requests and of one order, and how one call keeps it. Rests on Laws.
--- Here an order is known by its index; Whole goes over to its name.
+-- The tries of a gateway cancel: how one call keeps what holds of them. Rests on Tries.
 use Rattle.std.proofs.Common.{ℕ, ◌+◌, ◌-◌, ◌<◌, arith, ◌≡◌, refl, sym, ap, ◌∙◌, subst, ◌⊎◌, inl, inr, Bool, true, false, not, ◌&&◌, ◌||◌, Option, None, Some, List, [], ◌∷◌, ◌++◌, append-nil, eqb, length, length-append, eqb-true, eq-eqb}
 use Rattle.std.proofs.Math.Bool.{and-false, and-true}
 use Rattle.std.proofs.lemmas.Bool.{and_parts, and_from, or_cases, cases_Bool, or_from, or_left, or_right}
 use Rattle.std.specs.List.{list_any}
-use Rattle.prelude.specs.Below.{first_ext}
-use Rattle.prelude.specs.Cases.{if◌then◌otherwise◌, maybe, split_if, clash, if_true, if_false, maybe_none, maybe_some, none_some, same_some}
-use Rattle.prelude.specs.Texts.{same_text, same_self, same_back, same_trans, same_right, same_left}
-use Rattle.prelude.specs.Totals.{how_many, those, many_append}
+use Rattle.prelude.specs.Cases.{if◌then◌otherwise◌}
+use Rattle.prelude.specs.Laws.Cases.{split_if, clash, if_true, if_false, maybe_some, none_some, same_some}
+use Rattle.prelude.specs.Texts.{same_text}
+use Rattle.prelude.specs.Laws.Texts.{same_back}
+use Rattle.prelude.specs.Totals.{how_many, those}
+use Rattle.prelude.specs.Laws.Totals.{many_append}
 use Rattle.prelude.specs.declared.Text.{Text}
 use Rattle.store.specs.declared.Request.{Request}
 use Rattle.store.specs.Book.{Book, order_in, request_in}
 use Rattle.machine.specs.Constants.{gateway_kind}
 use Rattle.machine.specs.Orders.{has_gateway}
 use Rattle.machine.specs.Changes.{is_first, is_replace, is_gateway, is_cancel, is_answered}
-use Rattle.store.specs.Finds.{find_name, find_downstream}
-use Rattle.machine.specs.History.{Decoded, unread, read_as, Entry}
-use Rattle.machine.specs.Claim.{holds, of_kind, starts, cancels_in, once, sent, answered_in, fails, failed}
-use Rattle.machine.specs.Since.{is_held, known, downstreams}
+use Rattle.store.specs.Finds.{find_downstream}
+use Rattle.machine.specs.History.{Entry}
+use Rattle.machine.specs.Claim.{holds, of_kind, cancels_in, once, sent, answered_in, fails, failed}
+use Rattle.machine.specs.Since.{is_held, known}
 use Rattle.machine.proofs.Kept.Laws.{or_map}
-
--- ---- the claim's words for the order at an index
-
-unfoldable pub is_for_at : ℕ → Book → Text → Bool
-is_for_at j b d = maybe false (λ k. eqb (request_in b k).order j) (find_downstream b d)
-
-abbrev pub asks_at : ℕ → Book → Decoded → Bool
-asks_at j b (unread n) = false
-asks_at j b (read_as e) = eqb e.kind 9 && maybe false (λ i. eqb i j && starts b i) (find_name b e.ids.name)
-
-unfoldable pub begins_at : ℕ → Entry → Bool
-begins_at j e = eqb e.refusal 0 && asks_at j e.before e.input
-
-unfoldable pub new_by_at : Book → ℕ → Entry → List Entry → List Text
-new_by_at image j e earlier = if of_kind 2 e.input then [] otherwise those (λ d. is_for_at j e.left d && not (known image d earlier)) (once (cancels_in e.messages))
-
--- the image's
-abbrev pub mine : ℕ → Request → Bool
-mine j q = is_gateway q && eqb q.order j
-
-abbrev pub held_at : Book → ℕ → List Text
-held_at image j = downstreams (mine j) image.requests
-
--- all that count: the new ones, and the image's until the gateway cancel begins again
-abbrev pub out_at : Book → ℕ → List Entry → List Text
-out_at image j [] = held_at image j
-out_at image j (e ∷ earlier) = new_by_at image j e earlier ++ (if begins_at j e then [] otherwise out_at image j earlier)
-
--- a number of the image's, until then
-abbrev pub still_at : ℕ → List Entry → ℕ → ℕ
-still_at j past n = if list_any (begins_at j) past then 0 otherwise n
-
--- ---- lists of texts
-
-unfoldable pub Distinct : List Text → Type 0
-Distinct [] = Unit {0}
-Distinct (d ∷ ds) = (holds d ds ≡ false) × Distinct ds
-
-holds_cong : (d d' : Text) (l : List Text) → same_text d d' ≡ true → holds d l ≡ holds d' l
-holds_cong d d' [] s = refl
-holds_cong d d' (x ∷ l) s = rw (same_left d d' x s, holds_cong d d' l s)
-
-pub holds_self : (d d' : Text) (l : List Text) → same_text d d' ≡ true → holds d (d' ∷ l) ≡ true
-holds_self d d' l s = or_left _ (holds d l) s
-
-pub holds_one : (d d' : Text) → holds d (d' ∷ []) ≡ true → same_text d d' ≡ true
-holds_one d d' h = go (or_cases (same_text d d') false h)
-  where
-    go : (same_text d d' ≡ true) ⊎ (false ≡ true) → same_text d d' ≡ true
-    go (inl e) = e
-    go (inr e) = clash false e refl
-
--- two tests that agree on the list count the same
-many_same : (f g : Text → Bool) (l : List Text) → ((x : Text) → holds x l ≡ true → f x ≡ g x) → how_many f l ≡ how_many g l
-many_same f g [] h = refl
-many_same f g (d ∷ ds) h =
-    ap (λ (b : Bool). (if b then 1 otherwise 0) + how_many f ds) (h d (holds_self d d ds (same_self d)))
-    ∙ ap (λ (c : ℕ). (if g d then 1 otherwise 0) + c) (many_same f g ds (λ x m. h x (or_right (same_text x d) _ m)))
-
--- a test that passes one text more counts one more
-many_one : (f g : Text → Bool) (d : Text) (l : List Text) → Distinct l → holds d l ≡ true
-    → ((x : Text) → same_text d x ≡ true → (f x ≡ false) × (g x ≡ true)) → ((x : Text) → same_text d x ≡ false → f x ≡ g x) → how_many g l ≡ how_many f l + 1
-unfolding Distinct if◌then◌otherwise◌
-many_one f g d [] u h p r = clash false h refl
-many_one f g d (j ∷ js) u h p r = go (same_text d j) refl h (λ m. many_one f g d js u.1 m p r)
-  where
-    go : (b : Bool) → same_text d j ≡ b → b || holds d js ≡ true → (holds d js ≡ true → how_many g js ≡ how_many f js + 1)
-        → (if g j then 1 otherwise 0) + how_many g js ≡ (if f j then 1 otherwise 0) + how_many f js + 1
-    go true e m ih =
-        let c : how_many f js ≡ how_many g js = many_same f g js (λ x w. r x (off x w (cases_Bool (same_text d x)))) in
-        rw ((p j e).0, (p j e).1) (omega (arith, c))
-      where
-        off : (x : Text) → holds x js ≡ true → (same_text d x ≡ true) ⊎ (same_text d x ≡ false) → same_text d x ≡ false
-        off x w (inl s) = clash (holds x js) w (holds_cong x j js (same_trans x d j (same_back d x s) e) ∙ u.0)
-        off x w (inr s) = s
-    go false e m ih = let c : how_many g js ≡ how_many f js + 1 = ih m in rw (r j e) (omega (arith, c))
-
--- ---- a request's record by its ClOrdID
-
-pub find_cong : (b : Book) (d d' : Text) → same_text d d' ≡ true → find_downstream b d ≡ find_downstream b d'
-unfolding find_downstream
-find_cong b d d' s = first_ext _ _ _ (λ k l. same_right (request_in b k).downstream d d' s)
-
-pub answered_at : (b : Book) (d : Text) (k : ℕ) → find_downstream b d ≡ Some k → answered_in b d ≡ is_answered (request_in b k)
-answered_at b d k h = maybe_some _ k _ _ h
-
-pub answered_none : (b : Book) (d : Text) → find_downstream b d ≡ None → answered_in b d ≡ false
-answered_none b d h = maybe_none _ _ _ h
-
-answered_some : (b : Book) (d : Text) → answered_in b d ≡ true → (k : ℕ) × (find_downstream b d ≡ Some k) × (is_answered (request_in b k) ≡ true)
-unfolding maybe
-answered_some b d e = go (find_downstream b d) refl e
-  where
-    go : (r : Option ℕ) → find_downstream b d ≡ r → maybe false (λ k. is_answered (request_in b k)) r ≡ true → (k : ℕ) × (find_downstream b d ≡ Some k) × (is_answered (request_in b k) ≡ true)
-    go None h a = clash false a refl
-    go (Some k) h a = (k, h, a)
-
-fails_cong : (e : Entry) (d d' : Text) → same_text d d' ≡ true → fails e d ≡ fails e d'
-fails_cong e d d' s =
-    ap (λ (x : Option ℕ). of_kind 7 e.input && (not (maybe false (λ k. is_answered (request_in e.before k)) x) && answered_in e.left d)) (find_cong e.before d d' s)
-    ∙ ap (λ (x : Option ℕ). of_kind 7 e.input && (not (answered_in e.before d') && maybe false (λ k. is_answered (request_in e.left k)) x)) (find_cong e.left d d' s)
-
-pub gateway_cancels : (q : Request) → is_gateway q ≡ true → is_cancel q ≡ true
-unfolding is_gateway is_cancel is_first is_replace
-gateway_cancels q g = let z : q.kind ≡ 3 = eqb-true _ 3 g in rw z
-
--- ---- what holds of the requests, and of one order
-
-pub record Base (image b : Book) (past : List Entry) : Type 0 where
-  -- what is held or was sent has its record, and a cancel's record is held or was sent
-  pub sent_has : (d : Text) → known image d past ≡ true → (k : ℕ) × (find_downstream b d ≡ Some k)
-  pub cancel_sent : (d : Text) (k : ℕ) → find_downstream b d ≡ Some k → is_cancel (request_in b k) ≡ true → known image d past ≡ true
-  -- a failed send's record is answered
-  pub fail_answered : (d : Text) → failed past d ≡ true → (k : ℕ) × (find_downstream b d ≡ Some k) × (is_answered (request_in b k) ≡ true)
-
--- the record is a gateway cancel's of the order
-pub record Own (j : ℕ) (b : Book) (d : Text) : Type 0 where
-  pub at : ℕ
-  pub found : find_downstream b d ≡ Some at
-  pub by_gateway : is_gateway (request_in b at) ≡ true
-  pub of_order : (request_in b at).order ≡ j
-
--- the tries are the image's and the requests that count, but for the image's, less those whose send failed
-abbrev pub TriesOf : (image : Book) (j : ℕ) (past : List Entry) → List Text → ℕ → Type 0
-TriesOf image j past l n = n + (how_many (failed past) l + still_at j past (length (held_at image j))) ≡ length l + still_at j past (order_in image j).gateway.tries
-
-abbrev pub Tries : (image : Book) (j : ℕ) (past : List Entry) → ℕ → Type 0
-Tries image j past = TriesOf image j past (out_at image j past)
-
-pub record At (image : Book) (j : ℕ) (b : Book) (past : List Entry) : Type 0 where
-  -- what is counted is the gateway's, and each once
-  pub own : (d : Text) → holds d (out_at image j past) ≡ true → Own j b d
-  pub one : Distinct (out_at image j past)
-  -- a gateway request that is not answered is counted
-  pub unanswered : has_gateway (order_in b j) ≡ true → (d : Text) (w : Own j b d) → is_answered (request_in b w.at) ≡ false → holds d (out_at image j past) ≡ true
-  pub tries : has_gateway (order_in b j) ≡ true → Tries image j past (order_in b j).gateway.tries
+use Rattle.machine.proofs.Claim.Tries.{is_for_at, begins_at, new_by_at, held_at, out_at, still_at, Distinct, holds_self, holds_one, many_same, many_one, find_cong, answered_at, answered_some, fails_cong, gateway_cancels, Base, Own, TriesOf, Tries, At}
 
 -- ---- one call
 
--- a record after the call: the same request, answered where it was
+-- a record after the call: the same request, answered if it was
 pub record Same (q q' : Request) : Type 0 where
   pub kind : q'.kind ≡ q.kind
   pub order : q'.order ≡ q.order

@@ -2,16 +2,17 @@
 -- `P i c` stands for what is to be shown of a change `c` of the order at index i; each handler shows it, and `walk` finds the handler.
 use Rattle.std.proofs.Common.{ℕ, ◌+◌, ◌≤◌, ◌<◌, arith, ◌≡◌, refl, ap, ◌∙◌, ◌⊎◌, inl, inr, Bool, true, false, not, ◌&&◌, Option, None, Some, [], eqb, length, eq-eqb, ne_eqb}
 use Rattle.std.proofs.lemmas.Bool.{not-true, not-false, and_parts}
-use Rattle.prelude.specs.Below.{first_some}
-use Rattle.prelude.specs.Cases.{if◌then◌otherwise◌, maybe, split_if, clash}
+use Rattle.prelude.specs.Laws.Below.{first_some}
+use Rattle.prelude.specs.Cases.{if◌then◌otherwise◌, maybe}
+use Rattle.prelude.specs.Laws.Cases.{split_if, clash}
 use Rattle.prelude.specs.Texts.{same_text}
 use Rattle.prelude.specs.Totals.{total_of}
 use Rattle.prelude.specs.declared.Text.{Text}
 use Rattle.store.specs.declared.Order.{Order}
 use Rattle.store.specs.Book.{Book, order_in, request_in}
 use Rattle.machine.specs.Messages.{cancel_reject}
-use Rattle.machine.specs.Changes.{Event, unchanged, refusing, adding, alarming}
-use Rattle.machine.specs.Amend.{has, amend_refusal, already_taken}
+use Rattle.machine.specs.Changes.{Event, has, unchanged, refusing, adding, alarming}
+use Rattle.machine.specs.Amend.{amend_refusal, already_taken}
 use Rattle.store.specs.Finds.{find_name, find_downstream, find_clordid}
 use Rattle.machine.specs.Machine.{order_link, findings_of, booked_order, first_request, unused, nothing, unknown_report, change_of, has_room, step_of}
 use Rattle.machine.specs.Claim.{cancels_in}

@@ -3,7 +3,8 @@
 use Rattle.std.proofs.Common.{ℕ, ◌-◌, ◌≤◌, ◌<◌, arith, ◌≡◌, refl, sym, ap, subst, ◌∙◌, ◌⊎◌, inl, inr, ⊎_elim, true, false, not, ◌||◌, eqb, leb, ltb, length, eqb-true, eq-eqb, le-leb, lt-ltb, ltb-true}
 use Rattle.std.proofs.Math.Decide.{ℕ_discrete}
 use Rattle.std.proofs.lemmas.Bool.{and_parts, or_cases, cases_Bool, and_from, or_left, or_right}
-use Rattle.prelude.specs.Cases.{if◌then◌otherwise◌, if_true, if_false, clash}
+use Rattle.prelude.specs.Cases.{if◌then◌otherwise◌}
+use Rattle.prelude.specs.Laws.Cases.{if_true, if_false, clash}
 use Rattle.store.specs.Book.{Book, order_in}
 use Rattle.machine.specs.Orders.{one_more}
 use Rattle.machine.specs.Changes.{Event, refusing}
@@ -11,7 +12,7 @@ use Rattle.machine.specs.Machine.{change_of, has_room, step_of, after, book_afte
 use Rattle.machine.specs.Exchange.{concerns, OfTwoClients}
 use Rattle.machine.specs.declared.Requests.{Requests}
 use Rattle.machine.specs.declared.Change.{Change}
-use Rattle.machine.proofs.Kept.Lift.{BookKept, book_kept}
+use Rattle.machine.proofs.Kept.Indexed.{BookKept, book_kept}
 use Rattle.machine.proofs.Claim.Ruled.{Ruled, ruled}
 use Rattle.machine.proofs.Claim.Records.{longer, added_long, none_kept}
 use Rattle.machine.proofs.Claim.Walk.{refusing_away}

@@ -3,8 +3,10 @@ use Rattle.std.proofs.Common.{ℕ, zero, suc, ◌+◌, ◌-◌, ◌≤◌, ◌<�
 use Rattle.std.proofs.Math.Decide.{ℕ_discrete}
 use Rattle.std.proofs.Math.ListN.{get_or-append}
 use Rattle.std.proofs.Math.Seq.{set-append_left, set_comm, get_or_at}
-use Rattle.prelude.specs.Cases.{if◌then◌otherwise◌, if_true, if_false}
-use Rattle.prelude.specs.Totals.{those, those_append, append_swap}
+use Rattle.prelude.specs.Cases.{if◌then◌otherwise◌}
+use Rattle.prelude.specs.Laws.Cases.{if_true, if_false}
+use Rattle.prelude.specs.Totals.{those}
+use Rattle.prelude.specs.Laws.Totals.{those_append, append_swap}
 use Rattle.store.specs.declared.Order.{Order}
 use Rattle.store.specs.declared.Request.{Request}
 use Rattle.store.specs.Book.{Book, order_in, request_in, answered}
@@ -151,7 +153,7 @@ module _ (b : Book) (i j : ℕ) (c d d' : Change) (w : Owned b i c) (v : Owned b
         ap (λ (os : List Order). get_or os k no_order) (orders_two same) ∙ get_or-set_other (set b.orders i c.order) j k d'.order no_order y
         ∙ get_or-set_other b.orders i k c.order no_order x
 
--- ---- where one of them adds nothing, they leave the same book
+-- ---- if one of them adds nothing, they leave the same book
 
 module _ (b : Book) (i j : ℕ) (n : i ≡ j → ⊥) (c d : Change) (w : Owned b i c) (v : Owned b j d) where
   pub after_comm : (c.requests.added ≡ 0) ⊎ (d.requests.added ≡ 0) → after (after b c) d ≡ after (after b d) c

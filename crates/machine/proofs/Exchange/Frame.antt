@@ -3,8 +3,10 @@ use Rattle.std.proofs.Common.{ℕ, ◌+◌, ◌-◌, ◌≤◌, ◌<◌, arith, 
 use Rattle.std.proofs.Math.Bool.{and-false}
 use Rattle.std.proofs.Math.Decide.{ℕ_discrete}
 use Rattle.std.proofs.lemmas.Bool.{and_parts, or_cases}
-use Rattle.prelude.specs.Below.{first_below, First, first_some, first_hit, first_ext, first_past, count_ext, count_past}
-use Rattle.prelude.specs.Cases.{if◌then◌otherwise◌, clash}
+use Rattle.prelude.specs.Below.{first_below}
+use Rattle.prelude.specs.Laws.Below.{First, first_some, first_hit, first_ext, first_past, count_ext, count_past}
+use Rattle.prelude.specs.Cases.{if◌then◌otherwise◌}
+use Rattle.prelude.specs.Laws.Cases.{clash}
 use Rattle.prelude.specs.Texts.{same_text}
 use Rattle.prelude.specs.declared.Text.{Text}
 use Rattle.store.specs.declared.Order.{Order}
@@ -18,7 +20,8 @@ use Rattle.machine.specs.Machine.{after, latest_cancel}
 use Rattle.machine.specs.Rules.{cancel_rule, current_rule, pending_rule, current_test, pending_test, gateway_range}
 use Rattle.machine.specs.declared.Change.{Change}
 use Rattle.machine.proofs.Kept.Tables.{Linked, linked_at}
-use Rattle.machine.proofs.Kept.Lift.{BookKept, after_case}
+use Rattle.machine.proofs.Kept.Indexed.{BookKept}
+use Rattle.machine.proofs.Kept.Lift.{after_case}
 use Rattle.machine.proofs.Claim.Filled.{orders_set, after_orders}
 use Rattle.machine.proofs.Claim.Records.{there_like, there_other, longer, added_own}
 use Rattle.machine.proofs.Exchange.Links.{Within}

@@ -4,8 +4,9 @@ use Rattle.std.proofs.Common.{ℕ, ◌+◌, ◌-◌, ◌≤◌, ◌<◌, arith, 
 use Rattle.std.proofs.Math.Decide.{ℕ_discrete}
 use Rattle.std.proofs.Math.Logic.{by_cases}
 use Rattle.std.proofs.lemmas.Bool.{and_parts}
-use Rattle.prelude.specs.Below.{first_some}
-use Rattle.prelude.specs.Cases.{if◌then◌otherwise◌, maybe, if_true, if_false, maybe_some, clash}
+use Rattle.prelude.specs.Laws.Below.{first_some}
+use Rattle.prelude.specs.Cases.{if◌then◌otherwise◌, maybe}
+use Rattle.prelude.specs.Laws.Cases.{if_true, if_false, maybe_some, clash}
 use Rattle.prelude.specs.Texts.{same_text}
 use Rattle.prelude.specs.declared.Text.{Text}
 use Rattle.store.specs.declared.Order.{Order}
@@ -22,10 +23,11 @@ use Rattle.machine.specs.Machine.{order_link, order_of, latest_cancel, order_at_
 use Rattle.machine.specs.Exchange.{concerns}
 use Rattle.machine.specs.declared.Findings.{Findings}
 use Rattle.machine.specs.declared.Change.{Change}
-use Rattle.machine.proofs.Made.{findings, Made, Amended, on_report_made, unknown_made, reject_made, failed_made, unsent_made, asked_made, cancel_made, replace_made}
+use Rattle.machine.proofs.Made.{findings, Made, Amended}
+use Rattle.machine.proofs.Walked.{on_report_made, unknown_made, reject_made, failed_made, unsent_made, asked_made, cancel_made, replace_made}
 use Rattle.machine.proofs.Stepped.{AmendedBy}
 use Rattle.machine.proofs.Kept.Tables.{at_link}
-use Rattle.machine.proofs.Kept.Lift.{BookKept}
+use Rattle.machine.proofs.Kept.Indexed.{BookKept}
 use Rattle.machine.proofs.Claim.Laws.{Whose}
 use Rattle.machine.proofs.Claim.Ruled.{Ruled, order_ruled, request_ruled}
 use Rattle.machine.proofs.Claim.Walk.{found_request, found_order}

@@ -1,6 +1,7 @@
 -- What the count of the book's requests does to a change: it is the link of the request that the change adds, and nothing else. Rests on Made.
 use Rattle.std.proofs.Common.{ℕ, ◌≤◌, arith, ◌≡◌, refl, sym, ap, ◌∙◌, ◌⊎◌, inl, inr, Bool, false, eqb}
-use Rattle.prelude.specs.Cases.{if◌then◌otherwise◌, split_if}
+use Rattle.prelude.specs.Cases.{if◌then◌otherwise◌}
+use Rattle.prelude.specs.Laws.Cases.{split_if}
 use Rattle.prelude.specs.declared.Text.{Text}
 use Rattle.store.specs.declared.State.{State}
 use Rattle.store.specs.declared.Pending.{Pending}
@@ -18,7 +19,8 @@ use Rattle.machine.specs.Report.{reported_order}
 use Rattle.machine.specs.declared.Refused.{Refused}
 use Rattle.machine.specs.declared.Output.{Output}
 use Rattle.machine.specs.declared.Change.{Change}
-use Rattle.machine.proofs.Made.{left, findings, Made, Asked, declined, waits, goes, Amended, repeated, turned, unpriced, cancel_sent, replace_sent, Closed, closed_made}
+use Rattle.machine.proofs.Made.{left, findings, Made, Asked, declined, waits, goes, Amended, repeated, turned, unpriced, cancel_sent, replace_sent}
+use Rattle.machine.proofs.Walked.{Closed, closed_made}
 
 -- ---- an order's links
 
@@ -127,7 +129,7 @@ module _ {t m n : ℕ} {c c' : Change} (l : Linked t m n c c') where
   pub same_output : c'.output ≡ c.output
   same_output = linked_field (λ (x : Change). x.output) t m n c c' (λ o. refl) l
 
--- where the link is the same, or nothing is added, they are one
+-- if the link is the same, or nothing is added, they are one
 pub linked_equal : (t m n : ℕ) (c c' : Change) → (m ≡ n) ⊎ (c.requests.added ≡ 0) → Linked t m n c c' → c' ≡ c
 linked_equal t m n c c' z (same r e) = e
 linked_equal t m n c c' (inl z) (cancels a l w e) = e ∙ ap (λ (k : ℕ). with_order (with_cancel k c.order) c) (sym (l ∙ z))

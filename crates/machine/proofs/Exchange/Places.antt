@@ -1,7 +1,7 @@
--- Where both events add a request, the books differ in the places of these two, and in the links that name them. Rests on Whole.
+-- If both events add a request, the books differ in the places of these two, and in the links that name them. Rests on Whole.
 use Rattle.std.proofs.Common.{ℕ, ◌+◌, ◌≤◌, arith, ◌≡◌, sym, ap, subst, ◌∙◌, length, eq-eqb, ne_eqb}
 use Rattle.std.proofs.Math.Decide.{ℕ_discrete}
-use Rattle.prelude.specs.Cases.{if_true, if_false}
+use Rattle.prelude.specs.Laws.Cases.{if_true, if_false}
 use Rattle.store.specs.declared.Order.{Order}
 use Rattle.store.specs.Book.{Book, order_in, request_in}
 use Rattle.machine.specs.Machine.{change_of, after, book_after}
@@ -9,7 +9,7 @@ use Rattle.machine.specs.Exchange.{turned_link, turned_order, Turned, TurnedBook
 use Rattle.machine.specs.declared.Requests.{Requests}
 use Rattle.machine.specs.declared.Change.{Change}
 use Rattle.machine.proofs.Kept.Local.{one_more_lem}
-use Rattle.machine.proofs.Kept.Lift.{BookKept}
+use Rattle.machine.proofs.Kept.Indexed.{BookKept}
 use Rattle.machine.proofs.Claim.Records.{added_long}
 use Rattle.machine.proofs.Exchange.Links.{Within, Linked, same, cancels, replaces, with_cancel, with_request, same_requests}
 use Rattle.machine.proofs.Exchange.Commute.{added_one, added_two}

@@ -1,9 +1,10 @@
--- Wish 12 on the machine: two events that concern orders of different clients may be exchanged. Rests on Both and Commute.
+-- Change request 12 on the machine: two events that concern orders of different clients may be exchanged. Rests on Both and Commute.
 use Rattle.std.proofs.Common.{ℕ, ◌+◌, ◌-◌, ◌≤◌, ◌<◌, arith, ◌≡◌, refl, sym, ap, subst, ◌∙◌, ◌⊎◌, inl, inr, ⊎_elim, eqb, length, eq-eqb, ne_eqb}
 use Rattle.std.proofs.Math.Decide.{ℕ_discrete, dec_lt}
 use Rattle.std.proofs.Math.ListN.{get_or-eq_default}
-use Rattle.prelude.specs.Cases.{if◌then◌otherwise◌, if_true, if_false}
-use Rattle.prelude.specs.Totals.{total_ext}
+use Rattle.prelude.specs.Cases.{if◌then◌otherwise◌}
+use Rattle.prelude.specs.Laws.Cases.{if_true, if_false}
+use Rattle.prelude.specs.Laws.Totals.{total_ext}
 use Rattle.prelude.specs.declared.Terms.{Terms}
 use Rattle.store.specs.declared.Order.{Order}
 use Rattle.store.specs.declared.Request.{Request}
@@ -15,7 +16,7 @@ use Rattle.machine.specs.Machine.{change_of, step_of, after, book_after}
 use Rattle.machine.specs.Exchange.{link_text, SameRecord, SameOrder, open_of, TwoClients, SameBook}
 use Rattle.machine.specs.declared.Change.{Change}
 use Rattle.machine.proofs.Kept.Local.{one_more_lem}
-use Rattle.machine.proofs.Kept.Lift.{BookKept}
+use Rattle.machine.proofs.Kept.Indexed.{BookKept}
 use Rattle.machine.proofs.Claim.Records.{added_long, none_kept}
 use Rattle.machine.proofs.Exchange.Links.{Within, Linked, same, cancels, replaces, with_cancel, with_request, linked_equal, same_place, same_requests, same_output}
 use Rattle.machine.proofs.Exchange.Frame.{links_within}
@@ -246,7 +247,7 @@ two_clients b d e h =
       opens = λ client. ap (λ (z : Book). open_of z client) w.left_one ∙ same_open x y n s client ∙ sym (ap (λ (z : Book). open_of z client) w.left_two);
     }
 
--- ---- where one of them adds nothing
+-- ---- if one of them adds nothing
 
 module _ (b : Book) (i j : ℕ) (c c' d d' : Change) (x : Crossed b i j c c' d d') where
   -- the next link stays, or no request has it

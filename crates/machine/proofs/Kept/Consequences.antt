@@ -1,11 +1,14 @@
--- What the rules of a book give to other proofs. Rests on Lift.
--- `book_kept` of Lift gives each rule at an index, by name; here stand the facts that follow from several rules.
+-- What the rules of a book give to other proofs. Rests on Indexed.
+-- `book_kept` of Indexed gives each rule at an index, by name; here stand the facts that follow from several rules.
 use Rattle.std.proofs.Common.{ℕ, zero, suc, ◌+◌, ◌≤◌, ◌<◌, not-suc-le-zero, eq-or-lt_of_le, le_of_suc-le-suc, arith, ◌≡◌, sym, subst, ◌∙◌, ⊎_elim, Bool, true, false, not, Some, eqb, ltb, length, eqb-true, eq-eqb, ne_eqb, ltb-true}
 use Rattle.std.proofs.Math.Decide.{ℕ_discrete, dec_lt}
 use Rattle.std.proofs.lemmas.Bool.{eqb-false, and_parts, not_from_true, false_from_ne_true}
-use Rattle.prelude.specs.Below.{first_below, first_none, first_hit, count_below, count_le, first_past}
-use Rattle.prelude.specs.Cases.{if◌then◌otherwise◌, split_if, clash}
-use Rattle.prelude.specs.Texts.{same_text, same_self, same_back, same_trans}
+use Rattle.prelude.specs.Below.{first_below, count_below}
+use Rattle.prelude.specs.Laws.Below.{first_none, first_hit, count_le, first_past}
+use Rattle.prelude.specs.Cases.{if◌then◌otherwise◌}
+use Rattle.prelude.specs.Laws.Cases.{split_if, clash}
+use Rattle.prelude.specs.Texts.{same_text}
+use Rattle.prelude.specs.Laws.Texts.{same_self, same_back, same_trans}
 use Rattle.prelude.specs.declared.Text.{Text}
 use Rattle.store.specs.Book.{Book, order_in, request_in}
 use Rattle.text.specs.Numbered.{numbered_text}
@@ -15,8 +18,9 @@ use Rattle.store.specs.Finds.{bears_name, bears_downstream, find_name, find_down
 use Rattle.machine.specs.Ranges.{name_range}
 use Rattle.machine.specs.Rules.{of_order, number_in, name_number, number_rule}
 use Rattle.machine.proofs.Kept.Laws.{or_else}
-use Rattle.machine.proofs.Kept.Local.{InFlight, in_flight, names_kept}
-use Rattle.machine.proofs.Kept.Lift.{BookKept}
+use Rattle.machine.proofs.Kept.Local.{InFlight, in_flight}
+use Rattle.machine.proofs.Kept.OrderSteps.{names_kept}
+use Rattle.machine.proofs.Kept.Indexed.{BookKept}
 use Rattle.machine.proofs.Numbered.{NumberedLaws}
 
 -- the first of those that pass
@@ -33,7 +37,7 @@ count_passed p i (suc j) h t =
     (λ l. let less : count_below p i < count_below p j = count_passed p i j l t in omega arith)
     (eq-or-lt_of_le (le_of_suc-le-suc h))
 
--- the number is 0 just where the test holds
+-- the number is 0 exactly if the test holds
 number_first : (a : Bool) (n : ℕ) → (if a then eqb n 0 otherwise ltb 0 n) ≡ true → a ≡ eqb n 0
 unfolding if◌then◌otherwise◌
 number_first true n e = sym e
@@ -62,7 +66,7 @@ module _ (b : Book) (good : BookKept b) where
   found_name i h = first_at (λ k. bears_name (order_in b i).names.name (order_in b k)) (length b.orders) i h (same_self (order_in b i).names.name)
       (λ k l. names_apart_lem k i (omega arith) h (λ z. omega arith))
 
-  -- a request's downstream ClOrdID is its order's name with its number, and just number 0 is a first request
+  -- a request's downstream ClOrdID is its order's name with its number, and only number 0 is a first request
   pub downstream_at : (j : ℕ) → j < length b.requests
       → same_text (request_in b j).downstream (name_number (order_in b (request_in b j).order).names.name (number_in b.requests j)) ≡ true
   unfolding number_rule

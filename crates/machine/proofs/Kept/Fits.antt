@@ -3,9 +3,10 @@ use Rattle.std.proofs.Common.{ℕ, ◌-◌, ◌^◌, ◌≤◌, ◌<◌, arith, 
 use Rattle.std.proofs.lemmas.Bool.{eqb-false, cases_lt}
 use Rattle.std.proofs.lemmas.List.{get_or_past}
 use Rattle.std.proofs.lemmas.List.Elements.{All-get_or, All-from_get_or, All-set, All-push}
-use Rattle.prelude.specs.Cases.{if◌then◌otherwise◌, split_if}
+use Rattle.prelude.specs.Cases.{if◌then◌otherwise◌}
+use Rattle.prelude.specs.Laws.Cases.{split_if}
 use Rattle.prelude.specs.Texts.{WholeText}
-use Rattle.prelude.specs.Bytes.{bytes_zeros}
+use Rattle.prelude.specs.Laws.Bytes.{bytes_zeros}
 use Rattle.prelude.specs.declared.Text.{Text}
 use Rattle.store.specs.declared.Names.{Names}
 use Rattle.store.specs.declared.Pending.{Pending}
@@ -15,7 +16,7 @@ use Rattle.store.specs.declared.Request.{Request}
 use Rattle.store.specs.Book.{Book, order_in, request_in}
 use Rattle.store.specs.Orders.{no_order, no_pending}
 use Rattle.store.specs.Requests.{no_request}
-use Rattle.text.specs.Words.{no_text}
+use Rattle.text.specs.Stored.{no_text}
 use Rattle.format.specs.Codes.{rejected}
 use Rattle.machine.specs.Orders.{one_more, set_status, kept_order_id, record_venue_order_id, apply_replace, next_sequence, next_exec, with_state, with_pending, with_gateway}
 use Rattle.machine.specs.Changes.{Event, unchanged, refusing, adding, telling, alarming, next_number, next_downstream, next_request, numbered_order}
@@ -28,7 +29,8 @@ use Rattle.machine.specs.declared.Findings.{Findings}
 use Rattle.machine.specs.declared.Refused.{Refused}
 use Rattle.machine.specs.declared.Output.{Output}
 use Rattle.machine.specs.declared.Change.{Change}
-use Rattle.machine.proofs.Made.{left, From, by_report, by_reject, by_failure, Closed, closed_made, declined, waits, goes, repeated, turned, unpriced, cancel_sent, replace_sent}
+use Rattle.machine.proofs.Made.{left, From, by_report, by_reject, by_failure, declined, waits, goes, repeated, turned, unpriced, cancel_sent, replace_sent}
+use Rattle.machine.proofs.Walked.{Closed, closed_made}
 use Rattle.machine.proofs.Stepped.{MadeBy, AskedBy, AmendedBy, Ways, step_made}
 use Rattle.machine.proofs.Numbered.{NumberedLaws}
 

@@ -1,8 +1,10 @@
 -- Laws of tests and of texts that the proofs of the machine share. Rests on prelude and Ranges.
 use Rattle.std.proofs.Common.{ℕ, ◌≤◌, ◌<◌, arith, ◌≡◌, refl, sym, subst, ◌∙◌, Bool, true, false, ◌&&◌, ◌||◌, eqb, leb, ltb, get_or, eqb-true, eq-eqb, leb-true, le-leb}
 use Rattle.std.proofs.lemmas.Bool.{and_parts, and_from}
-use Rattle.prelude.specs.Below.{all_below, all_elim, all_intro}
-use Rattle.prelude.specs.Texts.{is_text, same_text, filled_at, agree_at, same_length}
+use Rattle.prelude.specs.Below.{all_below}
+use Rattle.prelude.specs.Laws.Below.{all_elim, all_intro}
+use Rattle.prelude.specs.Texts.{is_text, same_text, filled_at, agree_at}
+use Rattle.prelude.specs.Laws.Texts.{same_length}
 use Rattle.prelude.specs.declared.Text.{Text}
 use Rattle.format.specs.Codes.{within, is_name}
 use Rattle.machine.specs.Ranges.{text_within, name_range}

@@ -1,18 +1,21 @@
 -- Each event taken on any book that keeps its rules leaves a book that keeps them. Rests on Lift and Stepped.
 use Rattle.std.proofs.Common.{ℕ, zero, suc, ◌+◌, ◌-◌, ◌≤◌, ◌<◌, arith, ◌≡◌, refl, sym, ap, subst, ◌∙◌, inl, inr, Bool, true, false, not, ◌&&◌, Option, None, Some, List, [], ◌∷◌, ◌++◌, eqb, ltb, length, eqb-true, eq-eqb, ne_eqb, le-leb, lt-ltb}
 use Rattle.std.proofs.lemmas.Bool.{eqb-false, not-true, not-false, and_parts, and_from, not_from_false, false_from_ne_true}
-use Rattle.prelude.specs.Below.{all_below, first_below, first_elim, First, first_some, count_below, count_le, count_ext}
-use Rattle.prelude.specs.Cases.{if◌then◌otherwise◌, maybe, split_if, if_false, clash}
-use Rattle.prelude.specs.Texts.{is_text, same_text, same_self, same_back, same_length}
+use Rattle.prelude.specs.Below.{all_below, first_below, count_below}
+use Rattle.prelude.specs.Laws.Below.{first_elim, First, first_some, count_le, count_ext}
+use Rattle.prelude.specs.Cases.{if◌then◌otherwise◌, maybe}
+use Rattle.prelude.specs.Laws.Cases.{split_if, if_false, clash}
+use Rattle.prelude.specs.Texts.{is_text, same_text}
+use Rattle.prelude.specs.Laws.Texts.{same_self, same_back, same_length}
 use Rattle.prelude.specs.declared.Text.{Text}
 use Rattle.store.specs.declared.Order.{Order}
 use Rattle.store.specs.declared.Request.{Request}
 use Rattle.store.specs.Book.{Book, order_in, request_in}
 use Rattle.store.specs.Orders.{no_order}
 use Rattle.machine.specs.Orders.{is_empty, is_done}
-use Rattle.machine.specs.Changes.{Event, unchanged, refusing, adding, alarming, is_first, is_replace, is_gateway, is_cancel, is_answered}
+use Rattle.machine.specs.Changes.{Event, has, unchanged, refusing, adding, alarming, is_first, is_replace, is_gateway, is_cancel, is_answered}
 use Rattle.machine.specs.GatewayCancel.{gateway_cancel_in_flight}
-use Rattle.machine.specs.Amend.{has, amend_refusal, already_taken, cancel_refusal, priced_right}
+use Rattle.machine.specs.Amend.{amend_refusal, already_taken, cancel_refusal, priced_right}
 use Rattle.store.specs.Finds.{bears_name, bears_clordid, bears_downstream, has_clordid, of_client, find_name, find_downstream, find_clordid}
 use Rattle.machine.specs.Machine.{order_link, order_of, latest_cancel, order_at_link, findings_of, booked_order, first_request, unused, change_of, has_room, step_of, answer_link, orders_after, requests_after, after, book_after}
 use Rattle.format.specs.Codes.{is_status, statuses}
@@ -25,14 +28,19 @@ use Rattle.machine.specs.declared.Findings.{Findings}
 use Rattle.machine.specs.declared.Reject.{Reject}
 use Rattle.machine.specs.declared.Output.{Output}
 use Rattle.machine.specs.declared.Change.{Change}
-use Rattle.machine.proofs.Made.{Came, left, repeated, turned, unpriced, cancel_sent, replace_sent}
+use Rattle.machine.proofs.Walked.{Came}
+use Rattle.machine.proofs.Made.{left, repeated, turned, unpriced, cancel_sent, replace_sent}
 use Rattle.machine.proofs.Stepped.{AmendedBy, Ways, change_made}
 use Rattle.machine.proofs.Outcomes.Set.{change_sets}
 use Rattle.machine.proofs.Kept.Laws.{and_tail, text_kept, name_within, same_within}
 use Rattle.machine.proofs.Kept.Tables.{at, linked_new, owned, owned_own, at_amendments, origin_none}
-use Rattle.machine.proofs.Kept.Local.{OrderKept, settled_flight, gateway_none, flight_more, kept_names, kept_terms, names_kept}
-use Rattle.machine.proofs.Kept.Keep.{Added, Kept, Named, Here, Asked, no_text_lem, priced_range_lem, quiet_idle, own_still, made_kept, asked_kept, status_kept, cancel_goes_lem, replace_goes_lem}
-use Rattle.machine.proofs.Kept.Lift.{range_kept, RequestKept, BookKept, book_kept, kept_book, Outcome, lift}
+use Rattle.machine.proofs.Kept.Local.{OrderKept, settled_flight, flight_more}
+use Rattle.machine.proofs.Kept.OrderSteps.{gateway_none, kept_names, kept_terms, names_kept}
+use Rattle.machine.proofs.Kept.Keep.{Added, Kept, Named, Here, own_still}
+use Rattle.machine.proofs.Kept.Refused.{Asked, no_text_lem, made_kept}
+use Rattle.machine.proofs.Kept.Asked.{priced_range_lem, quiet_idle, asked_kept, status_kept, cancel_goes_lem, replace_goes_lem}
+use Rattle.machine.proofs.Kept.Indexed.{range_kept, RequestKept, BookKept, book_kept, kept_book}
+use Rattle.machine.proofs.Kept.Lift.{Outcome, lift}
 use Rattle.machine.proofs.Numbered.{NumberedLaws, numbered_laws}
 
 -- ---- start
@@ -43,11 +51,11 @@ start_keeps setting = refl
 
 -- ---- a change that may be taken
 
--- the rules hold where it is taken
+-- the rules hold if the change is taken
 abbrev Keeps : Book → Change → Type 0
 Keeps b c = eqb c.refusal 0 ≡ true → has_room b c ≡ true → Outcome c → rules (after b c) ≡ true
 
--- the same, room or not
+-- the same, whether there is room or not
 abbrev Taken : Book → Change → Type 0
 Taken b c = eqb c.refusal 0 ≡ true → rules (after b c) ≡ true
 
@@ -108,7 +116,7 @@ replace_client q e = ne_eqb q.kind 3 (λ z. let k : q.kind ≡ 2 = eqb-true q.ki
 
 -- ---- events 2 and 3: the client's ClOrdIDs
 
--- a request of the client's is one whose order is
+-- a request is the client's if its order is
 of_client_lem : (b : Book) (client j : ℕ) → (request_in b j).order < length b.orders → client_of b j ≡ client → of_client b.orders client (request_in b j) ≡ true
 unfolding of_client
 of_client_lem b client j h e = and_from _ _ (lt-ltb (request_in b j).order (length b.orders) h) (eq-eqb (client_of b j) client e)
@@ -132,7 +140,7 @@ never_used b client t e = go (first_below (λ k. bears_clordid b.orders client t
     go None z e j h = first_elim (λ k. bears_clordid b.orders client t (request_in b k)) (length b.requests) z j h
     go (Some k) z e j h = let n : (request_in b k).order + 1 ≡ 0 = eqb-true ((request_in b k).order + 1) 0 (unfold maybe in e) in absurd (omega arith)
 
--- so it is new to the client
+-- so the ClOrdID is new to the client
 fresh_key : (b : Book) (client : ℕ) (t : Text) → text_within 1 32 t ≡ true → eqb (order_of b client t) 0 ≡ true
     → (j : ℕ) → j < length b.requests → (request_in b j).order < length b.orders → eqb client (client_of b j) && same_text t (request_in b j).clordid ≡ false
 fresh_key b client t w e j h booked = false_from_ne_true _ (λ z.
@@ -298,7 +306,7 @@ outcome_fits e c (inr z) = let (l, m) = by_fits e in inr (omega arith, omega ari
 -- ---- every event
 
 module _ (laws : NumberedLaws) (b : Book) (e : Event) (ranged : Ranged e) (k : rules b ≡ true) where
-  -- room or not: the last refusal is for want of it
+  -- whether there is room or not: the last refusal is for want of it
   ways : Ways (Keeps b) b e
   unfolding find_downstream find_clordid find_name
   ways =

@@ -4,8 +4,9 @@ use Rattle.std.proofs.Math.Decide.{ℕ_discrete}
 use Rattle.std.proofs.Math.ListN.{get_or-append}
 use Rattle.std.proofs.Math.Seq.{get_or-append_seam}
 use Rattle.std.proofs.lemmas.Bool.{eqb-false, and_parts, and_from, or_left, or_right, not_from_false, not_from_true}
-use Rattle.prelude.specs.Below.{all_below, all_ext, all_miss, count_below, count_hit, count_pass, count_ext}
-use Rattle.prelude.specs.Cases.{split_if, if_false}
+use Rattle.prelude.specs.Below.{all_below, count_below}
+use Rattle.prelude.specs.Laws.Below.{all_ext, all_miss, count_hit, count_pass, count_ext}
+use Rattle.prelude.specs.Laws.Cases.{split_if, if_false}
 use Rattle.prelude.specs.Texts.{same_text}
 use Rattle.prelude.specs.declared.Text.{Text}
 use Rattle.store.specs.declared.Request.{Request}

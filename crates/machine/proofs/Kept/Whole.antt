@@ -2,7 +2,7 @@
 use Rattle.std.proofs.Common.{ℕ, ◌^◌, ◌≤◌, ◌<◌, not-suc-le-zero, arith, ◌≡◌, refl, sym, subst, ⊎_elim, Bool, true, false, not, ◌&&◌, ◌||◌, List, eqb, leb, length, eqb-true, leb-true}
 use Rattle.std.proofs.lemmas.Bool.{not-true, and_parts, or_cases}
 use Rattle.std.proofs.lemmas.Bool.Decides.{nat_tests}
-use Rattle.prelude.specs.Cases.{split_if}
+use Rattle.prelude.specs.Laws.Cases.{split_if}
 use Rattle.store.specs.declared.Pending.{Pending}
 use Rattle.store.specs.declared.GatewayCancel.{GatewayCancel}
 use Rattle.store.specs.declared.Order.{Order}
@@ -17,9 +17,10 @@ use Rattle.machine.specs.Rules.{force_range, priced_range, pending_range, gatewa
 use Rattle.machine.specs.Whole.{WholeBook, WholeStart, WholeKept}
 use Rattle.machine.proofs.Kept.Laws.{name_short}
 use Rattle.machine.proofs.Kept.Tables.{linked_at}
-use Rattle.machine.proofs.Kept.Local.{OrderKept, names_kept, TermsKept, terms_kept}
+use Rattle.machine.proofs.Kept.Local.{OrderKept}
+use Rattle.machine.proofs.Kept.OrderSteps.{names_kept, TermsKept, terms_kept}
 use Rattle.machine.proofs.Kept.Keep.{current_link, tries_at}
-use Rattle.machine.proofs.Kept.Lift.{RangeKept, range_kept, RequestKept, BookKept, book_kept, outcome_kept}
+use Rattle.machine.proofs.Kept.Indexed.{RangeKept, range_kept, RequestKept, BookKept, book_kept, outcome_kept}
 use Rattle.machine.proofs.Kept.Steps.{step_keeps}
 use Rattle.machine.proofs.Kept.Fits.{NamesFit, OrderFits, RequestFits, BookFits, orders_past, requests_past, fits_kept}
 use Rattle.machine.proofs.Numbered.{numbered_laws}

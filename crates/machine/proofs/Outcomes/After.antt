@@ -2,7 +2,8 @@
 use Rattle.std.proofs.Common.{ℕ, ◌≤◌, ◌<◌, arith, ◌≡◌, refl, sym, ap, ◌∙◌, ◌⊎◌, inl, inr, ⊎_elim, false, not, List, eqb, length}
 use Rattle.std.proofs.Math.Decide.{dec_lt}
 use Rattle.std.proofs.lemmas.List.{get_or_past}
-use Rattle.prelude.specs.Cases.{if◌then◌otherwise◌, split_if, if_true, if_false}
+use Rattle.prelude.specs.Cases.{if◌then◌otherwise◌}
+use Rattle.prelude.specs.Laws.Cases.{split_if, if_true, if_false}
 use Rattle.store.specs.declared.Request.{Request}
 use Rattle.store.specs.Book.{Book, request_in, answered}
 use Rattle.store.specs.Requests.{no_request}
@@ -13,7 +14,8 @@ use Rattle.machine.specs.declared.Change.{Change}
 use Rattle.machine.proofs.Outcomes.Set.{Sets, step_sets}
 use Rattle.machine.proofs.Kept.Laws.{decide}
 use Rattle.machine.proofs.Kept.Tables.{at}
-use Rattle.machine.proofs.Kept.Lift.{outcome_kept, BookKept, book_kept, Settled, after_case, NewAt, after_new}
+use Rattle.machine.proofs.Kept.Indexed.{outcome_kept, BookKept, book_kept}
+use Rattle.machine.proofs.Kept.Lift.{Settled, after_case, NewAt, after_new}
 
 -- as outcome_after has it, by the request before and after
 abbrev becomes : Event → (q r : Request) → ℕ

@@ -10,7 +10,8 @@ use Rattle.machine.specs.Machine.{first_request, change_of, step_of}
 use Rattle.machine.specs.Outcomes.{OutcomeSet}
 use Rattle.machine.specs.declared.Findings.{Findings}
 use Rattle.machine.specs.declared.Change.{Change}
-use Rattle.machine.proofs.Made.{Came, Closed, closed_made, declined, waits, goes, repeated, turned, unpriced, cancel_sent, replace_sent}
+use Rattle.machine.proofs.Walked.{Came, Closed, closed_made}
+use Rattle.machine.proofs.Made.{declined, waits, goes, repeated, turned, unpriced, cancel_sent, replace_sent}
 use Rattle.machine.proofs.Stepped.{MadeBy, AskedBy, AmendedBy, Ways, change_made, step_made}
 
 pub record Sets (e : Event) (c : Change) : Type 0 where

@@ -1,6 +1,7 @@
 -- An event raises no alarm, one alone, or 6 and then 1: on every book, whatever it holds. Rests on Stepped.
 use Rattle.std.proofs.Common.{ℕ, ◌≤◌, arith, ◌≡◌, refl, ◌⊎◌, inl, inr, Bool}
-use Rattle.prelude.specs.Cases.{if◌then◌otherwise◌, split_if}
+use Rattle.prelude.specs.Cases.{if◌then◌otherwise◌}
+use Rattle.prelude.specs.Laws.Cases.{split_if}
 use Rattle.store.specs.declared.Order.{Order}
 use Rattle.store.specs.declared.Request.{Request}
 use Rattle.store.specs.Book.{Book}

@@ -1,45 +1,43 @@
--- The messages of each change are right: one law for a function of the handling. Rests on Orders, Reads and Stepped.
-use Rattle.std.proofs.Common.{ℕ, ◌+◌, ◌-◌, ◌^◌, ◌≤◌, ◌<◌, arith, mod-lt, ◌≡◌, refl, sym, ap, subst, ◌∙◌, ⊎_elim, Bool, true, false, not, ◌&&◌, eqb, leb, lit<, eqb-true, ne_eqb, leb-true, le-leb, lt-ltb}
+-- The messages of each change are right, of venues' events and of the gateway's own cancels: one law for a function of the handling. Rests on Orders, Reads and Stepped.
+-- Those of a client's cancel or replace are in Amendments.
+use Rattle.std.proofs.Common.{ℕ, ◌-◌, ◌^◌, ◌≤◌, ◌<◌, arith, mod-lt, ◌≡◌, refl, sym, ap, subst, ◌∙◌, ⊎_elim, Bool, true, false, not, ◌&&◌, eqb, lit<, eqb-true, ne_eqb, le-leb}
 use Rattle.std.proofs.Math.Bool.{and-false, not-and_self}
-use Rattle.std.proofs.lemmas.Bool.{eqb-false, not-true, not-false, and_parts, or_cases, and_from}
-use Rattle.prelude.specs.Cases.{if◌then◌otherwise◌, split_if, clash}
+use Rattle.std.proofs.lemmas.Bool.{eqb-false, not-true, and_parts, or_cases, and_from}
+use Rattle.prelude.specs.Cases.{if◌then◌otherwise◌}
+use Rattle.prelude.specs.Laws.Cases.{split_if, clash}
 use Rattle.prelude.specs.declared.Text.{Text}
-use Rattle.wide.specs.Words.{upper_word}
-use Rattle.wide.specs.Price.{price_fits, source_range}
-use Rattle.format.specs.Codes.{is_status, statuses, is_exectype, exectypes, is_ordtype, is_name, within, is_price, rejected, exec_status, exec_rejected}
+use Rattle.wide.specs.Laws.Words.{upper_word}
+use Rattle.wide.specs.Laws.Price.{price_fits, source_range}
+use Rattle.format.specs.Codes.{is_status, statuses, is_exectype, exectypes, within, rejected, exec_rejected}
 use Rattle.records.specs.Record.{is_message}
 use Rattle.store.specs.declared.Pending.{Pending}
 use Rattle.store.specs.declared.Order.{Order}
 use Rattle.store.specs.declared.Request.{Request}
-use Rattle.store.specs.Orders.{no_order, no_pending}
-use Rattle.text.specs.Words.{no_text}
+use Rattle.store.specs.Orders.{no_pending}
+use Rattle.text.specs.Stored.{no_text}
 use Rattle.machine.specs.Constants.{text_rejected, other, venues}
-use Rattle.machine.specs.Orders.{is_empty, set_status, record_venue_order_id, pending_terms, next_exec, with_pending}
+use Rattle.machine.specs.Orders.{set_status, record_venue_order_id, pending_terms, next_exec, with_pending}
 use Rattle.machine.specs.Messages.{no_price, no_note}
-use Rattle.machine.specs.Changes.{Event, Message, unchanged, refusing, adding, telling, alarming, is_first, is_replace, is_gateway, is_cancel, next_downstream, numbered_order}
+use Rattle.machine.specs.Changes.{Event, has, Message, unchanged, refusing, adding, telling, alarming, is_first, is_replace, is_gateway, is_cancel, next_downstream}
 use Rattle.machine.specs.GatewayCancel.{begun, send_gateway_cancel}
-use Rattle.machine.specs.Amend.{has, passes, refusal, amend_refusal, cancel_refusal, cancel_goes, or_own, verdict_text, check_replace, replace_refusal, new_terms, priced_right, new_pending, replace_goes, not_pending, refused_order, refused_alarm, refused_note, venue_note}
+use Rattle.machine.specs.Amend.{not_pending, refused_order, refused_alarm, refused_note, venue_note}
 use Rattle.machine.specs.Report.{is_rejection, pending_here, status_taken, accepts, answers_request, reported_order, fill_price_of, report_note, client_report}
-use Rattle.machine.specs.Events.{Ranged}
-use Rattle.machine.specs.Rules.{force_range, priced_range, terms_range}
+use Rattle.machine.specs.Rules.{terms_range}
 use Rattle.machine.specs.declared.Note.{Note}
-use Rattle.machine.specs.declared.Reject.{Reject}
 use Rattle.machine.specs.declared.Refused.{Refused}
 use Rattle.machine.specs.declared.Output.{Output}
 use Rattle.machine.specs.declared.Change.{Change}
-use Rattle.machine.proofs.Made.{calm, says, stuck_behind, left, Failure, told_us, not_sent, From, by_report, by_reject, by_failure, Refuses, still, gone, given_up_lem, told, Fails, unfailed, refused, freed, fell, ended, new_again, cancel_again, replace_again, failing, Left, fails, resends, alarms, names, applies, informs, quietly, retries, stays, refusing!, resumes, declined, waits, goes, Own, of_cancel, of_replace, status_told, refusal_told, repeated, turned, unpriced, cancel_sent, replace_sent}
-use Rattle.machine.proofs.Stepped.{MadeBy, AskedBy, AmendedBy}
-use Rattle.machine.proofs.Claim.Walk.{none_taken, none_refused}
+use Rattle.machine.proofs.Made.{calm, says, stuck_behind, left, Failure, told_us, not_sent, From, by_report, by_reject, by_failure, Refuses, still, gone, given_up_lem, told, Fails, unfailed, refused, freed, fell, ended, new_again, cancel_again, replace_again, failing, Left, fails, resends, alarms, names, applies, informs, quietly, retries, stays, refusing!, resumes, declined, waits, goes}
+use Rattle.machine.proofs.Stepped.{MadeBy, AskedBy}
 use Rattle.machine.proofs.Kept.Laws.{TextKept, text_kept, kept_text}
-use Rattle.machine.proofs.Kept.Local.{TermsKept, terms_kept, kept_terms}
-use Rattle.machine.proofs.Kept.Keep.{priced_range_lem, freed_coded}
+use Rattle.machine.proofs.Kept.Refused.{freed_coded}
 use Rattle.machine.proofs.Kept.Steps.{replace_client}
 use Rattle.machine.proofs.Said.Reads.{right_ranged, right_exectype}
 use Rattle.machine.proofs.Said.Rows.{Fine}
-use Rattle.machine.proofs.Said.Messages.{Words, Noted, no_right_text, no_fine, no_long_text_lem, report_right, reject_right, new_right, cancel_right, replace_right, named_text, named_is, Tellable}
+use Rattle.machine.proofs.Said.Messages.{Words, Noted, no_fine, no_long_text_lem, report_right, reject_right, new_right, cancel_right, replace_right, named_text, named_is, Tellable}
 use Rattle.machine.proofs.Said.Orders.{Asks, next_fine, sequence_tellable, state_tellable, status_tellable, named_tellable, pending_tellable, gateway_tellable, numbered_tellable, replaced_tellable}
 use Rattle.machine.specs.declared.Findings.{Findings}
-use Rattle.records.specs.Laws.Right.{RightText, Right}
+use Rattle.records.specs.Laws.Right.{Right}
 use Rattle.records.specs.Laws.Ranges.{Ranges, ranges}
 
 -- ---- the messages of a change
@@ -65,7 +63,7 @@ pub adding_says : (q : Request) (c : Change) → Says c → Says (adding q c)
 unfolding adding
 adding_says q c s = record { first = s.first; second = s.second }
 
-telling_says : (m : Message) (c : Change) → is_message m ≡ true → Says c → Says (telling m c)
+pub telling_says : (m : Message) (c : Change) → is_message m ≡ true → Says c → Says (telling m c)
 unfolding telling if◌then◌otherwise◌
 telling_says m c r s = record {
   first = λ z. split_if (λ (x : Message). is_message x ≡ true) (eqb c.output.count 0) (λ e. r) (λ e. s.first e);
@@ -77,9 +75,9 @@ telling_says m c r s = record {
     behind false y = r
 
 -- what is put out: at most one message, and it is right
-record Heard (out : Output) : Type 0 where
-  few : out.count ≤ 1
-  first : eqb out.count 0 ≡ false → is_message out.first ≡ true
+pub record Heard (out : Output) : Type 0 where
+  pub few : out.count ≤ 1
+  pub first : eqb out.count 0 ≡ false → is_message out.first ≡ true
 
 calm_heard : (a : ℕ) → Heard (calm a)
 calm_heard a = record { few = omega arith; first = λ z. clash true refl z }
@@ -87,10 +85,10 @@ calm_heard a = record { few = omega arith; first = λ z. clash true refl z }
 behind_heard : (a : ℕ) → Heard (stuck_behind a)
 behind_heard a = record { few = omega arith; first = λ z. clash true refl z }
 
-says_heard : {m : Message} {a : ℕ} → is_message m ≡ true → Heard (says m a)
+pub says_heard : {m : Message} {a : ℕ} → is_message m ≡ true → Heard (says m a)
 says_heard r = record { few = omega arith; first = λ z. r }
 
-left_says : {p : ℕ} {y : Order} {j s v : ℕ} {out : Output} → Heard out → Says (left p y j s v out)
+pub left_says : {p : ℕ} {y : Order} {j s v : ℕ} {out : Output} → Heard out → Says (left p y j s v out)
 left_says {out = out} h = record {
   first = h.first;
   second = λ z u. let l : out.count ≤ 1 = h.few in let a : (out.count ≡ 0 → ⊥) = eqb-false out.count 0 z in let b : (out.count ≡ 1 → ⊥) = eqb-false out.count 1 u in absurd (omega arith);
@@ -105,7 +103,7 @@ send_says f p y j s v {out} t h =
 
 -- ---- notes
 
-no_noted : Noted no_note
+pub no_noted : Noted no_note
 no_noted = record { text = no_long_text_lem; fixedtext = omega arith; reason = omega arith; origin = omega arith; unsaid = λ z. refl; one = refl }
 
 -- what the event says, with no fixed text
@@ -192,7 +190,7 @@ client_kind q h f g =
 -- ---- a report
 
 -- a range that begins lower
-wider : (t : Text) → Fine 1 32 t → Fine 0 32 t
+pub wider : (t : Text) → Fine 1 32 t → Fine 0 32 t
 wider t f =
     let k : TextKept 1 32 t = text_kept 1 32 t f.range in
     record { long = f.long; range = kept_text 0 32 t (record { stored = k.stored; above = omega arith; below = k.below }) }
@@ -331,126 +329,3 @@ pub asked_says : {f : Findings} {o : Order} → Tellable o → (c c' : Change) �
 asked_says t c c' (declined z) = left_says (calm_heard 0)
 asked_says t c c' (waits d g) = left_says (calm_heard 0)
 asked_says {f} {o} t c c' (goes d g) = send_says _ _ _ _ _ _ (gateway_tellable (begun o) o t) (calm_heard 0)
-
--- ---- a client's cancel or replace
-
--- a refusal of ours that is told
-record Turns (r : Reject) : Type 0 where
-  reason : r.reason < 2 ^ 32
-  fixedtext : r.fixedtext ≤ 18
-
--- one of known numbers, or else the next
-or_known : (t : Bool) (r : Reject) {s : Reject} → leb r.reason 99 && leb r.fixedtext 18 ≡ true → Turns s → Turns (if t then r otherwise s)
-or_known t r e k =
-    let (a, c) = and_parts (leb r.reason 99) (leb r.fixedtext 18) e in
-    split_if Turns t (λ z. record { reason = omega (arith, leb-true r.reason 99 a); fixedtext = leb-true r.fixedtext 18 c }) (λ z. k)
-
-no_refusal : Turns passes
-no_refusal = record { reason = omega arith; fixedtext = omega arith }
-
-amend_refuses : (f : Findings) (order : ℕ) (full : Bool) (o : Order) (e : Event) (own : Reject) → Turns own → Turns (amend_refusal f order full o e own)
-unfolding amend_refusal
-amend_refuses f order full o e own r = or_known _ _ refl (or_known _ _ refl (or_known _ _ refl (or_known _ _ refl (or_known _ _ refl r))))
-
-cancel_refuses : (f : Findings) (o : Order) → Turns (cancel_refusal f o)
-unfolding cancel_refusal
-cancel_refuses f o = or_known _ _ refl no_refusal
-
--- the verdicts 1 to 7 are the texts 12 to 18
-verdict_text_lem : (v : ℕ) → v ≤ 7 → verdict_text v ≡ 11 + v
-unfolding verdict_text if◌then◌otherwise◌
-verdict_text_lem v h = rw (lt-ltb v 244 (omega arith))
-
-replace_refuses : (f : Findings) (o : Order) (e : Event) → e.verdict ≤ 7 → Turns (replace_refusal f o e)
-unfolding replace_refusal check_replace
-replace_refuses f o e v =
-    let verdict : Turns (refusal other (verdict_text e.verdict)) = record { reason = omega arith; fixedtext = rw (verdict_text_lem e.verdict v) (omega arith) } in
-    or_known _ _ refl (or_known _ _ refl (or_known _ _ refl (or_known _ _ refl (or_known _ _ refl (or_known _ _ refl verdict)))))
-
--- the order is the book's, or there is none
-pub data Seen (place : ℕ) (o : Order) : Type 0 where
-  no_order_seen : place ≡ 0 → o ≡ no_order → Seen place o
-  some_order : Tellable o → Seen place o
-
-module _ (f : Findings) (order : ℕ) (full : Bool) (o : Order) (e : Event) (h : Right e) (clordid : Fine 1 32 e.ids.clordid) (origclordid : Fine 1 32 e.ids.origclordid) where
-  own_refuses : {kind : ℕ} {own : Reject} → Own order full o e f.place f.cancel f.requests f.requests kind own → (within 1 2 kind ≡ true) × Turns own
-  own_refuses of_cancel = (refl, cancel_refuses f o)
-  own_refuses of_replace = (refl, replace_refuses f o e (ranges e h).verdict)
-
-  -- what a refusal says of the order
-  record Named : Type 0 where
-    name : RightText o.names.name
-    named : is_empty o.names.name ≡ false → is_name o.names.name ≡ true
-    status : is_status (if eqb f.place 0 then rejected otherwise o.state.status) ≡ true
-
-  seen_named : Seen f.place o → Named
-  seen_named (some_order t) = record {
-    name = named_text o.names.name t.names.name;
-    named = λ z. named_is o.names.name t.names.name;
-    status = split_if (λ (s : ℕ). is_status s ≡ true) _ (λ z. unfold is_status statuses in refl) (λ z. t.state.status);
-  }
-  seen_named (no_order_seen p s) = record {
-    name = subst (λ (x : Order). RightText x.names.name) (sym s) no_right_text;
-    named = subst (λ (x : Order). is_empty x.names.name ≡ false → is_name x.names.name ≡ true) (sym s) (λ z. clash true refl z);
-    status = ap (λ (x : ℕ). is_status (if eqb x 0 then rejected otherwise o.state.status)) p ∙ (unfold is_status statuses if◌then◌otherwise◌ in refl);
-  }
-
-  refuse_heard : {kind : ℕ} {own : Reject} → Own order full o e f.place f.cancel f.requests f.requests kind own → Named
-      → not (eqb (amend_refusal f order full o e own).fixedtext 0) ≡ true → is_message (refusal_told f.place kind o e (amend_refusal f order full o e own)) ≡ true
-  refuse_heard {kind} {own} w n some =
-      let (x, y) = own_refuses w in
-      let k : Turns (amend_refusal f order full o e own) = amend_refuses f order full o e own y in
-      reject_right e.client o.names.name _ e.ids.clordid e.ids.origclordid kind _ (ranges e h).client n.name n.named n.status clordid origclordid x
-      (record { text = no_long_text_lem; fixedtext = k.fixedtext; reason = k.reason; origin = omega arith; unsaid = λ z. absurd (omega arith); one = refl })
-      (sym (ap not some)) refl
-
-  module _ (t : Tellable o) where
-    status_heard : is_message (status_told o e) ≡ true
-    status_heard =
-        report_right (next_exec o) e.ids.clordid e.ids.origclordid exec_status 0 no_price no_note (sequence_tellable o t) clordid (wider _ origclordid)
-        (unfold is_exectype exectypes in refl) refl (record { two = refl; low = omega arith; high = omega arith }) (omega arith) no_noted
-
-    cancel_goes_lem : Says (cancel_goes f o e)
-    unfolding cancel_goes
-    cancel_goes_lem = telling_says _ _ (cancel_right _ (numbered_tellable f true o t) (next_downstream o) (next_fine o t)) (adding_says _ _ (unchanged_says _ _))
-
-    replace_goes_lem : priced_right (or_own e.terms.ordtype o.terms.ordtype) e ≡ true → Says (replace_goes f o e)
-    unfolding replace_goes
-    replace_goes_lem priced =
-        telling_says _ _ (replace_right _ p (next_downstream o) (next_fine o t) (new_terms o e) terms) (adding_says _ _ (unchanged_says _ _))
-      where
-        own : TermsKept o.terms
-        own = terms_kept o.terms t.terms
-
-        ranged : Ranged e
-        ranged = right_ranged e h
-
-        listed : is_ordtype (or_own e.terms.ordtype o.terms.ordtype) ≡ true
-        listed = unfold or_own in
-            split_if (λ (n : ℕ). is_ordtype n ≡ true) _
-            (λ z. unfold priced_range in (and_parts (is_ordtype o.terms.ordtype) (is_price o.terms.price) (and_parts (is_ordtype o.terms.ordtype && is_price o.terms.price) _ own.priced).0).0)
-            (λ z. ranged.ordtype z)
-
-        terms : terms_range (new_terms o e) ≡ true
-        terms = unfold new_terms or_own in kept_terms _ (record {
-          side = own.side;
-          priced = priced_range_lem _ e ranged (unfold or_own in listed) (unfold or_own in priced);
-          timeinforce = split_if (λ (n : ℕ). force_range n ≡ true) _ (λ z. own.timeinforce) (λ z. ranged.timeinforce);
-          qty = ranged.qty;
-        })
-
-        p : Tellable (with_pending (new_pending f (new_terms o e)) (numbered_order f false o))
-        p = pending_tellable (new_pending f (new_terms o e)) (numbered_order f false o) (λ z. unfold new_pending pending_terms numbered_order new_terms in terms) (numbered_tellable f false o t)
-
-  -- nothing goes out where there is no order
-  pub amended_says : Seen f.place o → (c c' : Change) → AmendedBy f order full o e c c' → Says c
-  amended_says (some_order t) c c' (repeated z) = left_says (says_heard (status_heard t))
-  amended_says (no_order_seen p s) c c' (repeated z) = clash _ z (none_taken f order e p)
-  amended_says (some_order t) c c' (turned w z) = left_says (says_heard (refuse_heard w (seen_named (some_order t)) z))
-  amended_says (no_order_seen p s) c c' (turned w z) = left_says (says_heard (refuse_heard w (seen_named (no_order_seen p s)) z))
-  amended_says (some_order t) c c' (unpriced z) = refusing_says 6
-  amended_says (no_order_seen p s) c c' (unpriced z) = refusing_says 6
-  amended_says (some_order t) c c' (cancel_sent y z) = cancel_goes_lem t
-  amended_says (no_order_seen p s) c c' (cancel_sent y z) = clash _ (not-false _ z) (none_refused f order full o e _ p)
-  amended_says (some_order t) c c' (replace_sent z y) = replace_goes_lem t y
-  amended_says (no_order_seen p s) c c' (replace_sent z y) = clash _ (not-false _ z) (none_refused f order full o e _ p)

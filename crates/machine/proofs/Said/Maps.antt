@@ -2,8 +2,10 @@
 -- A map is a sum of powers of two, some of them behind tests. The tests are taken as variables, so that each of their combinations is a number to compute with.
 use Rattle.std.proofs.Common.{ℕ, ◌+◌, ◌^◌, ◌<◌, ◌≡◌, refl, Bool, true, false, not, ◌&&◌, ◌||◌, List, [], ◌∷◌, ltb, get_or, ltb-true}
 use Rattle.std.proofs.lemmas.Bool.{and_parts}
-use Rattle.prelude.specs.Below.{all_below, all_elim}
-use Rattle.prelude.specs.Cases.{if◌then◌otherwise◌, clash}
+use Rattle.prelude.specs.Below.{all_below}
+use Rattle.prelude.specs.Laws.Below.{all_elim}
+use Rattle.prelude.specs.Cases.{if◌then◌otherwise◌}
+use Rattle.prelude.specs.Laws.Cases.{clash}
 use Rattle.prelude.specs.Number.{bound}
 use Rattle.format.specs.Format.{is_kind, required_bits, allowed_bits, required, allowed, joined, bits_right}
 use Rattle.machine.specs.Messages.{bit_if}

@@ -2,8 +2,10 @@
 use Rattle.std.proofs.Common.{ℕ, ◌+◌, ◌-◌, ◌^◌, ◌≤◌, ◌<◌, arith, ◌≡◌, refl, Bool, true, false, not, ◌&&◌, ◌||◌, List, eqb, leb, ltb, length, get_or, replicate, eqb-true, leb-true, le-leb}
 use Rattle.std.proofs.lemmas.Bool.{eqb-false, not-true, not-false, and_parts, and_from}
 use Rattle.wide.specs.declared.Priced.{Priced}
-use Rattle.prelude.specs.Below.{all_below, all_elim}
-use Rattle.prelude.specs.Cases.{if◌then◌otherwise◌, clash, split_if}
+use Rattle.prelude.specs.Below.{all_below}
+use Rattle.prelude.specs.Laws.Below.{all_elim}
+use Rattle.prelude.specs.Cases.{if◌then◌otherwise◌}
+use Rattle.prelude.specs.Laws.Cases.{clash, split_if}
 use Rattle.prelude.specs.Texts.{is_text}
 use Rattle.prelude.specs.declared.Text.{Text}
 use Rattle.prelude.specs.declared.Terms.{Terms}
@@ -13,14 +15,14 @@ use Rattle.records.specs.Record.{is_message}
 use Rattle.store.specs.declared.Names.{Names}
 use Rattle.store.specs.declared.State.{State}
 use Rattle.store.specs.declared.Order.{Order}
-use Rattle.text.specs.Words.{no_text}
+use Rattle.text.specs.Stored.{no_text}
 use Rattle.machine.specs.Orders.{is_empty, leaves_of, leaves_qty, pending_terms}
 use Rattle.machine.specs.Messages.{bit_if, no_long_text, terms_bits, note_bits, report, cancel_reject, to_venue, new_order, cancel_request, replace_request}
 use Rattle.machine.specs.Ranges.{text_within, name_range}
 use Rattle.machine.specs.Rules.{force_range, priced_range, terms_range}
 use Rattle.machine.specs.declared.Note.{Note}
 use Rattle.machine.proofs.Kept.Laws.{or_else, name_within}
-use Rattle.machine.proofs.Kept.Local.{TermsKept, terms_kept}
+use Rattle.machine.proofs.Kept.OrderSteps.{TermsKept, terms_kept}
 use Rattle.machine.proofs.Said.Maps.{Mapped, report_bits, report_mapped, reject_bits, reject_mapped, venue_bits, new_mapped, cancel_mapped, replace_mapped}
 use Rattle.machine.proofs.Said.Rows.{Has, gone, there, maybe_there, Fine, fine_text, text_there, text_if, ◌&◌, end, written_message}
 use Rattle.format.specs.Laws.Codes.{listed_small}
@@ -238,7 +240,7 @@ report_right o clordid origclordid exectype lastqty price n k c d x q w s m =
       nothigh = λ e. clash true refl e;
     })
 
--- where there is no order the name is empty
+-- if there is no order the name is empty
 pub reject_right : (client : ℕ) (name : Text) (status : ℕ) (clordid origclordid : Text) (responseto : ℕ) (n : Note)
     → client < 2 ^ 16 → RightText name → (is_empty name ≡ false → is_name name ≡ true) → is_status status ≡ true → Fine 1 32 clordid → Fine 1 32 origclordid
     → within 1 2 responseto ≡ true → Noted n → not (eqb n.text.len 0) ≡ not (not (eqb n.fixedtext 0)) → not (eqb n.origin 0) ≡ true

@@ -1,7 +1,7 @@
 -- The orders and requests that messages tell of: those of a book that keeps its rules and is whole are in range, and each step of an order keeps that. Rests on Messages.
 use Rattle.std.proofs.Common.{ℕ, ◌+◌, ◌-◌, ◌^◌, ◌≤◌, ◌<◌, arith, ◌≡◌, refl, sym, ◌∙◌, Bool, true, false, ◌||◌, List, eqb, leb, length, leb-true, le-leb, ltb-true}
 use Rattle.std.proofs.lemmas.Bool.{eqb-false, and_parts}
-use Rattle.prelude.specs.Cases.{if_false, split_if, clash}
+use Rattle.prelude.specs.Laws.Cases.{if_false, split_if, clash}
 use Rattle.prelude.specs.Texts.{is_text, contents}
 use Rattle.prelude.specs.declared.Text.{Text}
 use Rattle.format.specs.Codes.{is_status, is_qty, is_price}
@@ -21,8 +21,9 @@ use Rattle.machine.specs.Whole.{WholeBook}
 use Rattle.machine.specs.declared.Findings.{Findings}
 use Rattle.machine.proofs.Numbered.{numbered_laws}
 use Rattle.machine.proofs.Kept.Laws.{kept_text, name_short}
-use Rattle.machine.proofs.Kept.Local.{OrderKept, NamesKept, names_kept, TermsKept, terms_kept, pending_parts, status_coded, short_coded}
-use Rattle.machine.proofs.Kept.Lift.{RangeKept, range_kept, BookKept}
+use Rattle.machine.proofs.Kept.Local.{OrderKept}
+use Rattle.machine.proofs.Kept.OrderSteps.{NamesKept, names_kept, TermsKept, terms_kept, pending_parts, status_coded, short_coded}
+use Rattle.machine.proofs.Kept.Indexed.{RangeKept, range_kept, BookKept}
 use Rattle.machine.proofs.Kept.Steps.{downstream_within}
 use Rattle.machine.proofs.Said.Rows.{Fine}
 use Rattle.machine.proofs.Said.Messages.{Tellable}

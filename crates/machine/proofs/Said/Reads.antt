@@ -3,10 +3,11 @@
 use Rattle.std.proofs.Common.{ℕ, suc, ◌+◌, ◌-◌, ◌/◌, ◌%◌, ◌^◌, ◌<◌, arith, ◌≡◌, refl, sym, ap, subst, ◌∙◌, ⊎_elim, Bool, true, false, List, ◌++◌, eqb, leb, lit<, length, get_or, replicate, eq-eqb, leb-true, le-leb}
 use Rattle.std.proofs.lemmas.Bool.{and_parts, or_cases, and_from, or_left, or_right}
 use Rattle.std.proofs.lemmas.Bool.Decides.{nat_tests}
-use Rattle.prelude.specs.Cases.{if◌then◌otherwise◌, if_true, split_if}
+use Rattle.prelude.specs.Cases.{if◌then◌otherwise◌}
+use Rattle.prelude.specs.Laws.Cases.{if_true, split_if}
 use Rattle.prelude.specs.Number.{Bytes}
 use Rattle.prelude.specs.Texts.{text_of, WholeText}
-use Rattle.prelude.specs.Bytes.{bytes_span, bytes_drop, bytes_take, bytes_append, bytes_zeros}
+use Rattle.prelude.specs.Laws.Bytes.{bytes_span, bytes_drop, bytes_take, bytes_append, bytes_zeros}
 use Rattle.prelude.specs.declared.Text.{Text}
 use Rattle.format.specs.Codes.{within, is_name, is_ordtype, is_timeinforce, is_status, is_exectype}
 use Rattle.format.specs.Format.{fields, range, in_range, required_bits, required, is_kind, bits_right}
@@ -15,8 +16,7 @@ use Rattle.records.specs.declared.Ids.{Ids}
 use Rattle.records.specs.declared.Record.{Record}
 use Rattle.records.specs.Fields.{numbers_of}
 use Rattle.records.specs.Record.{record_at, is_record, is_event, event_in}
-use Rattle.machine.specs.Changes.{Event}
-use Rattle.machine.specs.Amend.{has}
+use Rattle.machine.specs.Changes.{Event, has}
 use Rattle.machine.specs.Ranges.{text_within, name_range}
 use Rattle.machine.specs.Rules.{force_range}
 use Rattle.machine.specs.Events.{Booking, Amendment, Ranged}

@@ -1,7 +1,7 @@
--- A record by its fields, one row for each bit: where the rows are right and the map is theirs, the record is one that is written. Rests on Maps and records' Ranges.
+-- A record by its fields, one row for each bit: if the rows are right and the map is theirs, the record is one that is written. Rests on Maps and records' Ranges.
 use Rattle.std.proofs.Common.{ℕ, zero, suc, ◌+◌, ◌≤◌, ◌<◌, min, arith, ◌≡◌, refl, sym, subst, ◌∙◌, Bool, true, false, not, List, [], ◌∷◌, leb, lit<, length, get_or, eqb-true, leb-true, le-leb}
 use Rattle.std.proofs.lemmas.Bool.{eqb-false, not-true, not-false, and_parts, and_from}
-use Rattle.prelude.specs.Cases.{clash, split_if}
+use Rattle.prelude.specs.Laws.Cases.{clash, split_if}
 use Rattle.prelude.specs.Number.{bound}
 use Rattle.prelude.specs.Texts.{is_text}
 use Rattle.prelude.specs.declared.Text.{Text}
@@ -21,7 +21,7 @@ use Rattle.machine.proofs.Said.Maps.{Mapped}
 
 -- ---- one field
 
--- field b with the number v: in its range where its bit stands, else 0
+-- field b with the number v: in its range if its bit stands, else 0
 pub record Has (t : Bool) (b v : ℕ) : Type 0 where
   pub on : t ≡ true → (in_range (range b) v ≡ true) × (v < bound (min (size b) 8))
   pub off : t ≡ false → v ≡ 0
@@ -56,7 +56,7 @@ text_there b low high t z r f =
     there b t.len (r t.len (and_from _ _ (le-leb low t.len k.above) (le-leb t.len high k.below)))
     (rw z (let s : t.len ≤ 32 = (fine_text low high t f).short in omega arith))
 
--- one that is there unless it is empty
+-- a text that is there unless it is empty
 pub text_if : (b : ℕ) (t : Text) → size b ≡ 255 → ((v : ℕ) → within 1 32 v ≡ true → in_range (range b) v ≡ true) → Fine 0 32 t → Has (not (is_empty t)) b t.len
 text_if b t z r f =
     maybe_there (not (is_empty t)) b t.len

@@ -2,8 +2,8 @@
 use Rattle.std.proofs.Common.{ℕ, ◌+◌, ◌-◌, ◌≤◌, ◌<◌, arith, ◌≡◌, refl, subst, true, false, Some, List, eqb, length, eqb-true, ne_eqb}
 use Rattle.std.proofs.lemmas.Bool.{and_parts, and_from}
 use Rattle.prelude.specs.Span.{splice}
-use Rattle.prelude.specs.Below.{first_some}
-use Rattle.prelude.specs.Cases.{split_if}
+use Rattle.prelude.specs.Laws.Below.{first_some}
+use Rattle.prelude.specs.Laws.Cases.{split_if}
 use Rattle.records.specs.Record.{is_message}
 use Rattle.records.specs.Answer.{answer_bytes, answer_alarm, answer_alarm2, chosen, are_messages}
 use Rattle.store.specs.declared.Order.{Order}
@@ -19,8 +19,8 @@ use Rattle.machine.specs.History.{messages_of}
 use Rattle.machine.specs.Said.{MessagesRight, MessagesFew, AnswerRead}
 use Rattle.machine.specs.declared.Change.{Change}
 use Rattle.machine.proofs.Kept.Tables.{at}
-use Rattle.machine.proofs.Kept.Local.{pending_parts}
-use Rattle.machine.proofs.Kept.Lift.{BookKept, book_kept}
+use Rattle.machine.proofs.Kept.OrderSteps.{pending_parts}
+use Rattle.machine.proofs.Kept.Indexed.{BookKept, book_kept}
 use Rattle.machine.proofs.Stepped.{step_made}
 use Rattle.machine.proofs.Claim.Walk.{found_request, found_order}
 use Rattle.machine.proofs.Said.Reads.{event_right_facts, right_ranged}
@@ -28,7 +28,8 @@ use Rattle.machine.proofs.Said.Rows.{Fine}
 use Rattle.machine.proofs.Said.Messages.{Tellable}
 use Rattle.machine.proofs.Said.Orders.{request_asks, order_tellable}
 use Rattle.machine.proofs.Said.Alarms.{step_alarmed}
-use Rattle.machine.proofs.Said.Changes.{Says, unchanged_says, refusing_says, alarming_says, adding_says, no_order_seen, some_order, made_says, asked_says, amended_says}
+use Rattle.machine.proofs.Said.Changes.{Says, unchanged_says, refusing_says, alarming_says, adding_says, made_says, asked_says}
+use Rattle.machine.proofs.Said.Amendments.{no_order_seen, some_order, amended_says}
 use Rattle.records.specs.Laws.Right.{Right}
 use Rattle.records.specs.Laws.Writing.{answer_most}
 use Rattle.records.specs.Laws.AnswerBack.{answer_messages_lem, answer_accepted, answer_alarm_lem, answer_alarm2_lem}

@@ -1,7 +1,8 @@
 -- The laws of every book and every event: the status that is set, alarm 6, and the source of a price. Rests on Handled, Quiet and Filled.
 use Rattle.std.proofs.Common.{ℕ, ◌+◌, ◌≤◌, ◌<◌, arith, ◌≡◌, refl, sym, ap, ◌∙◌, subst, ◌⊎◌, inl, inr, Bool, true, false, not, Option, None, Some, eqb, length, eqb-true, eq-eqb}
 use Rattle.std.proofs.lemmas.Bool.{eqb-false, cases_Bool}
-use Rattle.prelude.specs.Cases.{if◌then◌otherwise◌, split_if, split_maybe, if_true, maybe_none, maybe_some, clash, same_some}
+use Rattle.prelude.specs.Cases.{if◌then◌otherwise◌}
+use Rattle.prelude.specs.Laws.Cases.{split_if, split_maybe, if_true, maybe_none, maybe_some, clash, same_some}
 use Rattle.prelude.specs.Totals.{Every, every[], every∷}
 use Rattle.records.specs.Answer.{chosen}
 use Rattle.store.specs.declared.Order.{Order}
@@ -19,7 +20,7 @@ use Rattle.machine.specs.Status.{refuses, reports, takes_refusal, takes_report, 
 use Rattle.machine.specs.Sources.{SourcesRight}
 use Rattle.machine.specs.declared.Findings.{Findings}
 use Rattle.machine.specs.declared.Change.{Change}
-use Rattle.machine.proofs.Made.{not_kind, on_report_made, unknown_made, reject_made}
+use Rattle.machine.proofs.Walked.{not_kind, on_report_made, unknown_made, reject_made}
 use Rattle.machine.proofs.Claim.Ruled.{ruled, request_ruled}
 use Rattle.machine.proofs.Claim.Walk.{Either, found_request}
 use Rattle.machine.proofs.Claim.Filled.{Moved, handles_moved, orders_set, after_orders, at}

@@ -1,7 +1,8 @@
 -- What holds of a change's messages, of its alarm and of its order, as it is put together. Rests on Amend.
 use Rattle.std.proofs.Common.{ℕ, ◌≡◌, refl, Bool, true, false, not, eqb}
 use Rattle.std.proofs.lemmas.Bool.{not-true, not-false}
-use Rattle.prelude.specs.Cases.{if◌then◌otherwise◌, split_if, clash}
+use Rattle.prelude.specs.Cases.{if◌then◌otherwise◌}
+use Rattle.prelude.specs.Laws.Cases.{split_if, clash}
 use Rattle.store.specs.declared.Order.{Order}
 use Rattle.store.specs.declared.Request.{Request}
 use Rattle.machine.specs.Constants.{report_kind, stuck_cancel}
@@ -23,7 +24,7 @@ pub record Fits (P : Message → Type 0) (A : ℕ → Type 0) (O : Order → Typ
   pub alarm : A c.output.alarm
   pub order : O c.order
 
--- P asks about reports alone; alarm 1 behind the one that is there, and the gateway cancel's record, change nothing
+-- P asks about reports alone; an alarm 1 behind the first one, and the gateway cancel's record, change nothing
 pub record Ways (P : Message → Type 0) (A : ℕ → Type 0) (O : Order → Type 0) : Type 0 where
   pub others : (m : Message) → eqb m.kind report_kind ≡ false → P m
   pub behind : (a : ℕ) → A a → A (if eqb a 0 then stuck_cancel otherwise a)

@@ -2,8 +2,9 @@
 use Rattle.std.proofs.Common.{ℕ, ◌-◌, max, ◌≤◌, ◌<◌, arith, ◌≡◌, refl, sym, ap, ◌∙◌, ◌⊎◌, inl, inr, Bool, true, false, not, ◌&&◌, ◌||◌, Some, eqb, ltb, ne_eqb, ltb-false}
 use Rattle.std.proofs.Math.Nat.{max-eq_left}
 use Rattle.std.proofs.lemmas.Bool.{not-true, not-false, or_parts, cases_Bool}
-use Rattle.prelude.specs.Cases.{if◌then◌otherwise◌, split_if, if_true, if_false, clash}
-use Rattle.wide.specs.Price.{source_range}
+use Rattle.prelude.specs.Cases.{if◌then◌otherwise◌}
+use Rattle.prelude.specs.Laws.Cases.{split_if, if_true, if_false, clash}
+use Rattle.wide.specs.Laws.Price.{source_range}
 use Rattle.format.specs.Codes.{filled, rejected}
 use Rattle.store.specs.declared.Order.{Order}
 use Rattle.store.specs.declared.Request.{Request}
@@ -20,7 +21,7 @@ use Rattle.machine.specs.Status.{refuses, reports, qty_by, heard, takes_refusal,
 use Rattle.machine.specs.declared.Findings.{Findings}
 use Rattle.machine.specs.declared.Refused.{Refused}
 use Rattle.machine.specs.declared.Change.{Change}
-use Rattle.machine.proofs.Made.{not_kind}
+use Rattle.machine.proofs.Walked.{not_kind}
 use Rattle.machine.proofs.Venue.Frame.{Fits, Ways, unchanged_fits, telling_fits, settles_fits, alarming_fits, resume_fits, refuse_fits}
 use Rattle.machine.proofs.Venue.Quiet.{Said, others_said}
 use Rattle.machine.proofs.Venue.Sets.{Is, IsOwn, own_is, named_is, next_is, refused_done, refused_live, reported_is, short_six}

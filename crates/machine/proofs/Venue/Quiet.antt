@@ -1,7 +1,7 @@
 -- An event that is no venue's report and no refusal raises no alarm 6, and its reports have source 0 and no price. Rests on Frame.
 use Rattle.std.proofs.Common.{ℕ, ◌≡◌, refl, sym, ap, ◌∙◌, Bool, true, false, ◌&&◌, ◌||◌, eqb, ltb, arith}
 use Rattle.std.proofs.lemmas.Bool.{eqb-false, and_parts}
-use Rattle.prelude.specs.Cases.{split_if, split_maybe, clash}
+use Rattle.prelude.specs.Laws.Cases.{split_if, split_maybe, clash}
 use Rattle.prelude.specs.declared.Text.{Text}
 use Rattle.format.specs.Codes.{filled}
 use Rattle.store.specs.declared.Order.{Order}

@@ -2,14 +2,15 @@
 use Rattle.std.proofs.Common.{ℕ, ◌+◌, ◌*◌, ◌≤◌, ◌<◌, ◌≡◌, ◌&&◌, length, Some, sym, ap, ◌∙◌, arith, length-append, List, ◌++◌, append_assoc, take, drop, length-drop}
 use Rattle.std.proofs.Math.Seq.{take-append-le}
 use Rattle.std.proofs.lemmas.List.{drop-append-le}
-use Rattle.prelude.specs.Below.{all_below, first_below, first_ext}
+use Rattle.prelude.specs.Below.{all_below, first_below}
+use Rattle.prelude.specs.Laws.Below.{first_ext}
 use Rattle.prelude.specs.Bytes.{zeros}
 use Rattle.prelude.specs.Cases.{maybe}
 use Rattle.prelude.specs.Span.{span, splice}
 use Rattle.prelude.specs.Texts.{agree_at}
 use Rattle.store.specs.Layout.{book_size}
 use Rattle.rules.specs.Keeps.{keeps_of}
-use Rattle.marks.specs.Marks.{name_size, place_size, place, place_count, name_at, image_at, name_bytes, has_name, set_place, is_mark, return_place, Marked, marked, set_mark_of, return_of}
+use Rattle.marks.specs.Marks.{name_size, place_size, place_base, place_count, name_at, image_at, name_bytes, has_name, set_place, is_mark, return_place, Marked, marked, set_mark_of, return_of}
 use Rattle.marks.specs.Promise.{LastPart}
 use Rattle.marks.proofs.Laws.Places.{place_within, set_below, return_first}
 use Rattle.marks.specs.Laws.Calls.{set_bad, set_malformed, set_full, set_done, set_ends, return_bad, return_malformed, return_none, return_done, return_ends}
@@ -39,11 +40,11 @@ module _ (p rest : List ℕ) (n : ℕ) (whole : length p ≡ n * place_size) (sh
 
   name_same : (bytes : List ℕ) (i : ℕ) → i < place_count p → has_name (p ++ rest) bytes i ≡ has_name p bytes i
   unfolding has_name name_at
-  name_same bytes i h = ap (λ (s : List ℕ). all_below (agree_at s bytes) name_size) (span_before p rest (place i) name_size (omega (arith, place_within p i h)))
+  name_same bytes i h = ap (λ (s : List ℕ). all_below (agree_at s bytes) name_size) (span_before p rest (place_base i) name_size (omega (arith, place_within p i h)))
 
   image_same : (i : ℕ) → i < place_count p → image_at (p ++ rest) i ≡ image_at p i
   unfolding image_at
-  image_same i h = span_before p rest (place i + name_size) book_size (omega (arith, place_within p i h))
+  image_same i h = span_before p rest (place_base i + name_size) book_size (omega (arith, place_within p i h))
 
   first_same : (bytes : List ℕ) → first_below (has_name (p ++ rest) bytes) (place_count (p ++ rest)) ≡ first_below (has_name p bytes) (place_count p)
   first_same bytes = ap (first_below (has_name (p ++ rest) bytes)) count ∙ first_ext (has_name (p ++ rest) bytes) (has_name p bytes) (place_count p) (name_same bytes)
@@ -69,7 +70,7 @@ module _ (p rest : List ℕ) (n : ℕ) (whole : length p ≡ n * place_size) (sh
       (λ k e. sym (set_malformed b name (p ++ rest) k e))
       (λ k n e. sym (set_full b name (p ++ rest) k n (set_same name ∙ e)))
       (λ k n i e. sym (set_done b name (p ++ rest) k n i (set_same name ∙ e))
-      ∙ ap (marked 0 b) (splice_before p rest (place i) (name_bytes name ++ b) (fits p name b i (set_below p name i e) (book_long b k))))
+      ∙ ap (marked 0 b) (splice_before p rest (place_base i) (name_bytes name ++ b) (fits p name b i (set_below p name i e) (book_long b k))))
 
   return_last : (b name : List ℕ) → let r = return_of b name p in return_of b name (p ++ rest) ≡ marked r.returned r.book (r.places ++ rest)
   return_last b name =

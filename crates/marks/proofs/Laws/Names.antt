@@ -3,7 +3,7 @@ use Rattle.std.proofs.Common.{ℕ, zero, suc, ◌≤◌, ◌<◌, ◌≡◌, ref
 use Rattle.std.proofs.Math.Decide.{dec_lt}
 use Rattle.std.proofs.lemmas.Bool.{and_parts, and_from, or_cases, or_parts, cases_Bool}
 use Rattle.prelude.specs.Below.{all_below}
-use Rattle.prelude.specs.Cases.{clash}
+use Rattle.prelude.specs.Laws.Cases.{clash}
 use Rattle.format.specs.Codes.{within, is_alnum}
 use Rattle.rules.specs.Keeps.{keeps_of}
 use Rattle.marks.specs.Marks.{letter_at, is_mark_name, Marked, set_mark_of, return_of}

@@ -4,13 +4,15 @@ use Rattle.std.proofs.lemmas.Bool.{lt-leb, eqb-false, and_parts}
 use lib.Pointwise.{pointwise, bytes_decides}
 use Rattle.std.proofs.lemmas.List.{length-replicate}
 use Rattle.std.specs.Cmp.{both_ways}
-use Rattle.prelude.specs.Below.{all_below, first_below, all_elim, all_intro, all_miss, First, first_some}
-use Rattle.prelude.specs.Cases.{maybe, maybe_none, maybe_some}
-use Rattle.prelude.specs.Span.{length_span, get_span}
+use Rattle.prelude.specs.Below.{all_below, first_below}
+use Rattle.prelude.specs.Laws.Below.{all_elim, all_intro, all_miss, First, first_some}
+use Rattle.prelude.specs.Cases.{maybe}
+use Rattle.prelude.specs.Laws.Cases.{maybe_none, maybe_some}
+use Rattle.prelude.specs.Laws.Span.{length_span, get_span}
 use Rattle.prelude.specs.Texts.{agree_at}
 use Rattle.store.specs.Layout.{book_size}
 use Rattle.rules.specs.Keeps.{keeps_of}
-use Rattle.marks.specs.Marks.{name_size, place_size, place, place_count, name_at, image_at, letter_at, is_mark_name, name_bytes, has_name, is_of, is_free, set_place, is_mark, return_place}
+use Rattle.marks.specs.Marks.{name_size, place_size, place_base, place_count, name_at, image_at, letter_at, is_mark_name, name_bytes, has_name, is_of, is_free, set_place, is_mark, return_place}
 
 -- ---- lengths
 
@@ -27,29 +29,29 @@ length_name name = simp (length-take, length-append, length-replicate) (omega ar
 pub ruleset sizes = (eqb-true, eqb-false, le-leb, lt-leb)
 
 module _ (places : List ℕ) (i : ℕ) (h : i < place_count places) where
-  pub place_within : place i + place_size ≤ length places
+  pub place_within : place_base i + place_size ≤ length places
   place_within = omega arith
 
   pub length_name_at : length (name_at places i) ≡ name_size
   unfolding name_at
-  length_name_at = length_span places (place i) name_size (omega (arith, place_within))
+  length_name_at = length_span places (place_base i) name_size (omega (arith, place_within))
 
   pub length_image : length (image_at places i) ≡ book_size
   unfolding image_at
-  length_image = length_span places (place i + name_size) book_size (omega (arith, place_within))
+  length_image = length_span places (place_base i + name_size) book_size (omega (arith, place_within))
 
 -- ---- names
 
 module _ (places bytes : List ℕ) (i : ℕ) where
-  agree_is : (k : ℕ) → k < name_size → agree_at (name_at places i) bytes k ≡ eqb (get_or places (place i + k) 0) (get_or bytes k 0)
+  agree_is : (k : ℕ) → k < name_size → agree_at (name_at places i) bytes k ≡ eqb (get_or places (place_base i + k) 0) (get_or bytes k 0)
   unfolding name_at
-  agree_is k l = ap (λ (x : ℕ). eqb x (get_or bytes k 0)) (get_span places (place i) name_size k l)
+  agree_is k l = ap (λ (x : ℕ). eqb x (get_or bytes k 0)) (get_span places (place_base i) name_size k l)
 
   -- byte by byte
-  pub agrees : (k : ℕ) → k < name_size → get_or places (place i + k) 0 ≡ get_or bytes k 0 → agree_at (name_at places i) bytes k ≡ true
+  pub agrees : (k : ℕ) → k < name_size → get_or places (place_base i + k) 0 ≡ get_or bytes k 0 → agree_at (name_at places i) bytes k ≡ true
   agrees k l e = agree_is k l ∙ eq-eqb _ _ e
 
-  pub differs : (k : ℕ) → k < name_size → (get_or places (place i + k) 0 ≡ get_or bytes k 0 → ⊥) → has_name places bytes i ≡ false
+  pub differs : (k : ℕ) → k < name_size → (get_or places (place_base i + k) 0 ≡ get_or bytes k 0 → ⊥) → has_name places bytes i ≡ false
   unfolding has_name
   differs k l e = all_miss (agree_at (name_at places i) bytes) name_size k l (agree_is k l ∙ ne_eqb _ _ e)
 

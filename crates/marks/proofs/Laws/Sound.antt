@@ -1,12 +1,13 @@
 -- THE PROOFS that the calls do what Promise says of the places' own bytes. Rests on Calls and Written.
 use Rattle.std.proofs.Common.{ℕ, ◌+◌, ◌<◌, ◌≡◌, refl, Bool, true, false, length, None, Some, sym, ap, subst, ◌∙◌, arith, List, get_or}
 use Rattle.std.proofs.lemmas.Bool.{and_from, and_parts}
-use Rattle.prelude.specs.Below.{first_below, first_none, first_hit, first_past}
+use Rattle.prelude.specs.Below.{first_below}
+use Rattle.prelude.specs.Laws.Below.{first_none, first_hit, first_past}
 use Rattle.prelude.specs.Bytes.{zeros}
-use Rattle.prelude.specs.Span.{get_span}
+use Rattle.prelude.specs.Laws.Span.{get_span}
 use Rattle.store.specs.Layout.{book_size}
 use Rattle.rules.specs.Keeps.{keeps_of}
-use Rattle.marks.specs.Marks.{name_size, place, place_count, name_at, image_at, is_mark_name, name_bytes, has_name, is_of, is_free, set_place, is_mark, return_place, set_mark_of}
+use Rattle.marks.specs.Marks.{name_size, place_base, place_count, name_at, image_at, is_mark_name, name_bytes, has_name, is_of, is_free, set_place, is_mark, return_place, set_mark_of}
 use Rattle.marks.specs.Promise.{NameIs, Earliest, Nowhere, SetAt, SoundSet, MarkIs, SoundReturn}
 use Rattle.marks.proofs.Laws.Places.{length_name, has_name_lem, name_has, set_again, set_fresh, set_below}
 use Rattle.marks.specs.Laws.Calls.{set_bad, set_malformed, set_full, set_done, return_bad, return_malformed, return_none, return_done}
@@ -63,8 +64,8 @@ module _ (book name places : List ℕ) where
         long = length_written places name book i h l;
         named = written_name places name book i h l;
         image = written_image places name book i h l;
-        letters = λ j m. sym (get_span _ (place i) name_size j m) ∙ ap (λ (s : List ℕ). get_or s j 0) (written_name places name book i h l) ∙ name_letter name n j m;
-        bytes = λ j m. sym (get_span _ (place i + name_size) book_size j m) ∙ ap (λ (s : List ℕ). get_or s j 0) (written_image places name book i h l);
+        letters = λ j m. sym (get_span _ (place_base i) name_size j m) ∙ ap (λ (s : List ℕ). get_or s j 0) (written_name places name book i h l) ∙ name_letter name n j m;
+        bytes = λ j m. sym (get_span _ (place_base i + name_size) book_size j m) ∙ ap (λ (s : List ℕ). get_or s j 0) (written_image places name book i h l);
         rest = written_rest places name book i h l;
       })
 

@@ -3,16 +3,18 @@ use Rattle.std.proofs.Common.{ℕ, ◌+◌, ◌/◌, ◌≤◌, ◌<◌, ◌≡�
 use Rattle.std.proofs.Math.Decide.{ℕ_discrete, dec_lt}
 use Rattle.std.proofs.Math.ListN.{get_or-eq_default}
 use Rattle.std.proofs.lemmas.Bool.{and_from, and_parts, or_cases}
-use Rattle.prelude.specs.Below.{first_below, first_none, first_hit, first_past, first_elim, first_ext}
-use Rattle.prelude.specs.Bytes.{zeros, bytes_zeros, bytes_append, bytes_take, bytes_span, bytes_splice}
-use Rattle.prelude.specs.Cases.{clash}
+use Rattle.prelude.specs.Below.{first_below}
+use Rattle.prelude.specs.Laws.Below.{first_none, first_hit, first_past, first_elim, first_ext}
+use Rattle.prelude.specs.Bytes.{zeros}
+use Rattle.prelude.specs.Laws.Bytes.{bytes_zeros, bytes_append, bytes_take, bytes_span, bytes_splice}
+use Rattle.prelude.specs.Laws.Cases.{clash}
 use Rattle.prelude.specs.Number.{Bytes}
 use Rattle.prelude.specs.Span.{splice}
 use Rattle.store.specs.Layout.{book_size}
 use Rattle.format.specs.Codes.{within, is_alnum}
 use Rattle.rules.specs.Keeps.{keeps_of}
 use Rattle.rules.specs.Laws.Keeps.{keeps_held}
-use Rattle.marks.specs.Marks.{name_size, place_size, place, place_count, name_at, image_at, is_mark_name, name_bytes, has_name, is_of, set_place, is_mark, return_place, Marked, marked}
+use Rattle.marks.specs.Marks.{name_size, place_size, place_base, place_count, name_at, image_at, is_mark_name, name_bytes, has_name, is_of, set_place, is_mark, return_place, Marked, marked}
 use Rattle.marks.specs.Promise.{Kept, CallsKeep, Stands, MarksStand}
 use Rattle.marks.proofs.Laws.Places.{length_name, length_image, has_name_lem, name_has, Goes, again, fresh, set_goes, set_below, return_first, return_kept}
 use Rattle.marks.specs.Laws.Calls.{return_done, set_ends, return_ends}
@@ -25,7 +27,7 @@ book_long b k = (keeps_held b k).long
 
 module _ (places name book : List ℕ) (k : keeps_of book ≡ true) (n : is_mark_name name ≡ true) (i : ℕ) (e : set_place places name ≡ Some i) where
   abbrev p' : List ℕ
-  p' = splice places (place i) (name_bytes name ++ book)
+  p' = splice places (place_base i) (name_bytes name ++ book)
 
   below : i < place_count places
   below = set_below places name i e
@@ -80,7 +82,7 @@ not_of places name bytes i h e d = go (is_of places name i) refl
 module _ (places name another book : List ℕ) (k : keeps_of book ≡ true) (n : is_mark_name name ≡ true) (m : is_mark_name another ≡ true) (d : another ≡ name → ⊥)
     (i : ℕ) (e : set_place places another ≡ Some i) where
   abbrev q' : List ℕ
-  q' = splice places (place i) (name_bytes another ++ book)
+  q' = splice places (place_base i) (name_bytes another ++ book)
 
   other_bytes : name_bytes another ≡ name_bytes name → ⊥
   other_bytes z = d (same_name another name m n z)
@@ -176,7 +178,7 @@ calls_keep = record {
       set_ends book name places (Kept book places) (λ _. same book places 1 (omega arith)) (λ _ _. same book places 13 (omega arith)) (λ _ _ _. same book places 15 (omega arith))
       (λ k n i e. record {
         refused = λ z. absurd (z refl);
-        bytes = λ b p. (b, bytes_splice places (place i) (name_bytes name ++ book) p (bytes_append (name_bytes name) book (bytes_name name n) b));
+        bytes = λ b p. (b, bytes_splice places (place_base i) (name_bytes name ++ book) p (bytes_append (name_bytes name) book (bytes_name name n) b));
         long = (refl, length_written places name book i (set_below places name i e) (book_long book k));
         keeps = λ _. k;
       });
@@ -184,7 +186,7 @@ calls_keep = record {
       return_ends book name places (Kept book places) (λ _. same book places 1 (omega arith)) (λ _ _. same book places 13 (omega arith)) (λ _ _ _. same book places 14 (omega arith))
       (λ k n i e. record {
         refused = λ z. absurd (z refl);
-        bytes = λ b p. (bytes_span places (place i + name_size) book_size p, p);
+        bytes = λ b p. (bytes_span places (place_base i + name_size) book_size p, p);
         long = (length_image places i (return_first places name i e).below ∙ sym (book_long book k), refl);
         keeps = λ _. return_kept places name i e;
       });

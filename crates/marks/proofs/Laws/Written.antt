@@ -3,14 +3,18 @@ use Rattle.std.proofs.Common.{ℕ, ◌+◌, ◌-◌, ◌≤◌, ◌<◌, ◌≡�
 use Rattle.std.proofs.Math.Decide.{dec_lt}
 use Rattle.std.proofs.Math.ListN.{get_or-append, get_or-eq_default}
 use Rattle.std.proofs.lemmas.Bool.{and_parts}
-use Rattle.prelude.specs.Below.{all_below, all_elim}
-use Rattle.prelude.specs.Bytes.{zeros, get_zeros}
-use Rattle.prelude.specs.Cases.{clash}
-use Rattle.prelude.specs.Span.{span, splice, length_splice, splice_append, get_span, span_span, span_splice_same, span_splice_before, span_splice_after}
-use Rattle.prelude.specs.Texts.{contents, text_of, contents_text}
+use Rattle.prelude.specs.Below.{all_below}
+use Rattle.prelude.specs.Laws.Below.{all_elim}
+use Rattle.prelude.specs.Bytes.{zeros}
+use Rattle.prelude.specs.Laws.Bytes.{get_zeros}
+use Rattle.prelude.specs.Laws.Cases.{clash}
+use Rattle.prelude.specs.Span.{span, splice}
+use Rattle.prelude.specs.Laws.Span.{length_splice, splice_append, get_span, span_span, span_splice_same, span_splice_before, span_splice_after}
+use Rattle.prelude.specs.Texts.{contents, text_of}
+use Rattle.prelude.specs.Laws.Texts.{contents_text}
 use Rattle.format.specs.Codes.{within, is_alnum}
 use Rattle.store.specs.Layout.{book_size}
-use Rattle.marks.specs.Marks.{name_size, place_size, place, place_count, name_at, image_at, letter_at, is_mark_name, name_bytes}
+use Rattle.marks.specs.Marks.{name_size, place_size, place_base, place_count, name_at, image_at, letter_at, is_mark_name, name_bytes}
 use Rattle.marks.proofs.Laws.Places.{name_short, length_name, place_within}
 
 -- ---- a place written
@@ -20,62 +24,62 @@ module _ (places name book : List ℕ) (i : ℕ) (h : i < place_count places) (l
   piece = name_bytes name ++ book
 
   abbrev pub written : List ℕ
-  written = splice places (place i) (name_bytes name ++ book)
+  written = splice places (place_base i) (name_bytes name ++ book)
 
   long : length piece ≡ place_size
   long = simp length-append (omega (arith, length_name name, l))
 
-  pub fits : place i + length piece ≤ length places
+  pub fits : place_base i + length piece ≤ length places
   fits = omega (arith, long, place_within places i h)
 
   pub length_written : length written ≡ length places
-  length_written = length_splice places (place i) piece fits
+  length_written = length_splice places (place_base i) piece fits
 
-  whole : span written (place i) place_size ≡ piece
-  whole = span_splice_same places (place i) piece place_size long (omega (arith, place_within places i h))
+  whole : span written (place_base i) place_size ≡ piece
+  whole = span_splice_same places (place_base i) piece place_size long (omega (arith, place_within places i h))
 
   pub written_name : name_at written i ≡ name_bytes name
   unfolding name_at span
   written_name =
-      ap (λ (k : ℕ). span written k name_size) (sym (add-zero (place i)))
-      ∙ sym (span_span written (place i) place_size 0 name_size (omega arith))
+      ap (λ (k : ℕ). span written k name_size) (sym (add-zero (place_base i)))
+      ∙ sym (span_span written (place_base i) place_size 0 name_size (omega arith))
       ∙ ap (λ (s : List ℕ). span s 0 name_size) whole
       ∙ take_at (name_bytes name) book name_size (length_name name)
 
   pub written_image : image_at written i ≡ book
   unfolding image_at span
   written_image =
-      sym (span_span written (place i) place_size name_size book_size (omega arith))
+      sym (span_span written (place_base i) place_size name_size book_size (omega arith))
       ∙ ap (λ (s : List ℕ). span s name_size book_size) whole
       ∙ ap (take book_size) (drop_at (name_bytes name) book name_size (length_name name))
       ∙ take_all book_size book (omega (arith, l))
 
   -- a span outside the place
-  outside : (at n : ℕ) → (at + n ≤ place i) ⊎ (place i + place_size ≤ at) → span written at n ≡ span places at n
+  outside : (at n : ℕ) → (at + n ≤ place_base i) ⊎ (place_base i + place_size ≤ at) → span written at n ≡ span places at n
   outside at n =
       ⊎_elim
-      (λ p. span_splice_before places (place i) piece at n p (omega (arith, fits)))
-      (λ p. span_splice_after places (place i) piece at n (omega (arith, long)) fits)
+      (λ p. span_splice_before places (place_base i) piece at n p (omega (arith, fits)))
+      (λ p. span_splice_after places (place_base i) piece at n (omega (arith, long)) fits)
 
-  apart : (j : ℕ) → (i ≡ j → ⊥) → (place j + place_size ≤ place i) ⊎ (place i + place_size ≤ place j)
+  apart : (j : ℕ) → (i ≡ j → ⊥) → (place_base j + place_size ≤ place_base i) ⊎ (place_base i + place_size ≤ place_base j)
   apart j d = go (dec_lt i j)
     where
-      go : Dec (i < j) → (place j + place_size ≤ place i) ⊎ (place i + place_size ≤ place j)
+      go : Dec (i < j) → (place_base j + place_size ≤ place_base i) ⊎ (place_base i + place_size ≤ place_base j)
       go (yes p) = inr (omega arith)
       go (no p) = let q : j < i = omega arith in inl (omega arith)
 
   pub written_name_other : (j : ℕ) → (i ≡ j → ⊥) → name_at written j ≡ name_at places j
   unfolding name_at
-  written_name_other j d = outside (place j) name_size (⊎_elim (λ p. inl (omega arith)) (λ p. inr p) (apart j d))
+  written_name_other j d = outside (place_base j) name_size (⊎_elim (λ p. inl (omega arith)) (λ p. inr p) (apart j d))
 
   pub written_image_other : (j : ℕ) → (i ≡ j → ⊥) → image_at written j ≡ image_at places j
   unfolding image_at
-  written_image_other j d = outside (place j + name_size) book_size (⊎_elim (λ p. inl (omega arith)) (λ p. inr (omega arith)) (apart j d))
+  written_image_other j d = outside (place_base j + name_size) book_size (⊎_elim (λ p. inl (omega arith)) (λ p. inr (omega arith)) (apart j d))
 
   byte_is : (s : List ℕ) (k : ℕ) → get_or (span s k 1) 0 0 ≡ get_or s k 0
   byte_is s k = get_span s k 1 0 (omega arith) ∙ ap (λ (n : ℕ). get_or s n 0) (add-zero k)
 
-  pub written_rest : (k : ℕ) → (k < place i) ⊎ (place i + place_size ≤ k) → get_or written k 0 ≡ get_or places k 0
+  pub written_rest : (k : ℕ) → (k < place_base i) ⊎ (place_base i + place_size ≤ k) → get_or written k 0 ≡ get_or places k 0
   written_rest k o =
       sym (byte_is written k)
       ∙ ap (λ (s : List ℕ). get_or s 0 0) (outside k 1 (⊎_elim (λ p. inl (omega arith)) (λ p. inr p) o))
@@ -83,11 +87,11 @@ module _ (places name book : List ℕ) (i : ℕ) (h : i < place_count places) (l
 
 -- as the code writes it: the name, and the book behind it
 pub name_then_book : (places name book bytes : List ℕ) (i : ℕ) → i < place_count places → bytes ≡ name_bytes name
-    → splice (splice places (place i) bytes) (place i + name_size) book ≡ splice places (place i) (name_bytes name ++ book)
+    → splice (splice places (place_base i) bytes) (place_base i + name_size) book ≡ splice places (place_base i) (name_bytes name ++ book)
 name_then_book places name book bytes i h e =
-    ap (λ (x : List ℕ). splice (splice places (place i) x) (place i + name_size) book) e
-    ∙ ap (λ (m : ℕ). splice (splice places (place i) (name_bytes name)) (place i + m) book) (sym (length_name name))
-    ∙ splice_append places (place i) (name_bytes name) book (omega (arith, length_name name, place_within places i h))
+    ap (λ (x : List ℕ). splice (splice places (place_base i) x) (place_base i + name_size) book) e
+    ∙ ap (λ (m : ℕ). splice (splice places (place_base i) (name_bytes name)) (place_base i + m) book) (sym (length_name name))
+    ∙ splice_append places (place_base i) (name_bytes name) book (omega (arith, length_name name, place_within places i h))
 
 -- ---- names by their bytes
 
@@ -136,7 +140,7 @@ module _ (name : List ℕ) (e : is_mark_name name ≡ true) where
   unfolding name_bytes contents text_of
   name_back = contents_text name (omega (arith, name_short name e))
 
--- one that is longer has a letter where the other has a zero
+-- at the index at which the shorter name has a zero, the longer has a letter
 not_longer : (a b : List ℕ) → is_mark_name a ≡ true → is_mark_name b ≡ true → name_bytes a ≡ name_bytes b → length a < length b → ⊥
 not_longer a b p q e h =
     no_letter (get_or b (length a) 0) (letters b q (length a) h)

@@ -1,10 +1,11 @@
 -- How the two calls end: as the code comes to each end, and that there is no other. Rests on Marks.
 use Rattle.std.specs.Prelude.{ℕ, ◌≡◌, true, false, List, ◌++◌, None, Some}
 use Rattle.std.proofs.lemmas.Bool.{not-true, not-false}
-use Rattle.prelude.specs.Cases.{if◌then◌otherwise◌, maybe, split_if, split_maybe}
+use Rattle.prelude.specs.Cases.{if◌then◌otherwise◌, maybe}
+use Rattle.prelude.specs.Laws.Cases.{split_if, split_maybe}
 use Rattle.prelude.specs.Span.{splice}
 use Rattle.rules.specs.Keeps.{keeps_of}
-use Rattle.marks.specs.Marks.{place, image_at, is_mark_name, name_bytes, set_place, return_place, Marked, marked, set_mark_of, return_of}
+use Rattle.marks.specs.Marks.{place_base, image_at, is_mark_name, name_bytes, set_place, return_place, Marked, marked, set_mark_of, return_of}
 
 module _ (b name p : List ℕ) where
   pub set_bad : keeps_of b ≡ false → marked 1 b p ≡ set_mark_of b name p
@@ -29,7 +30,7 @@ module _ (b name p : List ℕ) where
       unfolding set_mark_of if◌then◌otherwise◌ maybe
       set_full e = rw (k, n, e)
 
-      pub set_done : (i : ℕ) → set_place p name ≡ Some i → marked 0 b (splice p (place i) (name_bytes name ++ b)) ≡ set_mark_of b name p
+      pub set_done : (i : ℕ) → set_place p name ≡ Some i → marked 0 b (splice p (place_base i) (name_bytes name ++ b)) ≡ set_mark_of b name p
       unfolding set_mark_of if◌then◌otherwise◌ maybe
       set_done i e = rw (k, n, e)
 
@@ -44,7 +45,7 @@ module _ (b name p : List ℕ) where
   -- what holds of each end holds of the call
   module _ (P : Marked → Type 0) (bad : keeps_of b ≡ false → P (marked 1 b p)) (malformed : keeps_of b ≡ true → is_mark_name name ≡ false → P (marked 13 b p)) where
     pub set_ends : (keeps_of b ≡ true → is_mark_name name ≡ true → set_place p name ≡ None → P (marked 15 b p))
-        → (keeps_of b ≡ true → is_mark_name name ≡ true → (i : ℕ) → set_place p name ≡ Some i → P (marked 0 b (splice p (place i) (name_bytes name ++ b))))
+        → (keeps_of b ≡ true → is_mark_name name ≡ true → (i : ℕ) → set_place p name ≡ Some i → P (marked 0 b (splice p (place_base i) (name_bytes name ++ b))))
         → P (set_mark_of b name p)
     unfolding set_mark_of
     set_ends full done =

@@ -2,8 +2,9 @@
 use Rattle.std.specs.Prelude.{ℕ, ◌≡◌, true, false, eqb, leb, length, replicate, refl, List}
 use Rattle.std.proofs.Common.{sym, ap, ◌∙◌, eq-eqb, ne_eqb}
 use Rattle.std.proofs.lemmas.List.{length-replicate}
-use Rattle.prelude.specs.Cases.{if◌then◌otherwise◌, if_true, if_false}
-use Rattle.records.specs.Answer.{answer_bytes, chosen}
+use Rattle.prelude.specs.Cases.{if◌then◌otherwise◌}
+use Rattle.prelude.specs.Laws.Cases.{if_true, if_false}
+use Rattle.records.specs.Answer.{shortest_answer, answer_bytes, chosen}
 use Rattle.records.specs.Laws.Writing.{length_answer}
 use Rattle.machine.specs.declared.Change.{Change}
 use Rattle.machine.specs.declared.Output.{Output}
@@ -16,9 +17,9 @@ use Rattle.needs.specs.Needs.{answer_length, field_count, fields_of, added_count
 -- ---- the answer's length, by its writer
 
 pub written_length : (r alarm alarm2 : ℕ) (ms : List Message)
-    → r ≡ (if leb 1024 (length {A = ℕ} (replicate 1024 0)) then length (answer_bytes alarm alarm2 ms) otherwise 0) → r ≡ answer_length ms
+    → r ≡ (if leb shortest_answer (length {A = ℕ} (replicate shortest_answer 0)) then length (answer_bytes alarm alarm2 ms) otherwise 0) → r ≡ answer_length ms
 unfolding answer_length
-written_length r alarm alarm2 ms e = e ∙ if_true _ _ _ (ap (leb 1024) (length-replicate {A = ℕ} 1024 0)) ∙ length_answer alarm alarm2 ms
+written_length r alarm alarm2 ms e = e ∙ if_true _ _ _ (ap (leb shortest_answer) (length-replicate {A = ℕ} shortest_answer 0)) ∙ length_answer alarm alarm2 ms
 
 -- ---- what is counted, by how many messages there are
 
@@ -62,7 +63,7 @@ pub needs_refused : (c : Change) → eqb c.refusal 0 ≡ false → needs_of c �
 unfolding needs_of
 needs_refused c e = if_false _ _ _ e
 
-module _ (b r : List ℕ) (c : Change) (h : c ≡ call_of b r 1024) where
+module _ (b r : List ℕ) (c : Change) (h : c ≡ call_of b r shortest_answer) where
   pub call_refused : eqb c.refusal 0 ≡ false → (n : Needs) → n ≡ refused c.refusal → n ≡ needs_call b r
   unfolding needs_call
   call_refused e n v = v ∙ sym (needs_refused c e) ∙ ap needs_of h

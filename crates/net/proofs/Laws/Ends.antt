@@ -1,19 +1,19 @@
 -- The nets are small, the lines are read back, and the call ends as Promise says. Rests on Sound and Call.
 use Rattle.std.proofs.Common.{ℕ, suc, ◌*◌, ◌^◌, ◌≤◌, ◌<◌, ◌≡◌, refl, Bool, ◌⊎◌, List, [], ◌∷◌, length, get_or, sym, subst, ⊎_elim, arith, true, false}
 use Rattle.std.proofs.Math.Decide.{dec_lt}
-use Rattle.prelude.specs.Cases.{split_if}
+use Rattle.prelude.specs.Laws.Cases.{split_if}
 use Rattle.prelude.specs.Number.{Bytes}
-use Rattle.prelude.specs.Span.{length_splice}
+use Rattle.prelude.specs.Laws.Span.{length_splice}
 use Rattle.prelude.specs.Totals.{total_of, Every}
 use Rattle.prelude.specs.declared.Text.{Text}
-use Rattle.counted.specs.Counted.{refusing}
+use Rattle.prelude.specs.Counted.{refusing}
 use Rattle.store.specs.declared.Order.{Order}
 use Rattle.store.specs.Orders.{no_order, FitsOrder}
 use Rattle.store.specs.Book.{Book, order_in, book_of, order_count}
 use Rattle.store.specs.Laws.Stored.{length_orders, order_in_lem, order_fits}
 use Rattle.machine.specs.Since.{filled_on}
 use Rattle.machine.specs.Rules.{rules}
-use Rattle.machine.proofs.Kept.Lift.{book_kept}
+use Rattle.machine.proofs.Kept.Indexed.{book_kept}
 use Rattle.page.specs.Laws.Sound.{behind_front}
 use Rattle.rules.specs.Keeps.{keeps_of}
 use Rattle.rules.specs.Laws.Keeps.{keeps_held}

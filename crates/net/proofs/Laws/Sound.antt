@@ -5,10 +5,13 @@ use Rattle.std.proofs.Math.Decide.{dec_le}
 use Rattle.std.proofs.lemmas.Bool.{and_parts}
 use Rattle.std.proofs.lemmas.List.{get_or_at}
 use Rattle.std.specs.List.{list_any}
-use Rattle.prelude.specs.Below.{all_below, all_ext}
+use Rattle.prelude.specs.Below.{all_below}
+use Rattle.prelude.specs.Laws.Below.{all_ext}
 use Rattle.prelude.specs.Cases.{if◌then◌otherwise◌}
-use Rattle.prelude.specs.Texts.{same_text, same_right}
-use Rattle.prelude.specs.Totals.{total_of, how_many, many_append}
+use Rattle.prelude.specs.Texts.{same_text}
+use Rattle.prelude.specs.Laws.Texts.{same_right}
+use Rattle.prelude.specs.Totals.{total_of, how_many}
+use Rattle.prelude.specs.Laws.Totals.{many_append}
 use Rattle.prelude.specs.declared.Text.{Text}
 use Rattle.store.specs.declared.Order.{Order}
 use Rattle.store.specs.Book.{Book, order_in}

@@ -1,4 +1,4 @@
--- `put_lines` meets its contract: an order more each turn. Rests on Call.
+-- `put_lines` meets its contract: each turn takes one order more. Rests on Call.
 use Rattle.std.proofs.Common.{◌+◌, ◌<◌, length, ap, ◌∙◌, arith}
 use Rattle.store.specs.Book.{book_of, order_count}
 use Rattle.net.specs.Laws.Call.{positions_few, length_lines, Turned, turn}

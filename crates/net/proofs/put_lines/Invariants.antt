@@ -1,4 +1,4 @@
--- `put_lines` meets its contract: an order more each turn. Rests on Call.
+-- `put_lines` meets its contract: each turn takes one order more. Rests on Call.
 use Rattle.std.proofs.Common.{◌≡◌, ◌≤◌, length}
 use Rattle.store.specs.Book.{book_of}
 use Rattle.net.specs.Laws.Call.{Turned}

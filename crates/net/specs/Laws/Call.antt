@@ -3,20 +3,22 @@ use Rattle.std.specs.Prelude.{ℕ, zero, suc, ◌+◌, ◌-◌, ◌*◌, ◌^◌
 use Rattle.std.proofs.Common.{sym, subst, ◌∙◌, add-one, arith, length-append, ap, append-nil, lt-ltb, le-ltb}
 use Rattle.std.proofs.lemmas.Bool.{and_parts}
 use Rattle.std.specs.List.{concat}
-use Rattle.prelude.specs.Cases.{if◌then◌otherwise◌, split_if, if_true, if_false}
-use Rattle.prelude.specs.Pieces.{length_joined}
-use Rattle.prelude.specs.Span.{splice, length_splice, splice_nil, part_splice}
+use Rattle.prelude.specs.Cases.{if◌then◌otherwise◌}
+use Rattle.prelude.specs.Laws.Cases.{split_if, if_true, if_false}
+use Rattle.prelude.specs.Laws.Pieces.{length_joined}
+use Rattle.prelude.specs.Span.{splice}
+use Rattle.prelude.specs.Laws.Span.{length_splice, splice_nil, part_splice}
 use Rattle.prelude.specs.Texts.{is_text}
 use Rattle.prelude.specs.Totals.{Every, every[], every∷}
 use Rattle.prelude.specs.declared.Text.{Text}
-use Rattle.counted.specs.Counted.{refusing, counting}
+use Rattle.prelude.specs.Counted.{refusing, counting}
 use Rattle.store.specs.declared.Order.{Order}
 use Rattle.store.specs.Book.{Book, book_of, order_in, order_count, load_order}
 use Rattle.store.specs.Laws.Stored.{length_orders, load_order_in, count_most}
 use Rattle.machine.specs.Ranges.{text_within}
 use Rattle.machine.specs.Rules.{rules}
-use Rattle.machine.proofs.Kept.Lift.{book_kept}
-use Rattle.machine.proofs.Kept.Local.{names_kept}
+use Rattle.machine.proofs.Kept.Indexed.{book_kept}
+use Rattle.machine.proofs.Kept.OrderSteps.{names_kept}
 use Rattle.page.specs.Laws.Kept.{in_range_lem}
 use Rattle.rules.specs.Keeps.{keeps_of}
 use Rattle.rules.specs.Laws.Keeps.{keeps_held}

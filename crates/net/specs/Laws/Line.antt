@@ -7,13 +7,17 @@ use Rattle.std.proofs.Math.Seq.{take-append-add}
 use Rattle.std.proofs.lemmas.Bool.{eqb-false}
 use Rattle.std.proofs.lemmas.List.{length-replicate, get_or-replicate}
 use Rattle.std.specs.List.{concat}
-use Rattle.prelude.specs.Cases.{split_if, if_true, if_false}
-use Rattle.prelude.specs.Number.{number, bytes_of, length_bytes, number_bytes}
-use Rattle.prelude.specs.Pieces.{Sized, writes, length_joined, writes_joined, piece_at}
-use Rattle.prelude.specs.Span.{span, splice_whole, span_span}
-use Rattle.prelude.specs.Texts.{contents, text_of, is_text, text_contents}
+use Rattle.prelude.specs.Laws.Cases.{split_if, if_true, if_false}
+use Rattle.prelude.specs.Number.{number, bytes_of}
+use Rattle.prelude.specs.Laws.Number.{length_bytes, number_bytes}
+use Rattle.prelude.specs.Pieces.{Sized, writes}
+use Rattle.prelude.specs.Laws.Pieces.{length_joined, writes_joined, piece_at}
+use Rattle.prelude.specs.Span.{span}
+use Rattle.prelude.specs.Laws.Span.{splice_whole, span_span}
+use Rattle.prelude.specs.Texts.{contents, text_of, is_text}
+use Rattle.prelude.specs.Laws.Texts.{text_contents}
 use Rattle.prelude.specs.declared.Text.{Text}
-use Rattle.net.specs.Net.{less, Position, padded, twos, fields, line_bytes, signed_of, read_line}
+use Rattle.net.specs.Net.{difference, Position, padded, twos, fields, line_bytes, signed_of, read_line}
 use Rattle.net.specs.Promise.{LineZeros}
 
 -- ---- the symbol
@@ -60,31 +64,31 @@ line_zeros p k h u =
 -- ---- the net
 
 -- as the code computes it
-pub twos_above : (a b : ℕ) → b ≤ a → a - b ≡ twos (less a b)
+pub twos_above : (a b : ℕ) → b ≤ a → a - b ≡ twos (difference a b)
 unfolding twos
 twos_above a b h = sym (if_true _ _ _ (eq-eqb (b - a) 0 (omega arith)))
 
-pub twos_below : (a b : ℕ) → a < b → 2 ^ 64 - (b - a) ≡ twos (less a b)
+pub twos_below : (a b : ℕ) → a < b → 2 ^ 64 - (b - a) ≡ twos (difference a b)
 unfolding twos
 twos_below a b h = sym (if_false _ _ _ (ne_eqb (b - a) 0 (λ z. omega arith)))
 
-pub twos_bound : (a b : ℕ) → a < 2 ^ 64 → twos (less a b) < 2 ^ 64
+pub twos_bound : (a b : ℕ) → a < 2 ^ 64 → twos (difference a b) < 2 ^ 64
 unfolding twos
 twos_bound a b h = split_if (λ n. n < 2 ^ 64) (eqb (b - a) 0) (λ e. omega arith) (λ e. let z : b - a ≡ 0 → ⊥ = eqb-false _ _ e in omega arith)
 
 -- THE LAW: 64 bits are read as the signed number that they were written of
-pub twos_read : (a b : ℕ) → a < 2 ^ 63 → b < 2 ^ 63 → signed_of (twos (less a b)) ≡ less a b
+pub twos_read : (a b : ℕ) → a < 2 ^ 63 → b < 2 ^ 63 → signed_of (twos (difference a b)) ≡ difference a b
 unfolding signed_of
 twos_read a b ha hb = go (dec_le b a)
   where
-    go : Dec (b ≤ a) → signed_of (twos (less a b)) ≡ less a b
+    go : Dec (b ≤ a) → signed_of (twos (difference a b)) ≡ difference a b
     go (yes h) =
-        let e : twos (less a b) ≡ a - b = sym (twos_above a b h) in
+        let e : twos (difference a b) ≡ a - b = sym (twos_above a b h) in
         let y : (a - b) - 0 ≡ a - b = omega arith in
         let z : 0 - (a - b) ≡ b - a = omega arith in
         ap signed_of e ∙ if_true _ _ _ (lt-ltb (a - b) (2 ^ 63) (omega arith)) ∙ (λ i. record { above = y i; below = z i })
     go (no h) =
-        let e : twos (less a b) ≡ 2 ^ 64 - (b - a) = sym (twos_below a b (omega arith)) in
+        let e : twos (difference a b) ≡ 2 ^ 64 - (b - a) = sym (twos_below a b (omega arith)) in
         let y : 0 - (2 ^ 64 - (2 ^ 64 - (b - a))) ≡ a - b = omega arith in
         let z : (2 ^ 64 - (2 ^ 64 - (b - a))) - 0 ≡ b - a = omega arith in
         ap signed_of e ∙ if_false _ _ _ (le-ltb (2 ^ 64 - (b - a)) (2 ^ 63) (omega arith)) ∙ (λ i. record { above = y i; below = z i })

@@ -3,9 +3,12 @@ use Rattle.std.specs.Prelude.{ℕ, zero, suc, ◌+◌, ◌*◌, ◌≤◌, ◌<�
 use Rattle.std.proofs.Common.{sym, ap, ◌∙◌, append-nil, append_assoc, zero-add, arith, length-append, take_at, ext_get_or}
 use Rattle.std.proofs.Math.Seq.{drop-append-add}
 use Rattle.std.specs.List.{concat}
-use Rattle.prelude.specs.Lists.{list_below, length_list, get_list}
-use Rattle.prelude.specs.Span.{span, splice, splice_append, span_splice_same, span_span}
-use Rattle.prelude.specs.Totals.{Every, every[], every∷, every_map}
+use Rattle.prelude.specs.Lists.{list_below}
+use Rattle.prelude.specs.Laws.Lists.{length_list, get_list}
+use Rattle.prelude.specs.Span.{span, splice}
+use Rattle.prelude.specs.Laws.Span.{splice_append, span_splice_same, span_span}
+use Rattle.prelude.specs.Totals.{Every, every[], every∷}
+use Rattle.prelude.specs.Laws.Totals.{every_map}
 use Rattle.net.specs.Net.{Position, line_bytes, net_bytes, read_line, read_lines}
 use Rattle.net.specs.Laws.Line.{length_line, Fits, line_read}
 

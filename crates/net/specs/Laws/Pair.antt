@@ -3,10 +3,12 @@ use Rattle.std.specs.Prelude.{ℕ, zero, suc, ◌+◌, ◌*◌, ◌^◌, ◌≤�
 use Rattle.std.proofs.Common.{ap, subst, sym, ◌∙◌, add-one, take-suc, arith, eq-eqb, ne_eqb, take_all}
 use Rattle.std.proofs.lemmas.Bool.{not-true, and_parts}
 use Rattle.prelude.specs.Below.{all_below}
-use Rattle.prelude.specs.Cases.{if◌then◌otherwise◌, if_true, if_false}
+use Rattle.prelude.specs.Cases.{if◌then◌otherwise◌}
+use Rattle.prelude.specs.Laws.Cases.{if_true, if_false}
 use Rattle.prelude.specs.Number.{word16, word64}
 use Rattle.prelude.specs.Texts.{same_text}
-use Rattle.prelude.specs.Totals.{total_of, total_append}
+use Rattle.prelude.specs.Totals.{total_of}
+use Rattle.prelude.specs.Laws.Totals.{total_append}
 use Rattle.prelude.specs.declared.Text.{Text}
 use Rattle.format.specs.Codes.{buy}
 use Rattle.store.specs.declared.Order.{Order}
@@ -15,7 +17,7 @@ use Rattle.store.specs.Layout.{book_size, header·orders, most_orders, order_bas
 use Rattle.store.specs.Book.{Book, order_in, book_of, order_count}
 use Rattle.store.specs.Laws.Fields.{order_client, names_symbol, terms_side, state_cumqty}
 use Rattle.store.specs.Laws.Stored.{count_book, count_most, order_in_lem}
-use Rattle.text.specs.Words.{text_is}
+use Rattle.text.specs.Stored.{text_is}
 use Rattle.text.specs.Laws.InPlace.{text_is_here}
 use Rattle.machine.specs.Since.{on_side, filled_on}
 use Rattle.net.specs.declared.Amounts.{Amounts}

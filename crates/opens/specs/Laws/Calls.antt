@@ -1,7 +1,7 @@
 -- The call as the code comes to it. Rests on rules' laws and index's Sums.
 use Rattle.std.specs.Prelude.{◌≡◌, ℕ, true, false, List, None, Some}
 use Rattle.std.proofs.Common.{sym, ap, ◌∙◌}
-use Rattle.prelude.specs.Cases.{if_true, if_false, maybe_none, maybe_some}
+use Rattle.prelude.specs.Laws.Cases.{if_true, if_false, maybe_none, maybe_some}
 use Rattle.store.specs.Book.{book_of, open_at, load_open}
 use Rattle.store.specs.Finds.{find_client}
 use Rattle.store.specs.Laws.Opens.{load_open_in}

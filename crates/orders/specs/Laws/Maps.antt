@@ -14,7 +14,7 @@ use Rattle.machine.specs.Constants.{report_kind, new_order_kind, cancel_request_
 
 -- ---- as code builds them
 
--- one more bit where the test holds
+-- one more bit if the test holds
 abbrev pub with_bit_if : ℕ → Bool → ℕ → ℕ
 with_bit_if m t k = if t then with_bit m k otherwise m
 

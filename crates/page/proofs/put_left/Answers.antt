@@ -1,6 +1,6 @@
--- `page::put_left` meets its contract: a column more each turn. Rests on Line.
+-- `page::put_left` meets its contract: each turn writes one column more. Rests on Line.
 use Rattle.std.proofs.Common.{◌≡◌, ℕ, ◌+◌, List, set, get_or, length, take, length-set, arith, ap, ◌∙◌}
-use Rattle.prelude.specs.Span.{copy_more}
+use Rattle.prelude.specs.Laws.Span.{copy_more}
 use Rattle.page.specs.Page.{left}
 use Rattle.page.specs.Laws.Line.{length_left, left_column}
 use Rattle.page.proofs.put_left.Goals as goal

@@ -1,4 +1,4 @@
--- `page::put_left` meets its contract: a column more each turn. Rests on Line.
+-- `page::put_left` meets its contract: each turn writes one column more. Rests on Line.
 use Rattle.std.proofs.Common.{◌≡◌, take, length}
 use Rattle.std.proofs.Math.Seq.{paste}
 use Rattle.page.specs.Page.{left}

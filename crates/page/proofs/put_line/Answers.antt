@@ -1,6 +1,6 @@
 -- `page::put_line` meets its contract: its stores are the fields, one behind the other. Rests on Call.
 use Rattle.std.proofs.Common.{◌≡◌, length, set, arith, length-set}
-use Rattle.prelude.specs.Span.{set_splice}
+use Rattle.prelude.specs.Laws.Span.{set_splice}
 use Rattle.page.specs.Page.{line_of}
 use Rattle.page.specs.Laws.Call.{order_written}
 use Rattle.page.proofs.put_line.Goals as goal

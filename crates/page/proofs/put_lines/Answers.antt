@@ -1,6 +1,6 @@
--- `page::put_lines` meets its contract: a line more each turn. Rests on Call.
+-- `page::put_lines` meets its contract: each turn writes one line more. Rests on Call.
 use Rattle.std.proofs.Common.{◌<◌, refl, sym, arith, length-take, length-drop}
-use Rattle.prelude.specs.Span.{splice_nil}
+use Rattle.prelude.specs.Laws.Span.{splice_nil}
 use Rattle.store.specs.Book.{order_count}
 use Rattle.page.specs.Page.{page_bytes}
 use Rattle.page.specs.Laws.Call.{range_loaded}

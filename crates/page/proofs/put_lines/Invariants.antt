@@ -1,4 +1,4 @@
--- `page::put_lines` meets its contract: a line more each turn. Rests on Call.
+-- `page::put_lines` meets its contract: each turn writes one line more. Rests on Call.
 use Rattle.std.proofs.Common.{◌≡◌, length, take}
 use Rattle.prelude.specs.Span.{splice}
 use Rattle.store.specs.Book.{book_of}

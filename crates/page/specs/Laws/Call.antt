@@ -4,8 +4,9 @@ use Rattle.std.specs.Prelude.{ℕ, ◌+◌, ◌-◌, ◌*◌, ◌≤◌, ◌<◌
 use Rattle.std.proofs.Common.{sym, ap, subst, ◌∙◌, arith, take_all, lt-ltb, le-ltb}
 use Rattle.prelude.specs.Cases.{if◌then◌otherwise◌}
 use Rattle.prelude.specs.Pieces.{writes}
-use Rattle.prelude.specs.Span.{splice, length_splice, part_splice}
-use Rattle.counted.specs.Counted.{refusing, counting}
+use Rattle.prelude.specs.Span.{splice}
+use Rattle.prelude.specs.Laws.Span.{length_splice, part_splice}
+use Rattle.prelude.specs.Counted.{refusing, counting}
 use Rattle.store.specs.declared.Order.{Order}
 use Rattle.store.specs.Book.{book_of, order_in, order_count, load_order}
 use Rattle.store.specs.Laws.Stored.{length_orders, load_order_in}

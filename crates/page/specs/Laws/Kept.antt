@@ -4,7 +4,7 @@ use Rattle.std.proofs.Common.{sym, subst, ◌∙◌, ⊎_elim, arith, eqb-true, 
 use Rattle.std.proofs.lemmas.Bool.{and_parts, or_cases}
 use Rattle.std.proofs.lemmas.List.{length-map}
 use Rattle.prelude.specs.Below.{all_below}
-use Rattle.prelude.specs.Cases.{clash}
+use Rattle.prelude.specs.Laws.Cases.{clash}
 use Rattle.prelude.specs.Texts.{is_text}
 use Rattle.prelude.specs.declared.Text.{Text}
 use Rattle.format.specs.Codes.{listed, statuses, is_side, is_status}
@@ -15,8 +15,8 @@ use Rattle.store.specs.Laws.Stored.{length_orders}
 use Rattle.format.specs.Codes.{within, alnum_at, is_none, is_name}
 use Rattle.machine.specs.Ranges.{text_within, name_range}
 use Rattle.machine.specs.Rules.{force_range, priced_range, terms_range, filled_rule, rules}
-use Rattle.machine.proofs.Kept.Lift.{book_kept}
-use Rattle.machine.proofs.Kept.Local.{names_kept}
+use Rattle.machine.proofs.Kept.Indexed.{book_kept}
+use Rattle.machine.proofs.Kept.OrderSteps.{names_kept}
 use Rattle.rules.specs.Keeps.{keeps_of}
 use Rattle.page.specs.Page.{Line, line_of, page_of}
 use Rattle.page.specs.Promise.{InRange}

@@ -7,9 +7,12 @@ use Rattle.std.proofs.Math.ListN.{length-map, get_or-replicate, get_or-append, g
 use Rattle.std.proofs.Math.Seq.{drop-append-add}
 use Rattle.std.proofs.lemmas.List.{length-replicate, get_or_at}
 use Rattle.std.specs.List.{concat}
-use Rattle.prelude.specs.Cases.{if◌then◌otherwise◌, split_if, if_true, if_false}
-use Rattle.prelude.specs.Pieces.{Sized, writes, offset, length_joined, writes_joined, piece_at}
-use Rattle.prelude.specs.Span.{span, splice, splice_whole, copy_all}
+use Rattle.prelude.specs.Cases.{if◌then◌otherwise◌}
+use Rattle.prelude.specs.Laws.Cases.{split_if, if_true, if_false}
+use Rattle.prelude.specs.Pieces.{Sized, writes, offset}
+use Rattle.prelude.specs.Laws.Pieces.{length_joined, writes_joined, piece_at}
+use Rattle.prelude.specs.Span.{span, splice}
+use Rattle.prelude.specs.Laws.Span.{splice_whole, copy_all}
 use Rattle.prelude.specs.Texts.{contents}
 use Rattle.prelude.specs.declared.Text.{Text}
 use Rattle.decimal.specs.Decimal.{blank, point, digits_by, digits, low_digits, down, decimal, right, is_digit, written, number_in}

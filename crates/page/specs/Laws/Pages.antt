@@ -3,7 +3,8 @@ use Rattle.std.specs.Prelude.{ℕ, zero, suc, ◌+◌, ◌*◌, ◌≤◌, ◌<�
 use Rattle.std.proofs.Common.{sym, ap, ◌∙◌, append-nil, append_assoc, add-one, arith, length-append, take_at, take-suc, length-take-le}
 use Rattle.std.proofs.Math.Seq.{drop-append-add}
 use Rattle.std.specs.List.{concat}
-use Rattle.prelude.specs.Span.{span, splice, splice_append}
+use Rattle.prelude.specs.Span.{span, splice}
+use Rattle.prelude.specs.Laws.Span.{splice_append}
 use Rattle.page.specs.Page.{Line, line_bytes, page_bytes}
 use Rattle.page.specs.Laws.Line.{Fine, length_line}
 

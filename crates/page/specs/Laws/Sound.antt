@@ -3,7 +3,8 @@
 use Rattle.std.specs.Prelude.{ℕ, ◌+◌, ◌*◌, ◌^◌, ◌≤◌, ◌<◌, ◌≡◌, refl, Bool, true, false, List, length, get_or}
 use Rattle.std.proofs.Common.{sym, ap, ◌∙◌, add-zero, arith, lit≤, subst}
 use Rattle.std.proofs.Math.Decide.{dec_lt}
-use Rattle.prelude.specs.Span.{span, splice, span_span, get_span, span_byte, length_splice, span_splice_same, span_splice_after}
+use Rattle.prelude.specs.Span.{span, splice}
+use Rattle.prelude.specs.Laws.Span.{span_span, get_span, span_byte, length_splice, span_splice_same, span_splice_after}
 use Rattle.prelude.specs.Texts.{contents}
 use Rattle.prelude.specs.declared.Text.{Text}
 use Rattle.decimal.specs.Decimal.{blank, digits, down}

@@ -1,7 +1,7 @@
 -- `places::starts` walks if there is room to count. Assumes nothing.
 use Rattle.std.proofs.Common.{lt-ltb, le-ltb, ◌∙◌, sym, arith, ltb}
 use Rattle.std.proofs.Math.ListN.{get_or-replicate}
-use Rattle.prelude.specs.Cases.{if_true, if_false}
+use Rattle.prelude.specs.Laws.Cases.{if_true, if_false}
 use Rattle.places.specs.Starts.{start_from}
 use Rattle.places.proofs.starts.Goals as goal
 

@@ -4,21 +4,21 @@ use Rattle.std.proofs.lemmas.Bool.{lt-leb}
 use Rattle.prelude.specs.Cases.{if◌then◌otherwise◌}
 use Rattle.records.specs.declared.Messages.{Messages}
 use Rattle.records.specs.declared.Messages.TheVariants.{Nothing, One, Two}
-use Rattle.records.specs.Answer.{head_size, messages_bytes, messages_of}
-use Rattle.records.specs.Laws.Writing.{length_answer, answer_most, answer_splice}
+use Rattle.records.specs.Answer.{head_size, shortest_answer, messages_bytes, messages_of}
+use Rattle.records.specs.Laws.Writing.{length_answer, answer_room, answer_splice}
 use Rattle.records.proofs.write.Goals as goal
 
-two : (ms : Messages) → length (messages_of ms) ≤ 2
-two Nothing = omega arith
-two (One a) = omega arith
-two (Two a b) = omega arith
+room : (ms : Messages) → head_size + length (messages_bytes (messages_of ms)) ≤ shortest_answer
+room ms = answer_room (messages_of ms) (two ms)
+  where
+    two : (ms : Messages) → length (messages_of ms) ≤ 2
+    two Nothing = omega arith
+    two (One a) = omega arith
+    two (Two a b) = omega arith
 
-room : (ms : Messages) → head_size + length (messages_bytes (messages_of ms)) ≤ 1024
-room ms = omega (arith, length_answer 0 0 (messages_of ms), answer_most 0 0 (messages_of ms) (two ms))
-
-pub returns-then-answer-lt1024 : goal.returns-then-answer-lt1024
+pub returns-then-answer-lt-SHORTEST_ANSWER : goal.returns-then-answer-lt-SHORTEST_ANSWER
 unfolding if◌then◌otherwise◌
-returns-then-answer-lt1024 c = rw (lt-leb _ _ c.if-answer-lt1024.true) (refl, refl)
+returns-then-answer-lt-SHORTEST_ANSWER c = rw (lt-leb _ _ c.if-answer-lt-SHORTEST_ANSWER.true) (refl, refl)
 
 pub overflow_cast-result : goal.overflow_cast-result
 overflow_cast-result c = omega (arith, room c.args.read.now.messages, c.put_messages-end.ensures.0)
@@ -29,7 +29,8 @@ returns c =
     let d = c.args.answer.now in
     let r = c.args.read.now in
     let e = c.put_messages-end.ensures in
-    rw (le-leb _ _ c.if-answer-lt1024.false) (
+    rw (le-leb _ _ c.if-answer-lt-SHORTEST_ANSWER.false) (
       e.0 ∙ sym (length_answer r.alarm r.alarm2 (messages_of r.messages)),
-      c.put_head.ensures ∙ (rw (e.1, e.0) (answer_splice d r.alarm r.alarm2 (messages_of r.messages) (omega (arith, room r.messages, c.if-answer-lt1024.false)))),
+      c.put_head.ensures
+          ∙ (rw (e.1, e.0, c.count-count.ensures) (answer_splice d r.alarm r.alarm2 (messages_of r.messages) (omega (arith, room r.messages, c.if-answer-lt-SHORTEST_ANSWER.false)))),
     )

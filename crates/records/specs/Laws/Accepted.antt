@@ -6,13 +6,19 @@ use Rattle.std.proofs.Math.Decide.{dec_lt, dec_le, ℕ_discrete}
 use Rattle.std.proofs.Math.Nat.{min-eq_left}
 use Rattle.std.proofs.lemmas.Bool.{and_parts, and_from, or_cases}
 use Rattle.std.proofs.lemmas.List.{length-replicate, get_or-replicate, take-append-le}
-use Rattle.prelude.specs.Cases.{if◌then◌otherwise◌, if_true, if_false, clash}
-use Rattle.prelude.specs.Below.{all_below, all_elim, all_intro}
-use Rattle.prelude.specs.Lists.{list_below, get_list}
-use Rattle.prelude.specs.Span.{span, span_cons, length_span, span_join}
-use Rattle.prelude.specs.Number.{number, bytes_of, bound, Bytes, bytes_number, number_bound, word32_number}
-use Rattle.prelude.specs.Texts.{text_of, long_text, contents_text, is_text_lem}
-use Rattle.prelude.specs.Bytes.{bytes_span, bytes_take, bytes_drop}
+use Rattle.prelude.specs.Cases.{if◌then◌otherwise◌}
+use Rattle.prelude.specs.Laws.Cases.{if_true, if_false, clash}
+use Rattle.prelude.specs.Below.{all_below}
+use Rattle.prelude.specs.Laws.Below.{all_elim, all_intro}
+use Rattle.prelude.specs.Lists.{list_below}
+use Rattle.prelude.specs.Laws.Lists.{get_list}
+use Rattle.prelude.specs.Span.{span}
+use Rattle.prelude.specs.Laws.Span.{span_cons, length_span, span_join}
+use Rattle.prelude.specs.Number.{number, bytes_of, bound, Bytes}
+use Rattle.prelude.specs.Laws.Number.{bytes_number, number_bound, word32_number}
+use Rattle.prelude.specs.Texts.{text_of}
+use Rattle.prelude.specs.Laws.Texts.{long_text, contents_text, is_text_lem}
+use Rattle.prelude.specs.Laws.Bytes.{bytes_span, bytes_take, bytes_drop}
 use Rattle.bits.specs.Map.{bit}
 use Rattle.format.specs.Format.{size, range, fields, is_text_bit, in_range}
 use Rattle.format.specs.Places.{extent, start, strip, part, content, value, kind_at, map_at, end_of, shaped, right_at}

@@ -4,7 +4,8 @@ use Rattle.std.proofs.Common.{sym, ap, ◌∙◌, append-nil, append_assoc, arit
 use Rattle.std.proofs.Math.ListN.{get_or-append}
 use Rattle.std.proofs.lemmas.Bool.{and_parts, and_from}
 use Rattle.prelude.specs.Cases.{if◌then◌otherwise◌}
-use Rattle.prelude.specs.Span.{splice, length_splice, span_splice_same}
+use Rattle.prelude.specs.Span.{splice}
+use Rattle.prelude.specs.Laws.Span.{length_splice, span_splice_same}
 use Rattle.format.specs.Places.{end_of}
 use Rattle.records.specs.declared.Record.{Record}
 use Rattle.records.specs.Record.{record_bytes, is_record, is_message, message_of}

@@ -2,9 +2,11 @@
 use Rattle.std.specs.Prelude.{ℕ, ◌+◌, ◌≤◌, ◌<◌, min, ◌≡◌, List, Bool, ◌&&◌, ◌||◌, leb, length, get_or, refl, true, false, eqb, ltb}
 use Rattle.std.proofs.Common.{◌∙◌, arith, lit<, leb-true, eq-eqb, le-leb, lt-ltb}
 use Rattle.std.proofs.lemmas.Bool.{and_parts, and_from}
-use Rattle.prelude.specs.Cases.{if◌then◌otherwise◌, if_true, if_false, clash}
-use Rattle.prelude.specs.Below.{all_intro}
-use Rattle.prelude.specs.Number.{bound, Bytes, bound_le}
+use Rattle.prelude.specs.Cases.{if◌then◌otherwise◌}
+use Rattle.prelude.specs.Laws.Cases.{if_true, if_false, clash}
+use Rattle.prelude.specs.Laws.Below.{all_intro}
+use Rattle.prelude.specs.Number.{bound, Bytes}
+use Rattle.prelude.specs.Laws.Number.{bound_le}
 use Rattle.prelude.specs.declared.Text.{Text}
 use Rattle.bits.specs.Map.{bit, contains}
 use Rattle.bits.specs.Laws.Map.{contains_bit}

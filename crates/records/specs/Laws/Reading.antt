@@ -3,11 +3,14 @@ use Rattle.std.specs.Prelude.{ℕ, suc, ◌+◌, ◌-◌, ◌≤◌, ◌<◌, mi
 use Rattle.std.proofs.Common.{sym, ap, ◌∙◌, arith, lit<, length-take, leb-true, le-leb, eq-eqb, ne_eqb, length-drop}
 use Rattle.std.proofs.lemmas.Bool.{lt-leb, and_parts}
 use Rattle.records.specs.Laws.Seen.{Shapes, Scanned, Numbered, Short, Narrow, built_from}
-use Rattle.prelude.specs.Cases.{if◌then◌otherwise◌, if_false}
-use Rattle.prelude.specs.Below.{all_below, all_elim, all_ext}
-use Rattle.prelude.specs.Number.{number, bound, Bytes, number_bound, bound_le}
+use Rattle.prelude.specs.Cases.{if◌then◌otherwise◌}
+use Rattle.prelude.specs.Laws.Cases.{if_false}
+use Rattle.prelude.specs.Below.{all_below}
+use Rattle.prelude.specs.Laws.Below.{all_elim, all_ext}
+use Rattle.prelude.specs.Number.{number, bound, Bytes}
+use Rattle.prelude.specs.Laws.Number.{number_bound, bound_le}
 use Rattle.prelude.specs.Texts.{text_of}
-use Rattle.prelude.specs.Bytes.{bytes_span, bytes_take}
+use Rattle.prelude.specs.Laws.Bytes.{bytes_span, bytes_take}
 use Rattle.bits.specs.Map.{bit}
 use Rattle.format.specs.Codes.{within}
 use Rattle.format.specs.Format.{size, range, fields, is_text_bit, in_range, bits_right}

@@ -6,9 +6,12 @@ use Rattle.std.proofs.Math.ListN.{get_or-append}
 use Rattle.std.proofs.lemmas.Bool.{and_parts, or_cases}
 use Rattle.std.proofs.lemmas.List.{length-replicate, get_or-replicate}
 use Rattle.prelude.specs.Cases.{if◌then◌otherwise◌}
-use Rattle.prelude.specs.Below.{all_below, all_elim}
-use Rattle.prelude.specs.Number.{number, bytes_of, bound, length_bytes, number_bytes}
-use Rattle.prelude.specs.Texts.{contents, text_of, is_text, text_contents}
+use Rattle.prelude.specs.Below.{all_below}
+use Rattle.prelude.specs.Laws.Below.{all_elim}
+use Rattle.prelude.specs.Number.{number, bytes_of, bound}
+use Rattle.prelude.specs.Laws.Number.{length_bytes, number_bytes}
+use Rattle.prelude.specs.Texts.{contents, text_of, is_text}
+use Rattle.prelude.specs.Laws.Texts.{text_contents}
 use Rattle.prelude.specs.declared.Text.{Text}
 use Rattle.bits.specs.Map.{bit}
 use Rattle.format.specs.Format.{size, range, in_range, bits_right}

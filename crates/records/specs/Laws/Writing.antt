@@ -2,9 +2,12 @@
 use Rattle.std.specs.Prelude.{ℕ, zero, suc, ◌+◌, ◌*◌, ◌-◌, ◌≤◌, ◌<◌, min, ◌≡◌, List, [], ◌∷◌, ◌++◌, Bool, true, false, eqb, length, get_or, take, set, refl}
 use Rattle.std.proofs.Common.{ap, sym, ◌∙◌, append-nil, length-append, length-take, take_all, take-take, length-take-le, arith, eq-eqb, ne_eqb}
 use Rattle.std.proofs.Math.Nat.{min-eq_left, min-eq_right}
-use Rattle.prelude.specs.Cases.{if◌then◌otherwise◌, if_false}
-use Rattle.prelude.specs.Span.{splice, splice_append, splice_before, set_splice}
-use Rattle.prelude.specs.Number.{bytes_of, length_bytes}
+use Rattle.prelude.specs.Cases.{if◌then◌otherwise◌}
+use Rattle.prelude.specs.Laws.Cases.{if_false}
+use Rattle.prelude.specs.Span.{splice}
+use Rattle.prelude.specs.Laws.Span.{splice_append, splice_before, set_splice}
+use Rattle.prelude.specs.Number.{bytes_of}
+use Rattle.prelude.specs.Laws.Number.{length_bytes}
 use Rattle.prelude.specs.Texts.{contents}
 use Rattle.bits.specs.Map.{bit}
 use Rattle.format.specs.Format.{size, fields, is_text_bit}
@@ -14,7 +17,7 @@ use Rattle.records.specs.declared.Ids.{Ids}
 use Rattle.records.specs.declared.Record.{Record}
 use Rattle.records.specs.Fields.{numbers_of, high_of, text_by, short_bytes, long_bytes, spelled, words, held_by, held}
 use Rattle.records.specs.Record.{record_bytes}
-use Rattle.records.specs.Answer.{head_size, most_record, most_answer, messages_bytes, head_bytes, answer_bytes}
+use Rattle.records.specs.Answer.{head_size, shortest_answer, most_record, most_answer, messages_bytes, head_bytes, answer_bytes, chosen}
 
 -- ---- texts in their room
 
@@ -139,6 +142,18 @@ messages_most (m ∷ ms) (suc n) h = simp length-append (omega (arith, record_mo
 pub answer_most : (alarm alarm2 : ℕ) (ms : List Record) → length ms ≤ 2 → length (answer_bytes alarm alarm2 ms) ≤ most_answer
 answer_most alarm alarm2 ms h = omega (arith, length_answer alarm alarm2 ms, messages_most ms 2 h)
 
+-- so the shortest buffer has room for one
+pub answer_room : (ms : List Record) → length ms ≤ 2 → head_size + length (messages_bytes ms) ≤ shortest_answer
+answer_room ms h = omega (arith, length_answer 0 0 ms, answer_most 0 0 ms h)
+
+-- how many a count chooses
+pub length_chosen : (count : ℕ) (first second : Record) → length (chosen count first second) ≡ min count 2
+unfolding if◌then◌otherwise◌
+length_chosen zero a b = refl
+length_chosen (suc zero) a b = refl
+length_chosen (suc (suc n)) a b =
+    rw (ne_eqb (suc (suc n)) 0 (λ e. absurd (omega arith)), ne_eqb (suc (suc n)) 1 (λ e. absurd (omega arith))) (sym (min-eq_right (omega arith)))
+
 -- the messages written, then the head before them
 pub answer_splice : (d : List ℕ) (alarm alarm2 : ℕ) (ms : List Record) → head_size + length (messages_bytes ms) ≤ length d
     → splice (splice d head_size (messages_bytes ms)) 0 (head_bytes (head_size + length (messages_bytes ms)) (length ms) alarm alarm2) ≡ splice d 0 (answer_bytes alarm alarm2 ms)
@@ -148,37 +163,3 @@ answer_splice d alarm alarm2 ms h =
     let e : length w ≡ head_size = length_head (head_size + length (messages_bytes ms)) (length ms) alarm alarm2 in
     let z : head_size ≡ 0 + length w = omega arith in
     ap (λ (k : ℕ). splice (splice d k (messages_bytes ms)) 0 w) z ∙ splice_before d 0 w (messages_bytes ms) (omega arith)
-
-module _ (d : List ℕ) (alarm alarm2 : ℕ) (room : 1024 ≤ length d) where
-  -- no message
-  pub none_splice : splice d 0 (head_bytes head_size 0 alarm alarm2) ≡ splice d 0 (answer_bytes alarm alarm2 [])
-  unfolding answer_bytes
-  none_splice = ap (splice d 0) (sym (append-nil (head_bytes head_size 0 alarm alarm2)))
-
-  module _ (a : Record) (p : ℕ) (pe : p ≡ head_size + length (record_bytes a)) where
-    length_one : p ≡ head_size + length (messages_bytes (a ∷ []))
-    length_one = simp append-nil pe
-
-    pub one_length : p ≡ length (answer_bytes alarm alarm2 (a ∷ []))
-    one_length = length_one ∙ sym (length_answer alarm alarm2 (a ∷ []))
-
-    -- one message
-    pub one_splice : splice (splice d head_size (record_bytes a)) 0 (head_bytes p 1 alarm alarm2) ≡ splice d 0 (answer_bytes alarm alarm2 (a ∷ []))
-    one_splice =
-        let n : record_bytes a ≡ messages_bytes (a ∷ []) = sym (append-nil (record_bytes a)) in
-        rw (n, length_one) (answer_splice d alarm alarm2 (a ∷ []) (omega (arith, messages_most (a ∷ []) 1 (omega arith))))
-
-    module _ (b : Record) (q : ℕ) (qe : q ≡ p + length (record_bytes b)) where
-      length_two : q ≡ head_size + length (messages_bytes (a ∷ b ∷ []))
-      length_two = simp (append-nil, length-append) (omega arith)
-
-      pub two_length : q ≡ length (answer_bytes alarm alarm2 (a ∷ b ∷ []))
-      two_length = length_two ∙ sym (length_answer alarm alarm2 (a ∷ b ∷ []))
-
-      -- two messages
-      pub two_splice : splice (splice (splice d head_size (record_bytes a)) p (record_bytes b)) 0 (head_bytes q 2 alarm alarm2) ≡ splice d 0 (answer_bytes alarm alarm2 (a ∷ b ∷ []))
-      two_splice =
-          let n : record_bytes a ++ record_bytes b ≡ messages_bytes (a ∷ b ∷ []) = ap (λ (l : List ℕ). record_bytes a ++ l) (sym (append-nil (record_bytes b))) in
-          let j : splice (splice d head_size (record_bytes a)) p (record_bytes b) ≡ splice d head_size (record_bytes a ++ record_bytes b) =
-          rw pe (splice_append d head_size (record_bytes a) (record_bytes b) (omega (arith, record_most a))) in
-          rw (j, n, length_two) (answer_splice d alarm alarm2 (a ∷ b ∷ []) (omega (arith, messages_most (a ∷ b ∷ []) 2 (omega arith))))

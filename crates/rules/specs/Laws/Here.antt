@@ -5,8 +5,10 @@ use Rattle.std.proofs.Common.{ap, ◌∙◌, arith, ltb-true, leb-true, lt-ltb, 
 use Rattle.std.proofs.Math.Bool.{and_assoc}
 use Rattle.std.proofs.lemmas.Bool.{lt-leb, eqb-false, and_parts}
 use Rattle.std.specs.Bool.{beq}
-use Rattle.prelude.specs.Below.{all_below, count_below, all_ext, all_elim, count_ext}
-use Rattle.prelude.specs.Cases.{if◌then◌otherwise◌, clash}
+use Rattle.prelude.specs.Below.{all_below, count_below}
+use Rattle.prelude.specs.Laws.Below.{all_ext, all_elim, count_ext}
+use Rattle.prelude.specs.Cases.{if◌then◌otherwise◌}
+use Rattle.prelude.specs.Laws.Cases.{clash}
 use Rattle.prelude.specs.Texts.{same_text, filled_at, is_text}
 use Rattle.prelude.specs.declared.Text.{Text}
 use Rattle.store.specs.declared.Order.{Order}
@@ -38,7 +40,7 @@ optional_at b m test i link = link == 0 || linked_at b m test i link
 abbrev pub of_order_at : List ℕ → ℕ → ℕ → Bool
 of_order_at b i j = (request_at b j).order == i
 
--- its counts and its status, where it has that many requests
+-- its counts and its status, if it has that many requests
 unfoldable pub counts_at : List ℕ → (count : ℕ) → ℕ → Bool
 counts_at b count i =
     let o = order_at b i in
@@ -69,7 +71,7 @@ unfoldable pub sent_rule : (link : ℕ) → Order → Bool
 sent_rule link o =
     is_done o.state.status || (o.links.cancel == link && nat_lt 0 o.gateway.tries && not o.gateway.unsent && not o.gateway.stuck)
 
--- a request's rules but for its OrigClOrdID, where it is of order o, and the k-th of it
+-- a request's rules but for its OrigClOrdID, if it is the k-th of order o
 unfoldable pub request_here : List ℕ → ℕ → ℕ → ℕ → Bool
 request_here b j o k =
     request_range (request_at b j) && outcome_rule (request_at b j) && number_rule (order_at b o).names.name k (request_at b j)
@@ -92,7 +94,7 @@ module _ (b : List ℕ) (n j o : ℕ) (e : (request_at b j).order ≡ o) where
   unfolding request_rule_at
   rule_booked k h c = rw (e, lt-ltb _ _ h, ← c)
 
--- what the pass over the requests tells where they keep their rules
+-- what the pass over the requests gives if they keep their rules
 pub record IsPass (b : List ℕ) (n m : ℕ) (next : List ℕ) : Type 0 where
   pub right : all_below (pass_at b n) m ≡ true
   pub counted : (o : ℕ) → o < most_orders → slice_index next o ≡ count_below (of_order_at b o) m
@@ -119,7 +121,7 @@ range_name b m i h = go (name_range (order_at b i).names.name) refl
     go true e = e
     go false e = clash false (rw e at h) refl
 
--- a text that is there or absent, by its length
+-- a text that may be absent, by its length
 pub optional_text : (t : Text) (absent : Bool) → is_text t && beq (t.len == 0) absent ≡ (if absent then text_within 0 0 t otherwise text_within 1 32 t)
 unfolding text_within is_text if◌then◌otherwise◌
 optional_text t absent = go (nat_le t.len 32) (all_below (filled_at t) 32) (t.len == 0) absent refl refl refl
@@ -145,7 +147,7 @@ optional_text t absent = go (nat_le t.len 32) (all_below (filled_at t) 32) (t.le
         let z : 1 ≤ t.len = let n : t.len ≡ 0 → ⊥ = eqb-false _ _ f in omega arith in
         rw (d, e, f, le-leb 1 t.len z)
 
--- just number 0 is a first request, as it is decided
+-- number 0 of an order, and no other, is a first request, as it is decided
 pub number_kind : (first : Bool) (n : ℕ) → (if first then (n == 0) otherwise nat_lt 0 n) ≡ beq first (n == 0)
 unfolding if◌then◌otherwise◌
 number_kind first n = go first (n == 0) refl

@@ -1,4 +1,4 @@
--- A request's fields as they are decided in one pass: an OrigClOrdID that is there needs no range of its own, since the ClOrdID that it is the same as is in
+-- A request's fields as they are decided in one pass: an OrigClOrdID needs no check of its range, since it equals a ClOrdID that is in
 -- range. Rests on Beside and Here.
 use Rattle.std.specs.Prelude.{◌≡◌, ℕ, ◌+◌, ◌-◌, ◌<◌, Bool, true, false, ◌&&◌, ◌||◌, List, length, ◌==◌, nat_le, nat_lt, refl}
 use Rattle.std.proofs.Common.{sym, ◌∙◌, arith, ap, subst, eq-eqb, ne_eqb, ltb-true, leb-true}
@@ -7,8 +7,9 @@ use Rattle.std.proofs.lemmas.Bool.{and_parts}
 use Rattle.std.specs.Bool.{beq}
 use Rattle.prelude.specs.Below.{count_below}
 use Rattle.prelude.specs.Cases.{if◌then◌otherwise◌}
-use Rattle.prelude.specs.Span.{length_span}
-use Rattle.prelude.specs.Texts.{is_text, same_text, same_text_lem}
+use Rattle.prelude.specs.Laws.Span.{length_span}
+use Rattle.prelude.specs.Texts.{is_text, same_text}
+use Rattle.prelude.specs.Laws.Texts.{same_text_lem}
 use Rattle.prelude.specs.declared.Text.{Text}
 use Rattle.store.specs.declared.Request.{Request}
 use Rattle.store.specs.Layout.{book_size, most_requests, request_base, request·clordid, request·origclordid}
@@ -21,7 +22,7 @@ use Rattle.machine.specs.Rules.{request_range, outcome_rule, number_rule, in_fli
 use Rattle.rules.specs.Laws.Beside.{link_at, beside_at}
 use Rattle.rules.specs.Laws.Here.{of_order_at, request_here, request_rule_at, pass_at, optional_text}
 
--- a text that is there exactly where it is not absent
+-- a text is empty exactly if it is to be absent
 abbrev pub or_absent : (absent : Bool) → Text → Bool
 or_absent absent t = if absent then text_within 0 0 t otherwise text_within 1 32 t
 
@@ -51,7 +52,7 @@ request_parts b j o k =
     (outcome_rule (request_at b j)) (number_rule (order_at b o).names.name k (request_at b j)) (in_flight_rule (j + 1) (request_at b j) (order_at b o))
     (is_empty (request_at b j).origclordid || link_at b j (origin_at b j))
 
--- ---- an OrigClOrdID by its length, where l is what its link says
+-- ---- an OrigClOrdID by its length; l is what its link says
 
 module _ (t : Text) where
   pub origin_empty : (absent l : Bool) → t.len ≡ 0 → is_text t && absent ≡ or_absent absent t && (is_empty t || l)

@@ -5,11 +5,14 @@ use Rattle.std.proofs.Math.Bool.{and-true, and-false, and_assoc}
 use Rattle.std.proofs.Math.Decide.{dec_lt}
 use Rattle.std.proofs.lemmas.Bool.{and_parts, and_from}
 use Rattle.std.specs.Cmp.{both_ways}
-use Rattle.prelude.specs.Below.{all_below, all_intro, all_elim}
-use Rattle.prelude.specs.Number.{Bytes, number, word64, word64_number}
-use Rattle.prelude.specs.Span.{span, length_span, get_span}
+use Rattle.prelude.specs.Below.{all_below}
+use Rattle.prelude.specs.Laws.Below.{all_intro, all_elim}
+use Rattle.prelude.specs.Number.{Bytes, number, word64}
+use Rattle.prelude.specs.Laws.Number.{word64_number}
+use Rattle.prelude.specs.Span.{span}
+use Rattle.prelude.specs.Laws.Span.{length_span, get_span}
 use Rattle.prelude.specs.Texts.{text_at, same_text, filled_at, is_text}
-use Rattle.prelude.specs.Bytes.{bytes_span}
+use Rattle.prelude.specs.Laws.Bytes.{bytes_span}
 use Rattle.prelude.specs.declared.Text.{Text}
 use Rattle.text.specs.Laws.ByWords.{word_in, word_first, same_words}
 
@@ -19,7 +22,7 @@ words_agree s x y =
     (word64 s x == word64 s y) && word64 s (x + 8) == word64 s (y + 8) && word64 s (x + 16) == word64 s (y + 16)
     && word64 s (x + 24) == word64 s (y + 24)
 
--- two words agree, as they are looked at
+-- two words agree, as the code compares them
 abbrev pub pair_agrees : List ℕ → ℕ → ℕ → Bool
 pair_agrees s x y = (word64 s x == word64 s y) && word64 s (x + 8) == word64 s (y + 8)
 
@@ -48,7 +51,7 @@ module _ (s : List ℕ) (bytes : Bytes s) (x y : ℕ) (hx : x + 33 ≤ length s)
 abbrev pub zero_at : List ℕ → ℕ → ℕ → Bool
 zero_at s at k = slice_index s (at + k) == 0
 
--- a number is 0 exactly where its bytes are
+-- a number is 0 exactly if its bytes are
 zero_byte : (l : List ℕ) → number l ≡ 0 → (k : ℕ) → slice_index l k ≡ 0
 zero_byte [] e k = refl
 zero_byte (b ∷ bs) e zero = omega arith

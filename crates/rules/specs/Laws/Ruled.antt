@@ -3,8 +3,9 @@ use Rattle.std.specs.Prelude.{◌≡◌, ℕ, ◌<◌, ◌≤◌, min, Bool, tru
 use Rattle.std.proofs.Common.{sym, ap, ap₂, ◌∙◌, arith, eqb-true, leb-true, eq-eqb, le-leb}
 use Rattle.std.proofs.Math.Bool.{and-true, and-false}
 use Rattle.std.proofs.lemmas.Bool.{not-true, and_parts}
-use Rattle.prelude.specs.Below.{all_below, all_elim, all_ext, all_both}
-use Rattle.prelude.specs.Cases.{if_true}
+use Rattle.prelude.specs.Below.{all_below}
+use Rattle.prelude.specs.Laws.Below.{all_elim, all_ext, all_both}
+use Rattle.prelude.specs.Laws.Cases.{if_true}
 use Rattle.prelude.specs.Number.{word16}
 use Rattle.store.specs.Layout.{book_size, header·orders, header·requests, most_orders, most_requests}
 use Rattle.store.specs.Book.{is_book, book_of, request_in, count_at, order_count, request_count}
@@ -76,7 +77,7 @@ turn true false false g n k k' t t' f h = refl
 turn false l r g n k k' t t' f h = refl
 
 module _ (b : List ℕ) where
-  -- where the requests keep their other rules, and their ClOrdIDs are distinct
+  -- if the requests keep their other rules, and their ClOrdIDs are distinct
   links_decided : all_below (request_rule_at b (order_count b)) (request_count b) ≡ true → all_below (key_rule (book_of b)) (request_count b) ≡ true
       → all_below (origin_rule (book_of b).requests) (request_count b) && all_below (link_right b) (request_count b) ≡ all_below (beside_at b) (request_count b)
   links_decided e k =
@@ -118,7 +119,7 @@ module _ (b : List ℕ) where
       (λ e. all_ext (key_rule (book_of b)) (clear_at b true) m (λ i h. key_here b e i h ∙ all_ext _ _ i (λ j k. ap not (same_keyed b i j))))
       links_decided)
 
--- with counts in range, it keeps its rules, and its OrigClOrdIDs' links are right, where it is decided so
+-- if its counts are in range, the decision is right: it keeps its rules, and its OrigClOrdIDs' links are right
 pub kept : (b : List ℕ) (n m : ℕ) → length b ≡ book_size → n ≡ word16 b header·orders → n ≤ most_orders → m ≡ word16 b header·requests → m ≤ most_requests
     → ruled_of b && links_right b ≡ decided b n m
 unfolding ruled_of

@@ -4,11 +4,15 @@ use Rattle.std.proofs.Common.{sym, ap, ap₂, subst, ◌∙◌, mul_assoc, add-o
 use Rattle.std.proofs.Math.Decide.{dec_lt}
 use Rattle.std.proofs.lemmas.Bool.{and_parts, and_from}
 use Rattle.std.specs.Cmp.{both_ways}
-use Rattle.prelude.specs.Below.{all_below, all_intro, all_elim}
-use Rattle.prelude.specs.Number.{Bytes, number, bytes_of, bound, word64, word64_number, bytes_number, number_bytes, length_bytes}
-use Rattle.prelude.specs.Span.{span, length_span, get_span, span_join}
-use Rattle.prelude.specs.Texts.{text_at, same_text, same_text_lem, same_self, is_text, contents, text_of, text_contents}
-use Rattle.prelude.specs.Bytes.{bytes_span}
+use Rattle.prelude.specs.Below.{all_below}
+use Rattle.prelude.specs.Laws.Below.{all_intro, all_elim}
+use Rattle.prelude.specs.Number.{Bytes, number, bytes_of, bound, word64}
+use Rattle.prelude.specs.Laws.Number.{word64_number, bytes_number, number_bytes, length_bytes}
+use Rattle.prelude.specs.Span.{span}
+use Rattle.prelude.specs.Laws.Span.{length_span, get_span, span_join}
+use Rattle.prelude.specs.Texts.{text_at, same_text, is_text, contents, text_of}
+use Rattle.prelude.specs.Laws.Texts.{same_text_lem, same_self, text_contents}
+use Rattle.prelude.specs.Laws.Bytes.{bytes_span}
 use Rattle.prelude.specs.declared.Text.{Text}
 use Rattle.text.specs.Numbered.{decimal, numbered_text}
 use Rattle.text.specs.Laws.ByWords.{word_span}

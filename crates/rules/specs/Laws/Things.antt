@@ -1,11 +1,13 @@
--- What is to be distinct: the ClOrdIDs of the requests, each with its client, where `keyed`; else the names of the orders. Rests on Here, Places and Spread.
+-- What is to be distinct: the ClOrdIDs of the requests, each with its client, if `keyed`; else the names of the orders. Rests on Here, Places and Spread.
 use Rattle.std.specs.Prelude.{◌≡◌, ℕ, ◌+◌, ◌<◌, ◌≤◌, Bool, true, false, not, ◌&&◌, List, length, ◌==◌, ◌≢◌, nat_lt, refl}
 use Rattle.std.proofs.Common.{sym, ap, ◌∙◌, ap₂, arith, eqb-true, ltb-true, lt-ltb}
 use Rattle.std.proofs.lemmas.Bool.{and_parts, and_from}
-use Rattle.prelude.specs.Below.{all_below, all_intro, all_elim, all_both}
+use Rattle.prelude.specs.Below.{all_below}
+use Rattle.prelude.specs.Laws.Below.{all_intro, all_elim, all_both}
 use Rattle.prelude.specs.Cases.{if◌then◌otherwise◌}
-use Rattle.prelude.specs.Span.{length_span}
-use Rattle.prelude.specs.Texts.{text_at, same_text, same_text_lem}
+use Rattle.prelude.specs.Laws.Span.{length_span}
+use Rattle.prelude.specs.Texts.{text_at, same_text}
+use Rattle.prelude.specs.Laws.Texts.{same_text_lem}
 use Rattle.prelude.specs.declared.Text.{Text}
 use Rattle.store.specs.Layout.{book_size, most_orders, most_requests, order_base, request_base, names·name, request·clordid}
 use Rattle.store.specs.Book.{order_at, request_at}
@@ -20,12 +22,12 @@ use Rattle.rules.specs.Laws.Spread.{other, fresh}
 unfoldable pub placed : List ℕ → Bool → ℕ → Bool
 placed b keyed i = if keyed then nat_lt i most_requests && nat_lt (request_at b i).order most_orders otherwise nat_lt i most_orders
 
--- the text of a thing, its place, and its client, which is 0 where the thing is an order
+-- the text of a thing, its position, and its client, which is 0 if the thing is an order
 unfoldable pub text_in : List ℕ → Bool → ℕ → Text
 text_in b keyed i = if keyed then (request_at b i).clordid otherwise (order_at b i).names.name
 
-unfoldable pub place_of : Bool → ℕ → ℕ
-place_of keyed i = if keyed then request_base i + request·clordid otherwise order_base i + names·name
+unfoldable pub position_of : Bool → ℕ → ℕ
+position_of keyed i = if keyed then request_base i + request·clordid otherwise order_base i + names·name
 
 unfoldable pub client_in : List ℕ → Bool → ℕ → ℕ
 client_in b keyed i = if keyed then client_at b i otherwise 0
@@ -55,7 +57,7 @@ clear_at b keyed i = all_below (apart_at b keyed i) i
 unfoldable pub cell_of : List ℕ → Bool → ℕ → ℕ
 cell_of b keyed i = cell (client_in b keyed i) (text_in b keyed i)
 
--- ---- what a place says
+-- ---- what `placed` says
 
 module _ (b : List ℕ) (i : ℕ) where
   pub placed_key : placed b true i ≡ true → (i < most_requests) × ((request_at b i).order < most_orders)
@@ -70,13 +72,13 @@ module _ (b : List ℕ) (i : ℕ) where
   placed_most true e = (placed_key e).0
   placed_most false e = let h : i < most_orders = placed_name e in omega arith
 
-  pub place_fits : (keyed : Bool) → placed b keyed i ≡ true → place_of keyed i + 33 ≤ book_size
-  unfolding place_of if◌then◌otherwise◌
-  place_fits true e = let h : i < most_requests = (placed_key e).0 in omega arith
-  place_fits false e = let h : i < most_orders = placed_name e in omega arith
+  pub position_fits : (keyed : Bool) → placed b keyed i ≡ true → position_of keyed i + 33 ≤ book_size
+  unfolding position_of if◌then◌otherwise◌
+  position_fits true e = let h : i < most_requests = (placed_key e).0 in omega arith
+  position_fits false e = let h : i < most_orders = placed_name e in omega arith
 
-  pub text_in_lem : (keyed : Bool) → text_in b keyed i ≡ text_at b (place_of keyed i)
-  unfolding text_in place_of if◌then◌otherwise◌
+  pub text_in_lem : (keyed : Bool) → text_in b keyed i ≡ text_at b (position_of keyed i)
+  unfolding text_in position_of if◌then◌otherwise◌
   text_in_lem true = request_clordid b i
   text_in_lem false = names_name b i
 
@@ -105,7 +107,7 @@ same_named b i j = refl
 
 module _ (b : List ℕ) (l : length b ≡ book_size) where
   length_in_lem : (keyed : Bool) (i : ℕ) → placed b keyed i ≡ true → length (text_in b keyed i).bytes ≡ 32
-  length_in_lem keyed i e = ap (λ (t : Text). length t.bytes) (text_in_lem b i keyed) ∙ length_span b (place_of keyed i) 32 (omega (arith, place_fits b i keyed e))
+  length_in_lem keyed i e = ap (λ (t : Text). length t.bytes) (text_in_lem b i keyed) ∙ length_span b (position_of keyed i) 32 (omega (arith, position_fits b i keyed e))
 
   same_cell : (keyed : Bool) (i j : ℕ) → placed b keyed i ≡ true → placed b keyed j ≡ true → same_at b keyed i j ≡ true → cell_of b keyed i ≡ cell_of b keyed j
   unfolding same_at cell_of

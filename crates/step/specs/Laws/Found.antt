@@ -3,7 +3,7 @@ use Rattle.std.specs.Prelude.{◌≡◌, false, List, ℕ, ◌≤◌, ◌<◌, �
 use Rattle.std.proofs.Common.{sym, ap, ◌∙◌, arith}
 use Rattle.std.proofs.Math.Decide.{dec_lt}
 use Rattle.std.proofs.Math.ListN.{get_or-eq_default}
-use Rattle.prelude.specs.Below.{first_some}
+use Rattle.prelude.specs.Laws.Below.{first_some}
 use Rattle.prelude.specs.Cases.{maybe}
 use Rattle.prelude.specs.declared.Text.{Text}
 use Rattle.store.specs.declared.Request.{Request}
@@ -17,7 +17,7 @@ use Rattle.machine.specs.Machine.{order_of, unused}
 use Rattle.step.specs.Steps.{has_room_for}
 use Rattle.rules.specs.Keeps.{keeps_of}
 use Rattle.rules.specs.Laws.Keeps.{keeps_held}
-use Rattle.machine.proofs.Kept.Lift.{book_kept}
+use Rattle.machine.proofs.Kept.Indexed.{book_kept}
 
 module _ {A : Type 0} (d : A) (f : ℕ → A) (x : Option ℕ) where
   pub found_some : (k : ℕ) → x ≡ Some k → f k ≡ maybe d f x

@@ -1,6 +1,7 @@
 -- What the handling makes of an event that is not refused is a change that is taken. Rests on Steps and machine's Machine.
 use Rattle.std.specs.Prelude.{ℕ, ◌≡◌, refl, Bool, eqb, false}
-use Rattle.prelude.specs.Cases.{if◌then◌otherwise◌, split_if, split_maybe}
+use Rattle.prelude.specs.Cases.{if◌then◌otherwise◌}
+use Rattle.prelude.specs.Laws.Cases.{split_if, split_maybe}
 use Rattle.prelude.specs.declared.Refusal.{Refusal}
 use Rattle.prelude.specs.declared.Refusal.TheVariants.{BadBook, ShortAnswer, BadRecord, OutOfRange, InUse, WrongPrice, FullBook, ShortPage, BadText, NoRoom, ShortNet, ShortList, BadName, NoMark, NoPlace}
 use Rattle.prelude.specs.Refusal.{number_of}

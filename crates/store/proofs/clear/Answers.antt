@@ -1,4 +1,4 @@
--- `clear` meets its contract: zeros, and the setting. Assumes nothing.
+-- `clear` meets its contract: it leaves zeros, and the setting. Assumes nothing.
 use Rattle.std.proofs.Common.{ℕ, ap, eq-eqb, ne_eqb}
 use Rattle.prelude.specs.Cases.{if◌then◌otherwise◌}
 use Rattle.prelude.specs.Number.{bytes_of}

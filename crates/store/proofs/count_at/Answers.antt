@@ -1,4 +1,4 @@
--- `count_at` meets its contract: the number in its place, at most `most`. Rests on Loaded.
+-- `count_at` meets its contract: it gives the number at its index, and at most `most`. Rests on Loaded.
 use Rattle.std.proofs.Common.{◌≡◌, ℕ, List, min, rules, ap, ◌∙◌}
 use Rattle.prelude.specs.Number.{word16}
 use Rattle.store.specs.Book.{count_at}

@@ -1,4 +1,4 @@
--- `load_open` meets its contract: the word in its place, or 0. Rests on Loaded.
+-- `load_open` meets its contract: it gives the word at its index, or 0. Rests on Loaded.
 use Rattle.std.proofs.Common.{◌≡◌, ℕ, List, rules, ap, ◌∙◌, add-zero, arith, tests}
 use Rattle.prelude.specs.Number.{word64}
 use Rattle.words.specs.Laws.Windows.{within_64}

@@ -1,4 +1,4 @@
--- `load_order` meets its contract: the order in its place, or that of zeros. Rests on Loaded.
+-- `load_order` meets its contract: it gives the order of its record, or that of zeros. Rests on Loaded.
 use Rattle.std.proofs.Common.{ap, ◌∙◌}
 use Rattle.store.specs.Orders.{decode_order}
 use Rattle.store.specs.Book.{load_order, order_at}

@@ -1,4 +1,4 @@
--- `load_origin` meets its contract: the number in its place, or 0. Rests on Loaded.
+-- `load_origin` meets its contract: it gives the number at its index, or 0. Rests on Loaded.
 use Rattle.std.proofs.Common.{◌≡◌, ℕ, List, rules, ap, ◌∙◌, arith}
 use Rattle.prelude.specs.Number.{word16}
 use Rattle.words.specs.Laws.Windows.{within_16}

@@ -1,4 +1,4 @@
--- `load_request` meets its contract: the request in its place, or that of zeros. Rests on Loaded.
+-- `load_request` meets its contract: it gives the request of its record, or that of zeros. Rests on Loaded.
 use Rattle.std.proofs.Common.{ap, ◌∙◌}
 use Rattle.store.specs.Requests.{decode_request}
 use Rattle.store.specs.Book.{load_request, request_at}

@@ -1,4 +1,4 @@
--- `mark_answered` meets its contract: one case of the definition at each return. Rests on the laws of the record.
+-- `mark_answered` meets its contract: each return is one case of the definition. Rests on the laws of the record.
 use Rattle.std.proofs.Common.{arith}
 use Rattle.prelude.specs.Cases.{if◌then◌otherwise◌}
 use Rattle.words.specs.Laws.Windows.{within_8}

@@ -1,4 +1,4 @@
--- `setting` meets its contract: the number in its place, or 0. Rests on Loaded.
+-- `setting` meets its contract: it gives the number at its index, or 0. Rests on Loaded.
 use Rattle.std.proofs.Common.{◌≡◌, ℕ, List, rules, ap, ◌∙◌}
 use Rattle.prelude.specs.Number.{word32}
 use Rattle.store.specs.Layout.{header·setting}

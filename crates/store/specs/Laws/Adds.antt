@@ -5,10 +5,13 @@ use Rattle.std.proofs.Math.Decide.{dec_lt}
 use Rattle.std.proofs.Math.Seq.{set_out}
 use Rattle.std.proofs.lemmas.List.{length-replicate}
 use Rattle.prelude.specs.Cases.{if◌then◌otherwise◌}
-use Rattle.prelude.specs.Lists.{list_below, list_ext, list_more, list_set_any}
-use Rattle.prelude.specs.Span.{span, splice, span_byte, length_splice, span_splice_same, span_splice_before, span_splice_after}
+use Rattle.prelude.specs.Lists.{list_below}
+use Rattle.prelude.specs.Laws.Lists.{list_ext, list_more, list_set_any}
+use Rattle.prelude.specs.Span.{span, splice}
+use Rattle.prelude.specs.Laws.Span.{span_byte, length_splice, span_splice_same, span_splice_before, span_splice_after}
 use Rattle.prelude.specs.Number.{bound, bytes_of, word16, word32}
-use Rattle.prelude.specs.Bytes.{zeros, get_zeros}
+use Rattle.prelude.specs.Bytes.{zeros}
+use Rattle.prelude.specs.Laws.Bytes.{get_zeros}
 use Rattle.store.specs.declared.Order.{Order}
 use Rattle.store.specs.declared.Request.{Request}
 use Rattle.store.specs.Layout.{book_size, header·orders, header·requests, header·setting, order_size, most_orders, request_size, most_requests, order_base, request_base, request·order, request·kind, request·answered, request·clordid, request·origclordid, request·downstream, request·outcome}

@@ -3,7 +3,8 @@ use Rattle.std.specs.Prelude.{◌≡◌, refl, List, ℕ, ◌+◌, ◌≤◌, �
 use Rattle.std.proofs.Common.{sym, ap, ◌∙◌, arith, inl, inr, eq-eqb, ne_eqb, lt-ltb}
 use Rattle.std.proofs.Math.Decide.{dec_lt, ℕ_discrete}
 use Rattle.prelude.specs.Cases.{if◌then◌otherwise◌}
-use Rattle.prelude.specs.Span.{span, span_span, span_splice_same, span_splice_before, span_splice_after}
+use Rattle.prelude.specs.Span.{span}
+use Rattle.prelude.specs.Laws.Span.{span_span, span_splice_same, span_splice_before, span_splice_after}
 use Rattle.store.specs.declared.Order.{Order}
 use Rattle.store.specs.declared.Request.{Request}
 use Rattle.store.specs.Layout.{book_size, header·orders, header·requests, most_orders, request_size, most_requests, request_base, request·origin}
@@ -21,7 +22,7 @@ use Rattle.store.specs.Laws.Kept.{store_open_keeps}
 abbrev origin_base : ℕ → ℕ
 origin_base j = request_base j + request·origin
 
--- an origin whose bytes are as they were
+-- an origin stays if its bytes do
 same_origin : (b d : List ℕ) → length b ≡ book_size → length d ≡ book_size → (j : ℕ) → j < most_requests → span d (origin_base j) 2 ≡ span b (origin_base j) 2 → origin_at d j ≡ origin_at b j
 same_origin b d l m j k e = same_16 d b (origin_base j) (omega arith) (omega arith) e
 

@@ -2,10 +2,12 @@
 use Rattle.std.specs.Prelude.{◌≡◌, List, [], ◌∷◌, ℕ, ◌+◌, ◌≤◌, ◌<◌, length, get_or}
 use Rattle.std.proofs.Common.{sym, ap, ◌∙◌, add-zero, arith, length-append, take_at}
 use Rattle.std.proofs.lemmas.List.{get_or_at}
-use Rattle.prelude.specs.Span.{span, span_span, get_span, length_span}
-use Rattle.prelude.specs.Number.{Bytes, number, bytes_of, bound, number_bytes, word16, word32, word64, word16_number, word32_number, word64_number}
+use Rattle.prelude.specs.Span.{span}
+use Rattle.prelude.specs.Laws.Span.{span_span, get_span, length_span}
+use Rattle.prelude.specs.Number.{Bytes, number, bytes_of, bound, word16, word32, word64}
+use Rattle.prelude.specs.Laws.Number.{number_bytes, word16_number, word32_number, word64_number}
 use Rattle.prelude.specs.Texts.{text_at, WholeText}
-use Rattle.prelude.specs.Bytes.{bytes_span}
+use Rattle.prelude.specs.Laws.Bytes.{bytes_span}
 use Rattle.prelude.specs.declared.Text.{Text}
 use Rattle.words.specs.Laws.Windows.{byte_within}
 use Rattle.store.specs.Cells.{text_bytes}

@@ -1,4 +1,4 @@
--- Each field of a record in the book is a read of the bytes at the record's base and the field's place: for rules that are decided in place.
+-- Each field of a record in the book is a read of the bytes at the record's base and the field's offset: for rules that are decided on the bytes themselves.
 -- Rests on Book and Cells.
 use Rattle.std.specs.Prelude.{◌≡◌, List, ℕ, ◌+◌, get_or}
 use Rattle.std.proofs.Common.{ap, ◌∙◌, arith}

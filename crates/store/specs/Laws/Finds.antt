@@ -2,9 +2,11 @@
 use Rattle.std.specs.Prelude.{◌≡◌, refl, Bool, true, false, not, ◌&&◌, List, ℕ, ◌+◌, eqb, ltb, get_or}
 use Rattle.std.proofs.Common.{sym, ap, ◌∙◌, add-one, ltb-true, eqb-true, eq-eqb, ne_eqb}
 use Rattle.std.proofs.lemmas.Bool.{and_parts}
-use Rattle.prelude.specs.Below.{all_below, first_below, count_below, first_ext, count_ext}
+use Rattle.prelude.specs.Below.{all_below, first_below, count_below}
+use Rattle.prelude.specs.Laws.Below.{first_ext, count_ext}
 use Rattle.prelude.specs.Cases.{if◌then◌otherwise◌}
-use Rattle.prelude.specs.Lists.{list_below, first_list, count_list, length_list, get_list}
+use Rattle.prelude.specs.Lists.{list_below}
+use Rattle.prelude.specs.Laws.Lists.{first_list, count_list, length_list, get_list}
 use Rattle.prelude.specs.Texts.{agree_at, same_text}
 use Rattle.prelude.specs.declared.Text.{Text}
 use Rattle.store.specs.declared.Order.{Order}
@@ -74,7 +76,7 @@ pub count_step : (p : ℕ → Bool) (i : ℕ) → count_below p (i + 1) ≡ coun
 unfolding count_below
 count_step p i = rw add-one
 
--- a request that bears t as its ClOrdID has one where t is not empty
+-- a request that bears t as its ClOrdID has one if t is not empty
 module _ (r : Request) (t : Text) (e : same_text r.clordid t ≡ true) where
   same_len : r.clordid.len ≡ t.len
   unfolding same_text

@@ -1,11 +1,14 @@
 -- What every function keeps, on any buffer: its length, and that its elements are bytes. Rests on Laws.
 use Rattle.std.specs.Prelude.{◌≡◌, refl, List, [], ◌∷◌, ℕ, ◌+◌, ◌≤◌, ◌<◌, eqb, length}
 use Rattle.std.proofs.Common.{sym, subst, ◌∙◌, arith}
-use Rattle.prelude.specs.Cases.{if◌then◌otherwise◌, split_if}
+use Rattle.prelude.specs.Cases.{if◌then◌otherwise◌}
+use Rattle.prelude.specs.Laws.Cases.{split_if}
 use Rattle.prelude.specs.Number.{Bytes, bytes_of}
-use Rattle.prelude.specs.Span.{splice, length_splice}
+use Rattle.prelude.specs.Span.{splice}
+use Rattle.prelude.specs.Laws.Span.{length_splice}
 use Rattle.prelude.specs.Texts.{WholeText}
-use Rattle.prelude.specs.Bytes.{zeros, bytes_zeros, bytes_one, bytes_of_lem, bytes_append, bytes_splice, bytes_joined}
+use Rattle.prelude.specs.Bytes.{zeros}
+use Rattle.prelude.specs.Laws.Bytes.{bytes_zeros, bytes_one, bytes_of_lem, bytes_append, bytes_splice, bytes_joined}
 use Rattle.prelude.specs.declared.Text.{Text}
 use Rattle.store.specs.declared.GatewayCancel.{GatewayCancel}
 use Rattle.store.specs.declared.Order.{Order}
@@ -45,7 +48,7 @@ bytes_request origin r h =
 
 -- ---- the functions
 
--- the same length, and bytes where they were bytes
+-- the length is the same, and bytes stay bytes
 pub record Keeps (b d : List ℕ) : Type 0 where
   pub same : length d ≡ length b
   pub bytes : Bytes b → Bytes d

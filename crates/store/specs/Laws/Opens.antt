@@ -3,9 +3,11 @@ use Rattle.std.specs.Prelude.{◌≡◌, refl, ◌⊎◌, List, ℕ, ◌+◌, �
 use Rattle.std.proofs.Common.{ap, ◌∙◌, inl, inr, ⊎_elim, arith, eq-eqb, lt-ltb}
 use Rattle.std.proofs.Math.Decide.{dec_lt}
 use Rattle.prelude.specs.Cases.{if◌then◌otherwise◌}
-use Rattle.prelude.specs.Lists.{list_below, list_ext}
+use Rattle.prelude.specs.Lists.{list_below}
+use Rattle.prelude.specs.Laws.Lists.{list_ext}
 use Rattle.prelude.specs.Number.{bound, bytes_of}
-use Rattle.prelude.specs.Span.{span, splice, length_splice, span_splice_same, span_splice_before, span_splice_after}
+use Rattle.prelude.specs.Span.{span, splice}
+use Rattle.prelude.specs.Laws.Span.{length_splice, span_splice_same, span_splice_before, span_splice_after}
 use Rattle.store.specs.declared.Order.{Order}
 use Rattle.store.specs.declared.Request.{Request}
 use Rattle.store.specs.Layout.{book_size, header·orders, header·requests, header·setting, order_size, most_orders, request_size, most_requests, order_base, request_base, opens_at, open_size, open_base}
@@ -17,7 +19,7 @@ use Rattle.store.specs.Laws.Tables.{same_count, same_setting, length_put_order, 
 use Rattle.store.specs.Laws.Stored.{count_book, count_most, in_table}
 use Rattle.store.specs.Laws.Adds.{length_settle, span_settle}
 
--- a word whose bytes are as they were
+-- a word stays if its bytes do
 same_open : (b d : List ℕ) → length b ≡ book_size → length d ≡ book_size → (j : ℕ) → j < most_orders → span d (open_base j) open_size ≡ span b (open_base j) open_size → open_at d j ≡ open_at b j
 same_open b d l m j k e = same_64 d b (open_base j) (omega arith) (omega arith) e
 

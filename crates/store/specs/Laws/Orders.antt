@@ -3,10 +3,13 @@ use Rattle.std.specs.Prelude.{◌≡◌, Bool, ◌&&◌, refl, true, false, List
 use Rattle.std.proofs.Common.{sym, ap, ◌∙◌, arith, eqb-true, eq-eqb}
 use Rattle.std.proofs.lemmas.Bool.{not-false}
 use Rattle.std.specs.List.{concat}
-use Rattle.prelude.specs.Cases.{if◌then◌otherwise◌, clash}
-use Rattle.prelude.specs.Span.{span, span_byte, splice_whole}
+use Rattle.prelude.specs.Cases.{if◌then◌otherwise◌}
+use Rattle.prelude.specs.Laws.Cases.{clash}
+use Rattle.prelude.specs.Span.{span}
+use Rattle.prelude.specs.Laws.Span.{span_byte, splice_whole}
 use Rattle.prelude.specs.Number.{Bytes, word16}
-use Rattle.prelude.specs.Pieces.{offset, Sized, writes, writes_joined, length_joined, piece_at}
+use Rattle.prelude.specs.Pieces.{offset, Sized, writes}
+use Rattle.prelude.specs.Laws.Pieces.{writes_joined, length_joined, piece_at}
 use Rattle.store.specs.declared.GatewayCancel.{GatewayCancel}
 use Rattle.store.specs.declared.Order.{Order}
 use Rattle.store.specs.Layout.{order_size, order·client, order·venue, names·name, names·clordid, names·downstream, names·symbol, names·venueorderid, terms·side, terms·ordtype, terms·timeinforce, terms·qty, terms·price, state·status, state·cumqty, state·avgpx, state·execseq, links·amendments, links·current, links·cancel, pending·request, pending·qty, pending·price, pending·ordtype, pending·timeinforce, gateway·stage, gateway·tries, gateway·origdownstream, gateway·refusedsends}
@@ -27,7 +30,7 @@ is_order s r h = λ i. record {
   gateway = record { unsent = h.gateway.unsent i; stuck = h.gateway.stuck i; tries = h.gateway.tries i; origdownstream = h.gateway.origdownstream i; refusedsends = h.gateway.refusedsends i };
 }
 
--- ---- the marks and the stage
+-- ---- the flags and the stage
 
 module _ (g : GatewayCancel) (h : OneStage g) where
   pub unsent_stage : unsent_of (stage_of g) g.origdownstream ≡ g.unsent
@@ -55,7 +58,7 @@ no_stage : (stage link : ℕ) → link ≡ 0 → malformed stage link ≡ false 
 unfolding malformed if◌then◌otherwise◌
 no_stage stage link z m = eqb-true stage 0 (not-false (eqb stage 0) (rw (eq-eqb link 0 z) at m))
 
--- marks that were read are those of one stage, unless both stand
+-- flags that were read are those of one stage, unless both stand
 pub read_stage : (stage link : ℕ) → unsent_of stage link && stuck_of stage link ≡ false → link ≡ 0 → (unsent_of stage link ≡ false) × (stuck_of stage link ≡ false)
 unfolding unsent_of stuck_of
 read_stage stage link n z = go (malformed stage link) refl
@@ -135,7 +138,7 @@ module _ (o : Order) (h : FitsOrder o) where
         };
       }
 
--- an order that was read from bytes is in range, and whole unless both marks stand
+-- an order that was read from bytes is in range, and whole unless both flags stand
 module _ (s : List ℕ) (h : Bytes s) (l : length s ≡ order_size) where
   pub fits_order : FitsOrder (decode_order s)
   unfolding decode_order

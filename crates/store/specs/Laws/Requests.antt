@@ -2,9 +2,11 @@
 use Rattle.std.specs.Prelude.{◌≡◌, refl, List, [], ℕ, length, get_or}
 use Rattle.std.proofs.Common.{sym, ap, ◌∙◌, arith}
 use Rattle.std.specs.List.{concat}
-use Rattle.prelude.specs.Span.{span, span_byte, span_span, splice_whole}
+use Rattle.prelude.specs.Span.{span}
+use Rattle.prelude.specs.Laws.Span.{span_byte, span_span, splice_whole}
 use Rattle.prelude.specs.Number.{Bytes, bytes_of}
-use Rattle.prelude.specs.Pieces.{offset, Sized, writes, writes_joined, length_joined, piece_at}
+use Rattle.prelude.specs.Pieces.{offset, Sized, writes}
+use Rattle.prelude.specs.Laws.Pieces.{writes_joined, length_joined, piece_at}
 use Rattle.store.specs.declared.Request.{Request}
 use Rattle.store.specs.Layout.{request_size, request·order, request·kind, request·answered, request·clordid, request·origclordid, request·downstream, request·outcome, request·origin}
 use Rattle.store.specs.Laws.Cells.{length_text, read_16, read_text, fits_16, fits_text}

@@ -3,11 +3,14 @@ use Rattle.std.specs.Prelude.{◌≡◌, refl, Bool, true, false, ◌&&◌, ◌�
 use Rattle.std.proofs.Common.{sym, ap, ◌∙◌, inl, inr, ⊎_elim, arith, eqb-true, eq-eqb, ne_eqb, ltb-true, ltb-false, lt-ltb}
 use Rattle.std.proofs.Math.Seq.{set_out}
 use Rattle.std.proofs.lemmas.Bool.{eqb-false}
-use Rattle.prelude.specs.Cases.{if◌then◌otherwise◌, split_if}
-use Rattle.prelude.specs.Lists.{list_below, length_list, get_list, list_ext, list_set_any}
-use Rattle.prelude.specs.Span.{span, length_span}
+use Rattle.prelude.specs.Cases.{if◌then◌otherwise◌}
+use Rattle.prelude.specs.Laws.Cases.{split_if}
+use Rattle.prelude.specs.Lists.{list_below}
+use Rattle.prelude.specs.Laws.Lists.{length_list, get_list, list_ext, list_set_any}
+use Rattle.prelude.specs.Span.{span}
+use Rattle.prelude.specs.Laws.Span.{length_span}
 use Rattle.prelude.specs.Number.{Bytes}
-use Rattle.prelude.specs.Bytes.{bytes_span}
+use Rattle.prelude.specs.Laws.Bytes.{bytes_span}
 use Rattle.store.specs.declared.Order.{Order}
 use Rattle.store.specs.declared.Request.{Request}
 use Rattle.store.specs.Layout.{book_size, header·orders, header·requests, header·setting, orders_at, order_size, most_orders, request_size, most_requests, order_base, request_base}
@@ -71,7 +74,7 @@ module _ (b : List ℕ) (l : length b ≡ book_size) (bytes : Bytes b) where
   unfolding order_at
   order_fits i h = fits_order (span b (order_base i) order_size) (bytes_span b (order_base i) order_size bytes) (length_span b (order_base i) order_size (omega arith))
 
-  -- whole, unless the stage was malformed and both marks stand
+  -- whole, unless the stage was malformed and both flags stand
   pub order_whole : (i : ℕ) → i < most_orders → (order_at b i).gateway.unsent && (order_at b i).gateway.stuck ≡ false → WholeOrder (order_at b i)
   unfolding order_at
   order_whole i h n = whole_order (span b (order_base i) order_size) (bytes_span b (order_base i) order_size bytes) (length_span b (order_base i) order_size (omega arith)) n
@@ -80,9 +83,9 @@ module _ (b : List ℕ) (l : length b ≡ book_size) (bytes : Bytes b) where
   unfolding request_at
   request_whole i h = whole_request (span b (request_base i) request_size) (bytes_span b (request_base i) request_size bytes) (length_span b (request_base i) request_size (omega arith))
 
--- ---- a place in a table, or none
+-- ---- an index in a table, or past it
 
--- what holds where the place is in the table and where it is not holds
+-- what holds both if the index is in the table and if it is past it, holds
 pub in_table : (P : Bool → Type 0) (b : List ℕ) (most i : ℕ) → (length b ≡ book_size → i < most → P true) → (((length b ≡ book_size → ⊥) ⊎ (most ≤ i)) → P false)
     → P (is_book b && ltb i most)
 in_table P b most i f g = go (is_book b) (ltb i most) refl refl
@@ -92,7 +95,7 @@ in_table P b most i f g = go (is_book b) (ltb i most) refl refl
     go true false e k = rw (e, k) (g (inr (ltb-false i most k)))
     go false t e k = rw e (g (inl (eqb-false (length b) book_size e)))
 
--- and then no record in use stands there
+-- past the table there is no record in use
 pub count_out : (at most : ℕ) (b : List ℕ) (i : ℕ) → ((length b ≡ book_size → ⊥) ⊎ (most ≤ i)) → count_at at most b ≤ i
 unfolding count_at if◌then◌otherwise◌
 count_out at most b i d = ⊎_elim (λ n. rw (ne_eqb (length b) book_size n) (omega arith)) (λ k. omega (arith, count_most at most b)) d

@@ -2,9 +2,10 @@
 use Rattle.std.specs.Prelude.{◌≡◌, ◌⊎◌, List, ℕ, ◌+◌, ◌≤◌, ◌<◌, min, refl, length}
 use Rattle.std.proofs.Common.{ap, ◌∙◌, inl, inr, arith, ⊎_elim, eq-eqb}
 use Rattle.prelude.specs.Cases.{if◌then◌otherwise◌}
-use Rattle.prelude.specs.Span.{span, splice, length_splice, span_splice_same, span_splice_before, span_splice_after}
+use Rattle.prelude.specs.Span.{span, splice}
+use Rattle.prelude.specs.Laws.Span.{length_splice, span_splice_same, span_splice_before, span_splice_after}
 use Rattle.prelude.specs.Number.{bytes_of}
-use Rattle.prelude.specs.Table.{length_put_row, row_put, row_put_other, span_put_row}
+use Rattle.prelude.specs.Laws.Table.{length_put_row, row_put, row_put_other, span_put_row}
 use Rattle.store.specs.declared.Order.{Order}
 use Rattle.store.specs.declared.Request.{Request}
 use Rattle.store.specs.Laws.Cells.{read_16, same_16, same_32}
@@ -15,7 +16,7 @@ use Rattle.store.specs.Requests.{WholeRequest, decode_request, encode_request}
 use Rattle.store.specs.Laws.Requests.{length_request, decode_request_lem}
 use Rattle.store.specs.Book.{order_at, put_order, request_at, put_request, count_at, setting_of, set_count}
 
--- ---- the header, where the bytes that it reads are as they were
+-- ---- the header stays if the bytes that it reads do
 
 module _ (b d : List ℕ) (l : length b ≡ book_size) (m : length d ≡ book_size) where
   pub same_count : (at most : ℕ) → at + 2 ≤ orders_at → span d at 2 ≡ span b at 2 → count_at at most d ≡ count_at at most b

@@ -5,11 +5,15 @@ use Rattle.std.proofs.lemmas.Bool.{and_parts}
 use Rattle.std.specs.Str.{bytes_eq}
 use Rattle.std.proofs.lemmas.Slice.Eq.{bytes_eq-Decides}
 use Rattle.std.specs.Cmp.{both_ways}
-use Rattle.prelude.specs.Below.{all_below, all_intro}
-use Rattle.prelude.specs.Number.{Bytes, number, bytes_of, word64, word64_number, bytes_number}
-use Rattle.prelude.specs.Span.{span, length_span, span_join, span_whole}
-use Rattle.prelude.specs.Texts.{text_at, agree_at, same_text, same_text_lem}
-use Rattle.prelude.specs.Bytes.{bytes_span}
+use Rattle.prelude.specs.Below.{all_below}
+use Rattle.prelude.specs.Laws.Below.{all_intro}
+use Rattle.prelude.specs.Number.{Bytes, number, bytes_of, word64}
+use Rattle.prelude.specs.Laws.Number.{word64_number, bytes_number}
+use Rattle.prelude.specs.Span.{span}
+use Rattle.prelude.specs.Laws.Span.{length_span, span_join, span_whole}
+use Rattle.prelude.specs.Texts.{text_at, agree_at, same_text}
+use Rattle.prelude.specs.Laws.Texts.{same_text_lem}
+use Rattle.prelude.specs.Laws.Bytes.{bytes_span}
 use Rattle.prelude.specs.declared.Text.{Text}
 use Rattle.words.specs.Laws.Windows.{within_64}
 

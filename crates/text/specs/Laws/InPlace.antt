@@ -1,15 +1,17 @@
--- Comparison and range of a text in place, and its range byte by byte: what loops over its bytes show. Rests on Words.
+-- Comparison and range of a text in place, and its range byte by byte: what loops over its bytes show. Rests on Stored.
 use Rattle.std.specs.Prelude.{◌≡◌, refl, Bool, true, false, ◌&&◌, List, [], ◌∷◌, ◌++◌, ℕ, suc, ◌+◌, ◌≤◌, eqb, length, get_or, take, drop, replicate}
 use Rattle.std.proofs.Common.{sym, ap, ◌∙◌, arith, add-one, drop-cons, length-drop, length-take-le, eqb-true, ne_eqb, lt-ltb, le-ltb, le-leb}
 use Rattle.std.proofs.lemmas.Bool.{eqb-false}
 use Rattle.std.specs.List.{fold}
 use Rattle.std.specs.Int.Bits.{bit_or, or_add_and}
 use Rattle.std.proofs.lemmas.Nat.{and_le_l, and_le_r}
-use Rattle.prelude.specs.Below.{all_below, all_intro, all_step}
-use Rattle.prelude.specs.Span.{splice, padded}
+use Rattle.prelude.specs.Below.{all_below}
+use Rattle.prelude.specs.Laws.Below.{all_intro, all_step}
+use Rattle.prelude.specs.Span.{splice}
+use Rattle.prelude.specs.Laws.Span.{padded}
 use Rattle.prelude.specs.Texts.{text_at, same_text, filled_at, is_text, contents, text_of}
 use Rattle.prelude.specs.declared.Text.{Text}
-use Rattle.text.specs.Words.{text_is, text_fine}
+use Rattle.text.specs.Stored.{text_is, text_fine}
 
 -- if the slice goes on far enough, the text in place is the text
 pub text_is_here : (s : List ℕ) (at : ℕ) (t : Text) → at + 33 ≤ length s → text_is s at t ≡ same_text (text_at s at) t

@@ -1,8 +1,10 @@
 -- The laws of numbered names: each is a text, and its name and its number are known from it. Rests on Numbered.
 use Rattle.std.specs.Prelude.{◌≡◌, refl, true, ℕ, suc, ◌+◌, ◌≤◌, ◌<◌, leb, get_or, List, [], ◌∷◌, ◌++◌, length}
 use Rattle.std.proofs.Common.{sym, subst, ◌∙◌, arith, le-leb, leb-true, length-take, ap}
-use Rattle.prelude.specs.Cases.{if◌then◌otherwise◌, split_if}
-use Rattle.prelude.specs.Texts.{contents, text_of, is_text, long_text, contents_text, is_text_lem, text_contents}
+use Rattle.prelude.specs.Cases.{if◌then◌otherwise◌}
+use Rattle.prelude.specs.Laws.Cases.{split_if}
+use Rattle.prelude.specs.Texts.{contents, text_of, is_text}
+use Rattle.prelude.specs.Laws.Texts.{long_text, contents_text, is_text_lem, text_contents}
 use Rattle.prelude.specs.declared.Text.{Text}
 use Rattle.text.specs.Numbered.{decimal, numbered_bytes, numbered_text}
 use Rattle.text.specs.Laws.Numbered.{decimal_same, length_decimal, width_most, length_numbered_bytes}

@@ -1,8 +1,10 @@
 -- Decimal digits and numbered names: how many digits, that they tell the number, and a name as it is written. Rests on Numbered and on the crate decimal.
 use Rattle.std.specs.Prelude.{◌≡◌, refl, ℕ, zero, suc, ◌+◌, ◌-◌, ◌*◌, ◌/◌, ◌%◌, ◌≤◌, ◌<◌, min, ltb, length, take, set, List, [], ◌∷◌, ◌++◌, replicate}
 use Rattle.std.proofs.Common.{sym, ap, ◌∙◌, arith, lt-ltb, le-ltb, ltb-true, ltb-false, length-append, length-take}
-use Rattle.prelude.specs.Cases.{if◌then◌otherwise◌, split_if}
-use Rattle.prelude.specs.Span.{splice, padded}
+use Rattle.prelude.specs.Cases.{if◌then◌otherwise◌}
+use Rattle.prelude.specs.Laws.Cases.{split_if}
+use Rattle.prelude.specs.Span.{splice}
+use Rattle.prelude.specs.Laws.Span.{padded}
 use Rattle.prelude.specs.Texts.{contents}
 use Rattle.prelude.specs.declared.Text.{Text}
 use Rattle.decimal.specs.Decimal as Decimal

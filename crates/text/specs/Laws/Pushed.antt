@@ -1,4 +1,4 @@
--- Bytes pushed behind a text, one or many: facts of `push_text` and `push_all`. Rests on Words.
+-- Bytes pushed behind a text, one or many: facts of `push_text` and `push_all`. Rests on Stored.
 use Rattle.std.specs.Prelude.{◌≡◌, refl, ℕ, ◌+◌, ◌≤◌, ◌<◌, ltb, length, take, set, List, [], ◌∷◌, ◌++◌, replicate}
 use Rattle.std.proofs.Common.{sym, ap, ◌∙◌, arith, lt-ltb, length-append, append_assoc, append-nil}
 use Rattle.std.proofs.Math.Seq.{take-set-lt, set-append_seam}
@@ -6,7 +6,7 @@ use Rattle.std.proofs.lemmas.List.{replicate-append-replicate, take-append-le}
 use Rattle.prelude.specs.Cases.{if◌then◌otherwise◌}
 use Rattle.prelude.specs.Texts.{text_of}
 use Rattle.prelude.specs.declared.Text.{Text}
-use Rattle.text.specs.Words.{push_text, push_all}
+use Rattle.text.specs.Stored.{push_text, push_all}
 
 module _ (l : List ℕ) where
   pub push_text_lem : (x : ℕ) → length l < 32 → push_text (text_of l) x ≡ text_of (l ++ (x ∷ []))

@@ -1,8 +1,8 @@
 -- `wide::long` meets its contract: long division of two words by one. What rounding adds keeps to two words. Assumes nothing.
 use Rattle.std.proofs.Common.{get_or, rules, arith, Fits, w64}
 use Rattle.wide.specs.Wide.{value}
-use Rattle.wide.specs.Words.{value_fits}
-use Rattle.wide.specs.Rounding.{nearest_le}
+use Rattle.wide.specs.Laws.Words.{value_fits}
+use Rattle.wide.specs.Laws.Rounding.{nearest_le}
 use Rattle.wide.proofs.Carried.{by_words}
 use Rattle.wide.proofs.long.Goals as goal
 

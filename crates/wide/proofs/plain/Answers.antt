@@ -1,6 +1,6 @@
 -- `wide::plain` meets its contract: one division, and what rounding adds, which together are at most what is divided. Assumes nothing.
 use Rattle.std.proofs.Common.{◌/◌, ◌%◌, sym, div-add-mod', mod-lt, arith}
-use Rattle.wide.specs.Rounding.{nearest_by, nearest_le}
+use Rattle.wide.specs.Laws.Rounding.{nearest_by, nearest_le}
 use Rattle.wide.proofs.plain.Goals as goal
 
 pub overflow_add-result : goal.overflow_add-result

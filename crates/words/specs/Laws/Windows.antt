@@ -1,7 +1,8 @@
 -- A number read within a part of a buffer is the number at its place in the buffer: for a reader that lends a number's bytes alone. Rests on prelude.
 use Rattle.std.specs.Prelude.{◌≡◌, List, ℕ, ◌+◌, ◌-◌, ◌≤◌, ◌<◌, get_or, take, drop}
 use Rattle.std.proofs.Common.{ap, ◌∙◌, add-zero, arith}
-use Rattle.prelude.specs.Span.{span, get_span, part_span}
+use Rattle.prelude.specs.Span.{span}
+use Rattle.prelude.specs.Laws.Span.{get_span, part_span}
 use Rattle.prelude.specs.Number.{word16, word32, word64}
 
 module _ (s : List ℕ) (at n : ℕ) where

@@ -1,6 +1,7 @@
 -- `Used::put_entry` meets its contract: its stores are the entry's parts, one behind the other. Rests on Entries.
 use Rattle.std.proofs.Common.{ℕ, ◌≡◌, ◌+◌, ◌-◌, ◌≤◌, List, [], ◌∷◌, ◌++◌, length, get_or, take, drop, set, ap, ◌∙◌, arith, rules}
-use Rattle.prelude.specs.Span.{splice, length_splice, set_splice, part_splice, part_span}
+use Rattle.prelude.specs.Span.{splice}
+use Rattle.prelude.specs.Laws.Span.{length_splice, set_splice, part_splice, part_span}
 use Rattle.store.specs.Layout.{header·requests, most_requests, request_base, request·clordid, request·clordidLen, request·outcome}
 use Rattle.store.specs.Laws.Stored.{count_most}
 use Rattle.chain.specs.Laws.Walk.{kept_long}

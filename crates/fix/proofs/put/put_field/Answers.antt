@@ -1,6 +1,7 @@
 -- `fix::put::put_field`: the tag, =, the value, SOH. Assumes nothing.
 use Rattle.std.proofs.Common.{◌≡◌, sym, ap, ◌∙◌, List, ℕ, ◌+◌, ◌≤◌, arith, length, set, length-set, Some}
-use Rattle.prelude.specs.Span.{splice, splice_nil}
+use Rattle.prelude.specs.Span.{splice}
+use Rattle.prelude.specs.Laws.Span.{splice_nil}
 use Rattle.decimal.specs.Decimal.{decimal}
 use Rattle.fix_words.specs.Laws.Counting.{field_long_lem, field_put}
 use Rattle.fix.specs.Laws.Plan.{said_by, long_of, Sound}

@@ -14,4 +14,4 @@ returns c =
     let w = c.in-Some.value in
     let d : List ℕ = decimal 0 a.tag in
     let z : length d + long_of w + 2 ≡ field_long a.tag a.v = omega (arith, field_some a.tag a.v w c.in-Some.is) in
-    rw (← z, ← less_three a.room (length d) (long_of w) 2, ← c.decimal_length.ensures.0, ← c.less.ensures, ← c.less_value.ensures) c.less-2.ensures
+    rw (← z, ← less_three a.room (length d) (long_of w) 2, ← c.decimal_length.ensures.0, ← c.less_by.ensures, ← c.less_value.ensures) c.less_by-2.ensures

@@ -2,7 +2,7 @@
 use Rattle.std.proofs.Common.{not, nat_eq, length, rules, sym, ap, ◌∙◌, eq-eqb, eqb-true, tests}
 use Rattle.std.proofs.lemmas.Iterator.{YieldsList-from_slice}
 use Rattle.std.proofs.lemmas.Iterator.Search.{all_from_yields_List}
-use Rattle.prelude.specs.Cases.{clash}
+use Rattle.prelude.specs.Laws.Cases.{clash}
 use Rattle.fix_words.specs.Lists.{is_print}
 use Rattle.fix_words.specs.Laws.Lists.{every_list}
 use Rattle.fix.specs.Laws.Whole.{text_some, text_none}

@@ -2,7 +2,7 @@
 use Rattle.std.proofs.Common.{ℕ, ◌+◌, Bool, get_or, ◌∙◌, rules, arith, tests}
 use Rattle.std.proofs.lemmas.Iterator.{YieldsList-from_range}
 use Rattle.std.proofs.lemmas.Iterator.Search.{all_from_yields_List}
-use Rattle.prelude.specs.Chains.{all_range}
+use Rattle.prelude.specs.Laws.Chains.{all_range}
 use Rattle.fix.specs.Laws.Plan.{text_right, texts_right}
 use Rattle.fix.proofs.write.texts_right.Goals as goal
 use Rattle.fix.proofs.write.texts_right.Goals.{Start}

@@ -1,6 +1,6 @@
 -- `step`: a digit counts in both words, any other byte in none. Rests on Laws.Wrapping.
 use Rattle.std.proofs.Common.{◌≡◌, ℕ, ◌+◌, ◌-◌, ◌*◌, ◌/◌, ◌%◌, true, false, get_or, sym, ap, ◌∙◌, arith, w64, Fits, rules}
-use Rattle.prelude.specs.Cases.{if_true, if_false}
+use Rattle.prelude.specs.Laws.Cases.{if_true, if_false}
 use Rattle.decimal.specs.Decimal.{is_digit}
 use Rattle.fix_reader.specs.Laws.Numbers.{word, step_other, step_more}
 use Rattle.fix_reader.specs.Laws.Wrapping.{step_high, tenfold_wraps, over_word}

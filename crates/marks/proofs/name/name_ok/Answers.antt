@@ -1,4 +1,4 @@
--- `name_ok` meets its contract: 1 to 16 bytes, each a letter or a digit. Rests on format's Codes.
+-- `name_ok` meets its contract: a name has 1 to 16 bytes, each a letter or a digit. Rests on format's Codes.
 use Rattle.std.proofs.Common.{ℕ, ◌≡◌, ◌≤◌, length, arith, rules, sym, ap, ◌∙◌, take_all, tests, le-leb}
 use Rattle.std.proofs.lemmas.Bool.{eqb-false}
 use Rattle.std.specs.List.{list_all}

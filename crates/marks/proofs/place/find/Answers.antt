@@ -1,8 +1,8 @@
--- `find` meets its contract: the first place that has the name. Rests on prelude's Chains.
+-- `find` meets its contract: it gives the first place that has the name. Rests on prelude's Chains.
 use Rattle.std.proofs.Common.{◌∙◌, arith, rules, tests}
 use Rattle.std.proofs.lemmas.Iterator.{YieldsList-from_range}
 use Rattle.std.proofs.lemmas.Iterator.Search.{find_from_yields_List}
-use Rattle.prelude.specs.Chains.{find_range}
+use Rattle.prelude.specs.Laws.Chains.{find_range}
 use Rattle.marks.specs.Marks.{place_count, has_name}
 use Rattle.marks.proofs.place.find.Goals as goal
 

@@ -1,8 +1,8 @@
--- `return_place` meets its contract: the first place that is such a mark. Rests on prelude's Chains.
+-- `return_place` meets its contract: it gives the first place that is such a mark. Rests on prelude's Chains.
 use Rattle.std.proofs.Common.{◌∙◌, arith, rules, tests}
 use Rattle.std.proofs.lemmas.Iterator.{YieldsList-from_range}
 use Rattle.std.proofs.lemmas.Iterator.Search.{find_from_yields_List}
-use Rattle.prelude.specs.Chains.{find_range}
+use Rattle.prelude.specs.Laws.Chains.{find_range}
 use Rattle.marks.specs.Marks.{place_count, is_mark, return_place}
 use Rattle.marks.proofs.place.return_place.Goals as goal
 

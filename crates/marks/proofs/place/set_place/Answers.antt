@@ -1,4 +1,4 @@
--- `set_place` meets its contract: the first place of the name, else the first free one. Rests on Places.
+-- `set_place` meets its contract: it gives the first place of the name, else the first free one. Rests on Places.
 use Rattle.std.proofs.Common.{ℕ, ◌≡◌, List, refl, sym, ap, ◌∙◌, rules, Option, None, Some}
 use Rattle.std.proofs.lemmas.Option.{MatchOption-at_none, MatchOption-at_some}
 use Rattle.prelude.specs.Below.{first_below}

@@ -1,6 +1,6 @@
 -- `places::walk::starts`: the loop's invariant is that each place so far holds where its field starts. Assumes nothing.
 use Rattle.std.proofs.Common.{below_none, refl, ap, ◌∙◌, ℕ, add-one, arith, length-set}
-use Rattle.prelude.specs.Lists.{fill}
+use Rattle.prelude.specs.Laws.Lists.{fill}
 use Rattle.format.specs.Places.{next, start}
 use Rattle.places.proofs.walk.starts.Goals as goal
 

@@ -1,6 +1,7 @@
 -- `fields::put_number`: the first n bytes of the number. Assumes nothing.
 use Rattle.std.proofs.Common.{◌≡◌, ℕ, zero, suc, ◌≤◌, ◌%◌, ◌/◌, ◌∷◌, List, take, rules, refl, ap, ◌∙◌, arith}
-use Rattle.prelude.specs.Span.{splice, part_splice}
+use Rattle.prelude.specs.Span.{splice}
+use Rattle.prelude.specs.Laws.Span.{part_splice}
 use Rattle.prelude.specs.Number.{bytes_of}
 use Rattle.records.proofs.fields.put_number.Goals as goal
 

@@ -1,6 +1,7 @@
 -- `fields::put_text`: a byte, and the text behind it. Assumes nothing.
 use Rattle.std.proofs.Common.{rules, refl, ap, ◌+◌, ◌∙◌, [], ◌∷◌, length}
-use Rattle.prelude.specs.Span.{splice, part_splice, set_splice, splice_append}
+use Rattle.prelude.specs.Span.{splice}
+use Rattle.prelude.specs.Laws.Span.{part_splice, set_splice, splice_append}
 use Rattle.records.proofs.fields.put_text.Goals as goal
 
 pub returns : goal.returns

@@ -1,8 +1,9 @@
 -- `put::put_field`: what a field is, by the table. Assumes nothing.
 use Rattle.std.proofs.Common.{eq-eqb, ◌≡◌, ◌≤◌, ◌∷◌, ◌++◌, ◌+◌, ◌-◌, ℕ, List, true, false, length, get_or, take, sym, ap, ◌∙◌, arith, rules, length-append, length-take, take_all}
-use Rattle.prelude.specs.Span.{splice_nil, splice_append}
-use Rattle.prelude.specs.Cases.{clash}
-use Rattle.prelude.specs.Number.{bytes_of, length_bytes}
+use Rattle.prelude.specs.Laws.Span.{splice_nil, splice_append}
+use Rattle.prelude.specs.Laws.Cases.{clash}
+use Rattle.prelude.specs.Number.{bytes_of}
+use Rattle.prelude.specs.Laws.Number.{length_bytes}
 use Rattle.prelude.specs.Texts.{contents}
 use Rattle.prelude.specs.declared.Text.{Text}
 use Rattle.bits.specs.Map.{bit}

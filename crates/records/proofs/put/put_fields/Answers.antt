@@ -1,6 +1,6 @@
 -- `put::put_fields`: the fields below b are written. Assumes nothing.
 use Rattle.std.proofs.Common.{◌≤◌, ◌+◌, refl, sym, ◌∙◌, add-one, arith, length, length-append}
-use Rattle.prelude.specs.Span.{splice_nil, splice_append}
+use Rattle.prelude.specs.Laws.Span.{splice_nil, splice_append}
 use Rattle.format.specs.Wire.{field_bytes, body}
 use Rattle.format.specs.Laws.Trip.{body_room}
 use Rattle.records.specs.Fields.{held}

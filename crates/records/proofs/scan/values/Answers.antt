@@ -1,8 +1,8 @@
 -- `scan::values`: the fields below b are in range, and their numbers are in place. Assumes nothing.
 use Rattle.std.proofs.Common.{below_none, ℕ, Bool, arith, refl, length-set}
 use Rattle.std.proofs.lemmas.Result.{err_from_is_err_and}
-use Rattle.prelude.specs.Below.{all_none, all_more, all_miss}
-use Rattle.prelude.specs.Lists.{fill}
+use Rattle.prelude.specs.Laws.Below.{all_none, all_more, all_miss}
+use Rattle.prelude.specs.Laws.Lists.{fill}
 use Rattle.format.specs.Laws.Seen.{held_at, right_in}
 use Rattle.records.proofs.scan.values.Goals as goal
 use Rattle.records.proofs.scan.values.Goals.{Start}

@@ -1,6 +1,7 @@
 -- `take::filled`: what is copied over zeros has zeros behind it. Assumes nothing.
 use Rattle.std.proofs.Common.{◌≡◌, ◌∙◌, length, drop, take, ◌-◌, refl, arith, length-drop, replicate, ◌++◌}
-use Rattle.prelude.specs.Span.{splice, padded}
+use Rattle.prelude.specs.Span.{splice}
+use Rattle.prelude.specs.Laws.Span.{padded}
 use Rattle.records.proofs.Ranges.{rest_bytes}
 use Rattle.records.proofs.take.filled.Goals as goal
 

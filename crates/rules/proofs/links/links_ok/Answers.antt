@@ -2,8 +2,8 @@
 use Rattle.std.proofs.Common.{ℕ, ◌∙◌, get_or, ap, rules, arith, tests}
 use Rattle.std.proofs.lemmas.Iterator.{YieldsList-from_range}
 use Rattle.std.proofs.lemmas.Iterator.Search.{all_from_yields_List}
-use Rattle.prelude.specs.Below.{all_ext}
-use Rattle.prelude.specs.Chains.{all_range}
+use Rattle.prelude.specs.Laws.Below.{all_ext}
+use Rattle.prelude.specs.Laws.Chains.{all_range}
 use Rattle.rules.specs.Laws.Here.{links_at, links_of}
 use Rattle.rules.proofs.links.links_ok.Goals as goal
 

@@ -20,7 +20,7 @@ same_start-requires c = (c.requires.0, c.requires.1, omega (arith, name_short (t
 pub u64_at-requires : goal.u64_at-requires
 u64_at-requires c = omega (arith, name_short (text_at c.args.book.now c.args.from) c.requires.2)
 
--- the rule as it is decided from the start on, where the length is the name's and the number's
+-- the rule as it is decided from the start on, if the length is that of the name, the dash and the number
 here : (c : Else-from-n) → (all_below (alike_at c.args.book.now c.args.at c.args.from) c.from-n.result && word64 c.args.book.now (c.args.at + c.from-n.result) == c.suffix_of-tail.result.word && is_text (text_at c.args.book.now c.args.at)) ≡ same_text (text_at c.args.book.now c.args.at) (numbered_text (text_at c.args.book.now c.args.from) c.args.k)
 here c =
     numbered_here c.args.book.now c.fits-book c.args.at c.args.from c.args.k c.suffix_of-tail.result.word c.suffix_of-tail.result.len

@@ -2,7 +2,7 @@
 use Rattle.std.proofs.Common.{◌∙◌, rules, arith, tests}
 use Rattle.std.proofs.lemmas.Iterator.{YieldsList-from_range}
 use Rattle.std.proofs.lemmas.Iterator.Search.{all_from_yields_List}
-use Rattle.prelude.specs.Chains.{all_range}
+use Rattle.prelude.specs.Laws.Chains.{all_range}
 use Rattle.rules.specs.Laws.Suffix.{alike_at}
 use Rattle.rules.proofs.numbered.same_few.Goals as goal
 

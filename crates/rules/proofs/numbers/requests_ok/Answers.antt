@@ -1,7 +1,7 @@
 -- `requests_ok` meets its contract: the requests below j keep their rules, and each order's counter is how many of them it has. Rests on Here.
 use Rattle.std.proofs.Common.{◌≡◌, ◌<◌, get_or, sym, ◌∙◌, refl, arith, length-set}
-use Rattle.prelude.specs.Below.{all_none, all_more, all_miss, all_elim, count_none, count_le, count_next}
-use Rattle.prelude.specs.Bytes.{get_zeros}
+use Rattle.prelude.specs.Laws.Below.{all_none, all_more, all_miss, all_elim, count_none, count_le, count_next}
+use Rattle.prelude.specs.Laws.Bytes.{get_zeros}
 use Rattle.store.specs.Book.{request_at}
 use Rattle.store.specs.Laws.Fields.{request_order}
 use Rattle.rules.specs.Laws.Here.{range_at, of_order_at, pass_at, range_name, rule_unbooked, rule_booked}

@@ -3,7 +3,8 @@ use Rattle.std.specs.Prelude.{◌-◌, ◌<◌, ◌&&◌}
 use Rattle.std.specs.List.{starts_with}
 use Rattle.std.proofs.Common.{◌≡◌, ◌≤◌, ℕ, List, [], ◌∷◌, eqb, get_or, length, sym, ◌∙◌, arith, eq-eqb}
 use Rattle.std.proofs.lemmas.Grind.{common_steps}
-use Rattle.prelude.specs.Span.{span, get_span, length_span}
+use Rattle.prelude.specs.Span.{span}
+use Rattle.prelude.specs.Laws.Span.{get_span, length_span}
 use Rattle.format.specs.Codes.{is_none}
 use Rattle.rules.proofs.ranges.is_none.Goals as goal
 

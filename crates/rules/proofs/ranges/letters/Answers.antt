@@ -1,7 +1,8 @@
 -- `letters` meets its contract: the bytes below k pass, or stand behind the text. Rests on prelude.
 use Rattle.std.proofs.Common.{◌≡◌, sym, ap, ◌∙◌, arith}
-use Rattle.prelude.specs.Below.{all_below, all_none, until, all_step, all_until}
-use Rattle.prelude.specs.Span.{get_span}
+use Rattle.prelude.specs.Below.{all_below, until}
+use Rattle.prelude.specs.Laws.Below.{all_none, all_step, all_until}
+use Rattle.prelude.specs.Laws.Span.{get_span}
 use Rattle.prelude.specs.Texts.{text_at}
 use Rattle.format.specs.Codes.{alnum_at}
 use Rattle.rules.proofs.ranges.letters.Goals as goal

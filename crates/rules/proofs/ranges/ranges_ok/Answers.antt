@@ -2,7 +2,7 @@
 use Rattle.std.proofs.Common.{◌∙◌, rules, arith, tests}
 use Rattle.std.proofs.lemmas.Iterator.{YieldsList-from_range}
 use Rattle.std.proofs.lemmas.Iterator.Search.{all_from_yields_List}
-use Rattle.prelude.specs.Chains.{all_range}
+use Rattle.prelude.specs.Laws.Chains.{all_range}
 use Rattle.rules.specs.Laws.Here.{range_at}
 use Rattle.rules.proofs.ranges.ranges_ok.Goals as goal
 

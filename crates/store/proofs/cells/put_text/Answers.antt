@@ -1,6 +1,7 @@
--- `put_text` meets its contract: the bytes, and the length behind them, are one splice. Rests on prelude's Span.
+-- `put_text` meets its contract: it writes the bytes and the length behind them as one splice. Rests on prelude's Span.
 use Rattle.std.proofs.Common.{◌≡◌, sym, ap, ◌∙◌, [], ◌∷◌, ℕ, ◌+◌, arith, length, get_or, Fits, w8, rules}
-use Rattle.prelude.specs.Span.{splice, splice_append}
+use Rattle.prelude.specs.Span.{splice}
+use Rattle.prelude.specs.Laws.Span.{splice_append}
 use Rattle.prelude.specs.Texts.{WholeText}
 use Rattle.store.specs.Cells.{text_bytes}
 use Rattle.store.proofs.cells.put_text.Goals as goal

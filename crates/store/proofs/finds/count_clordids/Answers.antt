@@ -1,7 +1,8 @@
--- `count_clordids` meets its contract: how many of the requests in use. Rests on Finds and InUse.
+-- `count_clordids` meets its contract: it counts the requests in use that pass. Rests on Finds and InUse.
 use Rattle.std.proofs.Common.{Bool, true, false, ◌≡◌, ◌+◌, refl, sym, ap, ◌∙◌, arith}
 use Rattle.std.specs.Int.{from_bool}
-use Rattle.prelude.specs.Below.{count_below, count_none, count_le}
+use Rattle.prelude.specs.Below.{count_below}
+use Rattle.prelude.specs.Laws.Below.{count_none, count_le}
 use Rattle.prelude.specs.Cases.{if◌then◌otherwise◌}
 use Rattle.store.specs.Layout.{header·orders, most_orders, header·requests, most_requests}
 use Rattle.store.specs.Laws.Stored.{count_most}

@@ -1,4 +1,4 @@
--- `find_client` meets its contract: the first of the orders in use. Rests on Finds and InUse.
+-- `find_client` meets its contract: it gives the first of the orders in use that passes. Rests on Finds and InUse.
 use Rattle.std.proofs.Common.{◌<◌, rules, sym, ◌∙◌, arith, tests}
 use Rattle.std.proofs.lemmas.Iterator.{serves_from_Range}
 use Rattle.store.specs.Layout.{header·orders, most_orders}

@@ -1,4 +1,4 @@
--- `find_clordid` meets its contract: the first of the requests in use. Rests on Finds and InUse.
+-- `find_clordid` meets its contract: it gives the first of the requests in use that passes. Rests on Finds and InUse.
 use Rattle.std.proofs.Common.{◌<◌, ◌≤◌, rules, sym, ◌∙◌, arith, tests}
 use Rattle.std.proofs.lemmas.Iterator.{serves_from_Range}
 use Rattle.store.specs.Layout.{header·orders, most_orders, header·requests, most_requests}

@@ -1,4 +1,4 @@
--- `find_downstream` meets its contract: the first of the requests in use. Rests on Finds and InUse.
+-- `find_downstream` meets its contract: it gives the first of the requests in use that passes. Rests on Finds and InUse.
 use Rattle.std.proofs.Common.{◌<◌, rules, sym, ◌∙◌, arith, tests}
 use Rattle.std.proofs.lemmas.Iterator.{serves_from_Range}
 use Rattle.store.specs.Layout.{header·requests, most_requests}

@@ -1,4 +1,4 @@
--- `orders::decode` meets its contract: the record's groups, one by one. Rests on the laws of the record.
+-- `orders::decode` meets its contract: it reads the record's groups one by one. Rests on the laws of the record.
 use Rattle.store.specs.Laws.Orders.{is_order}
 use Rattle.store.proofs.orders.decode.Goals as goal
 

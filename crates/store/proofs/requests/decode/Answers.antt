@@ -1,4 +1,4 @@
--- `requests::decode` meets its contract: the record's fields, one by one. Rests on the laws of the record.
+-- `requests::decode` meets its contract: it reads the record's fields one by one. Rests on the laws of the record.
 use Rattle.std.proofs.Common.{rules}
 use Rattle.store.specs.Laws.Requests.{is_request}
 use Rattle.store.proofs.requests.decode.Goals as goal

@@ -1,4 +1,4 @@
-//! Records with what a reader must say of them, for the program `codec` of the repository. `records --write FILE` writes them,
+//! Records with what a reader must say of them, for the program `try_codec` of the repository. `records --write FILE` writes them,
 //! `records FILE` fails if the model's reader or the Rust's answers say otherwise now.
 //!
 //! Items one after another: tag 1 and an event's record, tag 2 and an answer; the length in 2 bytes, the bytes, and the

@@ -1,7 +1,7 @@
 -- `decimal::digits`: the width of two words: the digits counted and those left are all. Assumes nothing.
 use Rattle.std.proofs.Common.{◌≡◌, ℕ, ◌+◌, ◌/◌, ◌≤◌, length, get_or, ap, rules, arith, Fits, w64}
 use Rattle.wide.specs.Wide.{value}
-use Rattle.wide.specs.Words.{value_of}
+use Rattle.wide.specs.Laws.Words.{value_of}
 use Rattle.decimal.specs.Decimal.{digits}
 use Rattle.decimal.specs.Laws.Width.{down_none, width_more, width_some, width_words}
 use Rattle.decimal.proofs.digits.ArrayU642Digits.width.Goals as goal

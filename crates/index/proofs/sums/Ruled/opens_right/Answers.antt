@@ -2,7 +2,7 @@
 use Rattle.std.proofs.Common.{◌∙◌, rules, arith, tests}
 use Rattle.std.proofs.lemmas.Iterator.{YieldsList-from_range}
 use Rattle.std.proofs.lemmas.Iterator.Search.{all_from_yields_List}
-use Rattle.prelude.specs.Chains.{all_range}
+use Rattle.prelude.specs.Laws.Chains.{all_range}
 use Rattle.store.specs.Book.{order_count}
 use Rattle.index.specs.Laws.Left.{right_first, right_all}
 use Rattle.index.proofs.sums.Ruled.opens_right.Goals as goal

@@ -1,4 +1,4 @@
--- `Pair::amounts` meets its contract: an order more each turn. Rests on Pair.
+-- `Pair::amounts` meets its contract: each turn takes one order more. Rests on Pair.
 use Rattle.std.proofs.Common.{◌≡◌, arith, rules}
 use Rattle.store.specs.Book.{book_of}
 use Rattle.store.specs.Laws.Stored.{length_orders}

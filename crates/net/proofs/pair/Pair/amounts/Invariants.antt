@@ -1,4 +1,4 @@
--- `Pair::amounts` meets its contract: an order more each turn. Rests on Pair.
+-- `Pair::amounts` meets its contract: each turn takes one order more. Rests on Pair.
 use Rattle.std.proofs.Common.{◌≤◌}
 use Rattle.store.specs.Book.{book_of, order_count}
 use Rattle.net.specs.Laws.Pair.{IsSum}

@@ -2,7 +2,7 @@
 use Rattle.std.proofs.Common.{◌∙◌, arith, rules, tests}
 use Rattle.std.proofs.lemmas.Iterator.{YieldsList-from_range}
 use Rattle.std.proofs.lemmas.Iterator.Search.{all_from_yields_List}
-use Rattle.prelude.specs.Chains.{all_range}
+use Rattle.prelude.specs.Laws.Chains.{all_range}
 use Rattle.store.specs.Book.{book_of}
 use Rattle.net.specs.Net.{miss_at}
 use Rattle.net.proofs.pair.Pair.unseen.Goals as goal

@@ -1,4 +1,4 @@
--- `Pair::with` meets its contract: an order that is not theirs, a purchase, or a sale. Rests on Pair.
+-- `Pair::with` meets its contract: its cases are an order that is not theirs, a purchase, and a sale. Rests on Pair.
 use Rattle.std.proofs.Common.{◌≡◌, true, ◌+◌, ◌^◌, ◌≤◌, ◌<◌, length, sym, ◌∙◌, arith}
 use Rattle.store.specs.Book.{book_of, order_in}
 use Rattle.store.specs.Layout.{order_base, state·cumqty}

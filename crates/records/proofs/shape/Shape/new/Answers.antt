@@ -1,7 +1,7 @@
 -- `Shape::new`: a head of five bytes, the bits of the kind, and an end within the slice. Assumes nothing.
 use Rattle.std.proofs.Common.{le-leb, lt-ltb, ◌≡◌, ◌≤◌, ◌+◌, ℕ, ltb, get_or, length, refl, sym, ◌∙◌, arith, lit≤}
 use Rattle.std.proofs.lemmas.Bool.{lt-leb}
-use Rattle.prelude.specs.Cases.{if_true}
+use Rattle.prelude.specs.Laws.Cases.{if_true}
 use Rattle.words.specs.Laws.Windows.{window_32}
 use Rattle.places.specs.Starts.{start_from}
 use Rattle.format.specs.Format.{bits_right}

@@ -1,0 +1,11 @@
+pub mod Cases
+pub mod Below
+pub mod Lists
+pub mod Chains
+pub mod Totals
+pub mod Span
+pub mod Number
+pub mod Pieces
+pub mod Bytes
+pub mod Table
+pub mod Texts
