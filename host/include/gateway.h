@@ -1,9 +1,10 @@
-/* The proved order book: ten functions over lent slices, each a pointer and then a length. docs/SCOPE.md says what they do,
+/* The proved order book: eleven functions over lent slices, each a pointer and then a length. docs/SCOPE.md says what they do,
  * docs/LAYOUT.md has the book's bytes.
  *
  * Each pointer must be valid for its length, and the slices of one call must not overlap. Any bytes may be passed. A call
  * that returns a refusal other than 0 has written nothing. The library keeps nothing between calls and allocates nothing, so
- * that books may be used side by side, each by one thread at a time. It is for x86-64 Linux and needs memcpy and memset. */
+ * that books may be used side by side, each by one thread at a time. It is for x86-64 Linux and needs memcpy, memmove and
+ * memset. */
 #ifndef JUBAFIYE_GATEWAY_H
 #define JUBAFIYE_GATEWAY_H
 
@@ -27,11 +28,12 @@ extern "C" {
 
 /* The version of library and header (CHANGELOG.md), and of the book's layout (docs/LAYOUT.md, Version): the bytes of a book do not
  * say theirs, so that whoever stores a book stores this number beside it. */
-#define JUBAFIYE_VERSION "0.1.0"
+#define JUBAFIYE_VERSION "0.1.1"
 #define JUBAFIYE_LAYOUT_VERSION 1
 
 #define JUBAFIYE_BOOK_BYTES 65536
 #define JUBAFIYE_ANSWER_BYTES 1024
+#define JUBAFIYE_SAID_BYTES 1025 /* the most that one of many events says: its refusal and an answer */
 #define JUBAFIYE_PAGE_LINE 81
 #define JUBAFIYE_PAGE_BYTES 5184 /* the most that the page of any book has: 64 lines */
 #define JUBAFIYE_NET_LINE 27
@@ -51,6 +53,29 @@ uint32_t JUBAFIYE_FUNCTION(start)(uint8_t *book, size_t book_len, uint32_t setti
  * JUBAFIYE_REFUSED_FULL. */
 uint32_t JUBAFIYE_FUNCTION(event)(uint8_t *book, size_t book_len, const uint8_t *record, size_t record_len, uint8_t *answer,
                size_t answer_len);
+
+/* A refusal, or 0 and what many events in one call came to. With a refusal the numbers are 0. */
+typedef struct {
+    uint32_t refusal;
+    uint64_t events;  /* how many were run, refused ones too */
+    uint64_t read;    /* the bytes of the records that they took */
+    uint64_t written; /* the bytes of the answers that they wrote */
+} Ran;
+
+/* Runs records that stand one after the other, each after its length in 2 bytes (little-endian), as `event` runs each on the book
+ * that the one before it left; but the book's rules are asked once. A length of 0 is a record too, which is refused with 3. For
+ * each record the answers get a byte with its refusal, 0 or JUBAFIYE_REFUSED_RECORD to JUBAFIYE_REFUSED_FULL, and, if that is 0,
+ * its answer, whose first two bytes are its length; a refused event does not end the list. The bytes behind `written` stay as
+ * they are. Refused with JUBAFIYE_REFUSED_BOOK, then with JUBAFIYE_REFUSED_ANSWER_BUFFER if answers is shorter than
+ * JUBAFIYE_SAID_BYTES, whatever the records.
+ *
+ * It goes on as long as a whole record is there and JUBAFIYE_SAID_BYTES of answers are left. It stopped for want of room exactly
+ * if fewer than JUBAFIYE_SAID_BYTES of answers are left; otherwise what is left of the records, if anything, is one that is cut.
+ * Either way the next call starts at `read`: with new room, and with the rest of a cut record behind it. A length may be any, up
+ * to 65,535: a host whose own buffer is shorter than 65,537 bytes must treat a length that cannot fit as garbage, or it waits for
+ * ever. */
+Ran JUBAFIYE_FUNCTION(events)(uint8_t *book, size_t book_len, const uint8_t *records, size_t records_len, uint8_t *answers,
+               size_t answers_len);
 
 /* Returns 0 if the book has its length and keeps its rules, else 1. */
 uint32_t JUBAFIYE_FUNCTION(check)(const uint8_t *book, size_t book_len);

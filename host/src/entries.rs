@@ -19,6 +19,17 @@ use crate::needs::Needs;
 /// ```
 pub const ANSWER_BYTES: usize = 1_024;
 
+/// The most bytes that one of many events says, its refusal and an answer: a call goes on as long as there is room for it.
+///
+/// ```
+/// use jubafiye::{Book, Refusal, ANSWER_BYTES, SAID_BYTES};
+///
+/// assert_eq!(SAID_BYTES, 1 + ANSWER_BYTES);
+/// let short = Book::new(10_000).take_all(&[], &mut [0; SAID_BYTES - 1]).map(|taken| taken.events());
+/// assert_eq!(short, Err(Refusal::AnswerBuffer));
+/// ```
+pub const SAID_BYTES: usize = 1_025;
+
 /// A line of the evening page, with its line feed.
 pub(crate) const PAGE_LINE: usize = 81;
 
@@ -51,6 +62,15 @@ mod c {
         pub quantity: u64,
     }
 
+    /// A refusal, or 0 and what many events in one call came to.
+    #[repr(C)]
+    pub struct Ran {
+        pub refusal: u32,
+        pub events: u64,
+        pub read: u64,
+        pub written: u64,
+    }
+
     /// A refusal, or 0 and what an event will need.
     #[repr(C)]
     pub struct Needs {
@@ -74,6 +94,15 @@ mod c {
             answer: *mut u8,
             answer_len: usize,
         ) -> u32;
+        #[link_name = "jubafiye_events"]
+        pub fn events(
+            book: *mut u8,
+            book_len: usize,
+            records: *const u8,
+            records_len: usize,
+            answers: *mut u8,
+            answers_len: usize,
+        ) -> Ran;
         #[link_name = "jubafiye_check"]
         pub fn check(book: *const u8, book_len: usize) -> u32;
         #[link_name = "jubafiye_page"]
@@ -143,6 +172,30 @@ pub(crate) fn event(book: &mut BookBytes, record: &[u8], answer: &mut [u8]) -> R
             answer.len(),
         )
     })
+}
+
+/// Runs many records, each after its length, and gives how many were run, the bytes of them that were read and those that were
+/// written of the answers; a refused call has changed neither book nor answers.
+#[allow(unsafe_code)]
+pub(crate) fn events(
+    book: &mut BookBytes,
+    records: &[u8],
+    answers: &mut [u8],
+) -> Result<[usize; 3], Refusal> {
+    // SAFETY: three slices that do not overlap, since two of them are lent as `&mut`; each with its own length.
+    let ran = unsafe {
+        c::events(
+            book.as_mut_ptr(),
+            book.len(),
+            records.as_ptr(),
+            records.len(),
+            answers.as_mut_ptr(),
+            answers.len(),
+        )
+    };
+    Refusal::of(ran.refusal)?;
+    // A number that is past the address space is past any buffer.
+    Ok([ran.events, ran.read, ran.written].map(|number| usize::try_from(number).unwrap_or(usize::MAX)))
 }
 
 /// Whether a book keeps its rules.

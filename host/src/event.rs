@@ -284,6 +284,23 @@ impl Event<'_> {
             Self::GatewayCancel { name } => Writer::new(bytes, 9).text(Bit::NAME, name),
         }
     }
+
+    /// Appends the event's record behind its length in two bytes, little-endian, as `Book::take_all` and the day program read
+    /// records that stand one after the other.
+    ///
+    /// ```
+    /// # use jubafiye::Event;
+    /// let mut records = Vec::new();
+    /// Event::GatewayCancel { name: b"G1" }.append(&mut records);
+    /// assert_eq!(records, b"\x08\0\x09\x04\0\0\0\x02G1");
+    /// ```
+    pub fn append(&self, records: &mut Vec<u8>) {
+        let record = self.record();
+        // A record of an event has fewer than 1,024 bytes, whatever its fields hold.
+        let length = u16::try_from(record.len()).unwrap_or(u16::MAX);
+        records.extend_from_slice(&length.to_le_bytes());
+        records.extend_from_slice(&record);
+    }
 }
 
 /// A record that starts with a venue and a downstream ClOrdID.

@@ -67,6 +67,8 @@ mod kinds;
 mod layout;
 mod list;
 #[cfg(feature = "book")]
+mod many;
+#[cfg(feature = "book")]
 mod marks;
 mod message;
 #[cfg(feature = "book")]
@@ -102,13 +104,15 @@ pub use decimal::{DecimalError, Net, Price, Qty};
 #[cfg(feature = "book")]
 pub use diff::Change;
 #[cfg(feature = "book")]
-pub use entries::ANSWER_BYTES;
+pub use entries::{ANSWER_BYTES, SAID_BYTES};
 pub use error::{BadAnswer, Error, Fault, Refusal};
 pub use event::{Amend, Booking, Event, RejectedRequest, Replace, VenueReport};
 pub use explain::{explain, Broken, Rule};
 pub use fields::{ExecType, OrdStatus, OrdType, Side, TimeInForce};
 pub use kinds::{SentKind, Stage};
 pub use layout::{BOOK_BYTES, LAYOUT_VERSION};
+#[cfg(feature = "book")]
+pub use many::{Said, Stopped, Taken};
 #[cfg(feature = "book")]
 pub use marks::{Marks, PLACE_BYTES};
 pub use message::{CancelReject, Message, PriceSource, Report, RequestKind, ToVenue};

@@ -11,6 +11,8 @@ static uint8_t lines[JUBAFIYE_NET_BYTES];
 static uint64_t scratch[JUBAFIYE_NET_SCRATCH];
 static uint8_t places[JUBAFIYE_PLACE_BYTES];
 static uint8_t list[JUBAFIYE_CHAIN_BYTES];
+static uint8_t records[64];
+static uint8_t answers[2 * JUBAFIYE_SAID_BYTES];
 
 /* Client 0x0107 books 5 of W for venue 3 at the market, named A, ClOrdID C. */
 static const uint8_t booking[] = {JUBAFIYE_EVENT_BOOK, 0xCF, 0x03, 0, 0, 0x07, 0x01, 3, 0, 1, 'A', 1, 'C', 1, 'W', '1', '1',
@@ -89,6 +91,27 @@ int main(void) {
     expect("chain of no name", linked.refusal == JUBAFIYE_TAKEN && linked.number == 0);
     linked = chain(book, sizeof book - 1, 0x0107, used, 1, list, 0);
     expect("chain, refused", linked.refusal == JUBAFIYE_REFUSED_BOOK && linked.number == 0);
+
+    /* An empty book; the booking, the same again, a record of no byte, and the booking cut. */
+    expect("start once more", start(book, sizeof book, 10000) == JUBAFIYE_TAKEN);
+    size_t one = 2 + sizeof booking, whole = 2 * one + 2, cut = whole + 7;
+    for (size_t at = 0; at < 2; at++) {
+        records[at * one] = sizeof booking;
+        memcpy(records + at * one + 2, booking, sizeof booking);
+    }
+    memcpy(records + whole, records, cut - whole);
+    memset(answers, 7, sizeof answers);
+    Ran ran = events(book, sizeof book, records, cut, answers, JUBAFIYE_SAID_BYTES - 1);
+    expect("events, short", ran.refusal == JUBAFIYE_REFUSED_ANSWER_BUFFER && ran.events == 0 && ran.read == 0 && ran.written == 0);
+    ran = events(book, sizeof book - 1, records, cut, answers, 0);
+    expect("events, refused", ran.refusal == JUBAFIYE_REFUSED_BOOK && ran.events == 0 && ran.read == 0 && ran.written == 0);
+    expect("nothing written", answers[0] == 7);
+    ran = events(book, sizeof book, records, cut, answers, JUBAFIYE_SAID_BYTES);
+    expect("events, room for one", ran.refusal == JUBAFIYE_TAKEN && ran.events == 1 && ran.read == one && ran.written == 6);
+    ran = events(book, sizeof book, records + one, cut - one, answers + 6, sizeof answers - 6);
+    expect("events, the rest", ran.refusal == JUBAFIYE_TAKEN && ran.events == 2 && ran.read == whole - one && ran.written == 2);
+    static const uint8_t said[] = {0, 5, 0, 0, 0, 0, JUBAFIYE_REFUSED_IN_USE, JUBAFIYE_REFUSED_RECORD, 7};
+    expect("what was said", memcmp(answers, said, sizeof said) == 0);
 
     if (!failed) {
         printf("calls: each function from C\n");

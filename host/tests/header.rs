@@ -2,7 +2,7 @@
 
 use jubafiye::{
     Alarm, Event, Outcome, Refusal, ANSWER_BYTES, BOOK_BYTES, CHAIN_BYTES, CHAIN_ENTRY_BYTES, LAYOUT_VERSION,
-    NET_BYTES, NET_SCRATCH, PAGE_BYTES, PLACE_BYTES, VERSION,
+    NET_BYTES, NET_SCRATCH, PAGE_BYTES, PLACE_BYTES, SAID_BYTES, VERSION,
 };
 
 const HEADER: &str = include_str!("../include/gateway.h");
@@ -28,6 +28,7 @@ fn names(start: &str) -> usize {
 #[test]
 fn lengths() {
     assert_eq!((number("BOOK_BYTES"), number("ANSWER_BYTES")), (Some(BOOK_BYTES), Some(ANSWER_BYTES)));
+    assert_eq!(number("SAID_BYTES"), Some(SAID_BYTES));
     assert_eq!((number("PAGE_LINE"), number("PAGE_BYTES")), (Some(PAGE_BYTES / 64), Some(PAGE_BYTES)));
     assert_eq!((number("NET_LINE"), number("NET_BYTES")), (Some(NET_BYTES / 64), Some(NET_BYTES)));
     let chain = (Some(CHAIN_ENTRY_BYTES), Some(CHAIN_BYTES));

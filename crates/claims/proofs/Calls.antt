@@ -22,8 +22,9 @@ use Rattle.machine.proofs.Claim.Calls.{run_of, demand_of, since_return}
 use Rattle.machine.proofs.Claim.OneOrder.{stays_one}
 use Rattle.rules.specs.Keeps.{keeps_of}
 use Rattle.claims.specs.Claims.{Call, read_call, heard_of, entries, AnswersOnBytes, Demand3OnBytes, FilledWholeOnBytes, Passes, SinceOnBytes, StaysOneOnBytes}
-use Rattle.claims.proofs.Header.{blank_keeps}
-use Rattle.claims.proofs.Taken.{Asked, broken, short, unreadable, stepped, asked, Taken, call_taken, left, event_refused, returned_is, returned_taken, either_way, whole, writes, check_kept, kept_check, keeps_after, keeps_sizes}
+use Rattle.kept.proofs.Header.{blank_keeps}
+use Rattle.kept.proofs.Taken.{Asked, broken, short, unreadable, stepped, asked, Taken, call_taken, left, event_refused, returned_is, whole, writes, keeps_after}
+use Rattle.claims.proofs.Taken.{returned_taken, either_way, check_kept, kept_check, keeps_sizes}
 use Rattle.step.specs.Entries.{Returned, call_of, event_of, start_refusal, start_of}
 use Rattle.format.specs.Refusal.{event_refusal}
 use Rattle.records.specs.Laws.Accepted.{event_right}

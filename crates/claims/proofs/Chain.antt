@@ -9,7 +9,7 @@ use Rattle.step.specs.Entries.{event_of}
 use Rattle.claims.specs.Claims.{Call}
 use Rattle.claims.specs.Opens.{bytes_after}
 use Rattle.claims.specs.Chain.{ChainOnBytes}
-use Rattle.claims.proofs.Header.{blank_keeps}
+use Rattle.kept.proofs.Header.{blank_keeps}
 use Rattle.claims.proofs.Taken.{kept_check}
 use Rattle.claims.proofs.Calls.{Good, faithful, start_is}
 

@@ -14,9 +14,10 @@ use Rattle.machine.proofs.Kept.Indexed.{BookKept, book_kept}
 use Rattle.rules.specs.Keeps.{keeps_of}
 use Rattle.claims.specs.Questions.{is_booking, used, mispriced, adds, full, first_no}
 use Rattle.claims.specs.Claims.{Reads, Numbers, Grown, Counted, Demand1}
-use Rattle.claims.proofs.Header.{blank_keeps}
+use Rattle.kept.proofs.Header.{blank_keeps}
 use Rattle.claims.proofs.Refusals.{step_number, step_grown}
-use Rattle.claims.proofs.Taken.{Asked, broken, short, unreadable, stepped, asked, returned_is, writes, keeps_after, check_kept, check_broken, kept_check, either_way}
+use Rattle.kept.proofs.Taken.{Asked, broken, short, unreadable, stepped, asked, returned_is, writes, keeps_after}
+use Rattle.claims.proofs.Taken.{check_kept, check_broken, kept_check, either_way}
 use Rattle.step.specs.Entries.{Returned, call_of, event_of, start_refusal, start_of, check_of}
 use Rattle.format.specs.Refusal.{event_refusal}
 use Rattle.rules.specs.Laws.Keeps.{keeps_held}

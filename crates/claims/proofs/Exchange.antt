@@ -7,7 +7,7 @@ use Rattle.prelude.specs.Laws.Cases.{if_true}
 use Rattle.prelude.specs.Span.{span, splice}
 use Rattle.prelude.specs.Totals.{every[], every∷}
 use Rattle.store.specs.Book.{Book, book_of, order_in, request_count, put_order, store_order}
-use Rattle.store.specs.Requests.{WholeRequest, encode_request}
+use Rattle.store.specs.Requests.{WholeRequest}
 use Rattle.machine.specs.declared.Change.{Change}
 use Rattle.machine.specs.Machine.{step_of, after, book_after, change_of}
 use Rattle.machine.specs.Exchange.{SameOrder, open_of, Turned, OfTwoClients, Exchanged, concerns, client_at, turned_order}
@@ -16,7 +16,8 @@ use Rattle.machine.proofs.Exchange.Places.{turned_book}
 use Rattle.opens.specs.Opens.{opened}
 use Rattle.claims.specs.Claims.{Call}
 use Rattle.claims.specs.Exchange.{called, CallsOfTwoClients, CallsExchanged, TwoClientsOnBytes, after_two, lent, SameBooks, turned_bytes}
-use Rattle.claims.proofs.Taken.{Taken, call_taken, returned_is, check_kept}
+use Rattle.kept.proofs.Taken.{Taken, call_taken, returned_is}
+use Rattle.claims.proofs.Taken.{check_kept}
 use Rattle.step.specs.Entries.{Returned, book_with}
 use Rattle.rules.specs.Laws.Keeps.{keeps_held}
 use Rattle.store.specs.Layout.{most_requests, book_size, most_orders, request_size, request_base}
@@ -39,7 +40,7 @@ use Rattle.store.specs.declared.Request.{Request}
 use Rattle.store.specs.Laws.Kept.{store_order_keeps}
 use Rattle.machine.proofs.Exchange.Commute.{first_at, second_at}
 use Rattle.claims.proofs.Splices.{Write, put, length_all}
-use Rattle.claims.proofs.Placed.{order_write, request_write, origin_by, zone_inside, request_zone}
+use Rattle.claims.proofs.Placed.{order_write, request_write, linked_bytes, origin_by, zone_inside, request_zone}
 use Rattle.claims.proofs.Steps.{call_event, taken_here, called_is, left_is, left_keeps, left_bytes, returned_none, fit, answer_of, answer_fits, answer_same}
 
 -- ---- the two calls
@@ -274,12 +275,12 @@ module _ (b : List ℕ) (d e : Call) (i j : ℕ) (h : CallsOfTwoClients b d e i 
     from_d = origin_by b second_change
 
     -- the two records, as bytes
-    record_first : span one (request_base n) request_size ≡ encode_request from_c qc
+    record_first : span one (request_base n) request_size ≡ linked_bytes from_c qc
     record_first =
         ap (λ (y : List ℕ). span y (request_base n) request_size) one_writes
         ∙ (records b i j first_change last_change second_change next_change pair nc nd).0
 
-    record_second : span one (request_base (n + 1)) request_size ≡ encode_request from_d qd
+    record_second : span one (request_base (n + 1)) request_size ≡ linked_bytes from_d qd
     record_second =
         ap (λ (y : List ℕ). span y (request_base (n + 1)) request_size) one_writes
         ∙ (records b i j first_change last_change second_change next_change pair nc nd).1

@@ -1,8 +1,3 @@
-pub mod Origin
-pub mod Written
-pub mod Header
-pub mod Words
-pub mod Links
 pub mod Refusals
 pub mod Taken
 pub mod Demands
@@ -23,3 +18,8 @@ pub mod Marks
 pub mod Fields
 pub mod Needs
 pub mod Venue
+pub mod EventsRecords
+pub mod EventsRun
+pub mod EventsHeard
+pub mod EventsCalls
+pub mod Events

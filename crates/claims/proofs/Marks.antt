@@ -49,19 +49,19 @@ call_passes b p (return_to name places bytes) = return_passes b name places p by
 
 -- ---- the calls as events and returns
 
-follow_more : (is : List (Step entries Passes)) (s : SinceReturn entries) (js : List (Step entries Passes)) → follow entries s (is ++ js) ≡ follow entries (follow entries s is) js
+pub follow_more : (is : List (Step entries Passes)) (s : SinceReturn entries) (js : List (Step entries Passes)) → follow entries s (is ++ js) ≡ follow entries (follow entries s is) js
 follow_more [] s js = refl
 follow_more (call i ∷ is) s js = follow_more is _ js
 follow_more (back h g ∷ is) s js = follow_more is _ js
 
 -- what has happened is so many events and returns
-record Followed (b : List ℕ) (s : SinceReturn entries) : Type 0 where
-  steps : List (Step entries Passes)
-  is : follow entries (just_returned entries b) steps ≡ s
-  passes : Passes s.held
+pub record Followed (b : List ℕ) (s : SinceReturn entries) : Type 0 where
+  pub steps : List (Step entries Passes)
+  pub is : follow entries (just_returned entries b) steps ≡ s
+  pub passes : Passes s.held
 
 module _ (b : List ℕ) (s : SinceReturn entries) (f : Followed b s) where
-  one_more_lem : (step : Step entries Passes) → follow entries (just_returned entries b) (f.steps ++ (step ∷ [])) ≡ follow entries s (step ∷ [])
+  pub one_more_lem : (step : Step entries Passes) → follow entries (just_returned entries b) (f.steps ++ (step ∷ [])) ≡ follow entries s (step ∷ [])
   one_more_lem step = follow_more f.steps (just_returned entries b) (step ∷ []) ∙ ap (λ (x : SinceReturn entries). follow entries x (step ∷ [])) f.is
 
   -- the book is the same, and nothing was told
@@ -72,7 +72,7 @@ module _ (b : List ℕ) (s : SinceReturn entries) (f : Followed b s) where
     passes = subst Passes (sym e) f.passes;
   }
 
-  after_call_lem : (c : BookCall) → Followed b (after_call s c)
+  pub after_call_lem : (c : BookCall) → Followed b (after_call s c)
   unfolding if◌then◌otherwise◌
   after_call_lem (event c) = record { steps = f.steps ++ (call c ∷ []); is = one_more_lem (call c); passes = call_passes s.held f.passes (event c) }
   after_call_lem (set_mark name places) = unmoved _ (calls_keep.same_book s.held name places)
@@ -87,7 +87,7 @@ after_calls_lem : (b : List ℕ) (s : SinceReturn entries) → Followed b s → 
 after_calls_lem b s f [] = f
 after_calls_lem b s f (c ∷ cs) = after_calls_lem b (after_call s c) (after_call_lem b s f c) cs
 
-since_mark : (b : List ℕ) → Passes b → (s : SinceReturn entries) → Followed b s → SinceMark s
+pub since_mark : (b : List ℕ) → Passes b → (s : SinceReturn entries) → Followed b s → SinceMark s
 since_mark b p s f =
     subst SinceMark f.is (record {
       passes = subst (λ (x : SinceReturn entries). Passes x.held) (sym f.is) f.passes;

@@ -24,13 +24,14 @@ use Rattle.needs.specs.Laws.Needs.{needs_taken, needs_refused}
 use Rattle.claims.specs.Needs.{written_fields, Used, Foretold, NeedsOnBytes}
 use Rattle.claims.proofs.Fields.{fields_written}
 use Rattle.claims.proofs.Refusals.{requests_grow}
-use Rattle.claims.proofs.Taken.{Taken, left, either_way, returned_is, whole, writes}
+use Rattle.kept.proofs.Taken.{Taken, left, returned_is, whole, writes}
+use Rattle.claims.proofs.Taken.{either_way}
 use Rattle.claims.proofs.Calls.{read_back}
 use Rattle.claims.proofs.Demands.{demand1}
 
 -- ---- the same change
 
-same_call : (b r : List ℕ) (n : ℕ) → 1024 ≤ n → call_of b r n ≡ call_of b r 1024
+pub same_call : (b r : List ℕ) (n : ℕ) → 1024 ≤ n → call_of b r n ≡ call_of b r 1024
 unfolding call_of if◌then◌otherwise◌
 same_call b r n h = rw (le-ltb n 1024 h) refl
 
@@ -43,14 +44,14 @@ module _ (a : List ℕ) (c : Change) (room : 1024 ≤ length a) where
   abbrev written : List ℕ
   written = answer_bytes c.output.alarm c.output.alarm2 ms
 
-  long_is : length written ≡ answer_length ms
+  pub long_is : length written ≡ answer_length ms
   unfolding answer_length
   long_is = length_answer c.output.alarm c.output.alarm2 ms
 
   long_most : answer_length ms ≤ 1024
   long_most = omega (arith, long_is, answer_most c.output.alarm c.output.alarm2 ms (messages_few c))
 
-  long_there : length_in (splice a 0 written) ≡ answer_length ms
+  pub long_there : length_in (splice a 0 written) ≡ answer_length ms
   unfolding splice answer_bytes head_bytes answer_length
   long_there =
       let n : ℕ = head_size + length (messages_bytes ms) in

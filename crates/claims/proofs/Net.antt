@@ -15,7 +15,7 @@ use Rattle.net.proofs.Laws.Sound.{net_right}
 use Rattle.net.proofs.Laws.Ends.{sound_call}
 use Rattle.claims.specs.Claims.{Call, entries, Passes}
 use Rattle.claims.specs.Net.{reported, plus, Says, only_calls, start_calls, NetSinceOnBytes, NetOnBytes}
-use Rattle.claims.proofs.Header.{blank_keeps}
+use Rattle.kept.proofs.Header.{blank_keeps}
 use Rattle.claims.proofs.Taken.{check_kept, kept_check}
 use Rattle.claims.proofs.Calls.{start_is, passing, since_on_bytes}
 

@@ -19,8 +19,9 @@ use Rattle.rules.specs.Laws.Keeps.{keeps_stored, keeps_then}
 use Rattle.step.specs.Entries.{Returned, event_of, check_of}
 use Rattle.claims.specs.Claims.{Call, Exactly}
 use Rattle.claims.specs.Opens.{bytes_after, OpenRight, OpenOnBytes}
-use Rattle.claims.proofs.Header.{blank_keeps}
-use Rattle.claims.proofs.Taken.{check_kept, check_broken, keeps_after, either_way}
+use Rattle.kept.proofs.Header.{blank_keeps}
+use Rattle.kept.proofs.Taken.{keeps_after}
+use Rattle.claims.proofs.Taken.{check_kept, check_broken, either_way}
 use Rattle.claims.proofs.Calls.{Good, faithful, start_is}
 use Rattle.claims.proofs.Demands.{demand1}
 

@@ -29,7 +29,8 @@ use Rattle.step.specs.Entries.{Returned, book_with, event_of, check_of}
 use Rattle.claims.specs.Claims.{Call}
 use Rattle.claims.specs.Opens.{bytes_after}
 use Rattle.claims.specs.Outcomes.{answered_in, outcome_in, Spelled, SettledBy, Wrong, OutcomesOnBytes}
-use Rattle.claims.proofs.Taken.{Taken, check_broken, kept_check, either_way, writes, after_is}
+use Rattle.kept.proofs.Taken.{Taken, writes, after_is}
+use Rattle.claims.proofs.Taken.{check_broken, kept_check, either_way}
 use Rattle.claims.proofs.Calls.{Good, faithful}
 use Rattle.claims.proofs.Demands.{demand1}
 use Rattle.machine.proofs.Kept.Indexed.{OutcomeKept}

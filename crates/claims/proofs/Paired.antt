@@ -26,7 +26,7 @@ use Rattle.machine.proofs.Exchange.Commute.{count_two, first_at, second_at, othe
 use Rattle.machine.proofs.Exchange.Both.{Crossed, crossed_back}
 use Rattle.index.specs.Index.{origin_of}
 use Rattle.step.specs.Entries.{book_with}
-use Rattle.claims.proofs.Written.{Writes}
+use Rattle.kept.proofs.Written.{Writes}
 use Rattle.claims.proofs.Splices.{Write, put_all}
 use Rattle.claims.proofs.Placed.{order_write, rest_writes, rest_values, value_of, origin_by, add_writes, InOrder, InRest, InAdded, order_zone, rest_zones, add_zones, change_is}
 

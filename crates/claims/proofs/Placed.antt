@@ -1,19 +1,21 @@
 -- What a change of one order writes into the bytes of a book, as a list of writes, and where they stand: in the order's record, in its own requests' records, in
 -- the first free request record and the count, and in the word of its client. Rests on Splices and store's laws.
-use Rattle.std.proofs.Common.{ℕ, ◌+◌, ◌-◌, ◌≤◌, ◌<◌, arith, ◌≡◌, refl, sym, ap, ap₂, subst, ◌∙◌, ◌⊎◌, inl, inr, ⊎_elim, ◌&&◌, Some, List, [], ◌∷◌, ◌++◌, eqb, ltb, length, eq-eqb, ne_eqb, le-leb, lt-ltb}
+use Rattle.std.proofs.Common.{ℕ, ◌+◌, ◌-◌, ◌≤◌, ◌<◌, arith, ◌≡◌, refl, sym, ap, ap₂, subst, ◌∙◌, ◌⊎◌, inl, inr, ⊎_elim, ◌&&◌, true, false, Some, List, [], ◌∷◌, ◌++◌, eqb, ltb, length, eq-eqb, ne_eqb, le-leb, lt-ltb}
 use Rattle.std.proofs.Math.Decide.{ℕ_discrete}
 use Rattle.std.proofs.lemmas.Bool.{eqb-false, and_from, or_left}
 use Rattle.prelude.specs.Cases.{if◌then◌otherwise◌}
 use Rattle.prelude.specs.Laws.Cases.{split_if, if_true, if_false, maybe_some}
 use Rattle.prelude.specs.Number.{bytes_of}
+use Rattle.prelude.specs.Span.{splice}
+use Rattle.prelude.specs.Laws.Span.{length_splice}
 use Rattle.prelude.specs.Totals.{Every, every[], every∷}
 use Rattle.prelude.specs.Laws.Totals.{every_map, every_append}
 use Rattle.store.specs.declared.Order.{Order}
 use Rattle.store.specs.declared.Request.{Request}
-use Rattle.store.specs.Layout.{book_size, header·orders, header·requests, order_size, most_orders, request_size, most_requests, order_base, request_base, request·answered, request·outcome, open_size, open_base}
+use Rattle.store.specs.Layout.{book_size, header·orders, header·requests, order_size, most_orders, request_size, most_requests, order_base, request_base, request·answered, request·outcome, request·origin, open_size, open_base}
 use Rattle.store.specs.Orders.{WholeOrder, encode_order}
 use Rattle.store.specs.Requests.{WholeRequest, encode_request}
-use Rattle.store.specs.Book.{Book, book_of, is_book, request_in, order_count, request_count, settled_as, put_order, store_order, put_request, set_count, add_request, mark_answered, store_open}
+use Rattle.store.specs.Book.{Book, book_of, is_book, request_in, order_count, request_count, settled_as, put_order, store_order, put_request, set_count, add_request, mark_answered, store_origin, store_open}
 use Rattle.store.specs.Finds.{find_client}
 use Rattle.store.specs.Laws.Orders.{length_order}
 use Rattle.store.specs.Laws.Requests.{length_request}
@@ -25,9 +27,9 @@ use Rattle.machine.specs.Machine.{answer_link, after}
 use Rattle.machine.specs.Exchange.{open_of}
 use Rattle.machine.proofs.Kept.Tables.{at, length_answer, answer_case}
 use Rattle.index.specs.Index.{origin_of}
-use Rattle.step.specs.Entries.{place_order, mark_link, place_requests, place_open, tables_with, book_with}
-use Rattle.claims.proofs.Splices.{Write, write, ends, put, put_all, Inside, Beside, apart, put_append, all_comm}
-use Rattle.claims.proofs.Written.{place_book, mark_link_keeps, mark_link_book, marked, marked_keeps, marked_count, tables_keeps}
+use Rattle.step.specs.Entries.{place_order, mark_link, place_requests, tables_with, place_origin, place_open, place_index, book_with}
+use Rattle.claims.proofs.Splices.{splice_within, Write, write, ends, put, put_all, Inside, Beside, apart, put_append, put_comm, all_comm}
+use Rattle.kept.proofs.Written.{place_book, mark_link_keeps, mark_link_book, marked, marked_keeps, marked_count, tables_keeps, origin_keeps}
 
 -- ---- the writes
 
@@ -57,12 +59,26 @@ pub rest_values : (p n f s g u : ℕ) (r : Requests) → ((r.answered ≡ 0 → 
 unfolding rest_writes
 rest_values p n f s g u r a b = ap₂ (λ (v w : List Write). v ++ (w ++ (open_write p n ∷ []))) (mark_values r.answered f g a) (mark_values r.superseded s u b)
 
+-- a request's record with its origin
+abbrev pub linked_bytes : (origin : ℕ) → Request → List ℕ
+linked_bytes origin q = splice (encode_request q) request·origin (bytes_of 2 origin)
+
+pub length_linked : (origin : ℕ) (q : Request) → WholeRequest q → length (linked_bytes origin q) ≡ request_size
+length_linked origin q w = let l : length (encode_request q) ≡ request_size = length_request q w in length_splice (encode_request q) request·origin (bytes_of 2 origin) (omega arith) ∙ l
+
+abbrev origin_write : (t origin : ℕ) → Write
+origin_write t origin = write (request_base t + request·origin) (bytes_of 2 origin)
+
 -- a request added behind t of them, with its origin, and their count
 abbrev pub request_write : (t origin : ℕ) → Request → Write
-request_write t origin q = write (request_base t) (encode_request origin q)
+request_write t origin q = write (request_base t) (linked_bytes origin q)
 
 abbrev pub count_write : ℕ → Write
 count_write n = write header·requests (bytes_of 2 n)
+
+-- as the tables have it, without an origin
+unfoldable plain_writes : (t : ℕ) → Requests → List Write
+plain_writes t r = if eqb r.added 0 then [] otherwise write (request_base t) (encode_request r.request) ∷ count_write (t + 1) ∷ []
 
 unfoldable pub add_writes : (t origin : ℕ) → Requests → List Write
 add_writes t origin r = if eqb r.added 0 then [] otherwise request_write t origin r.request ∷ count_write (t + 1) ∷ []
@@ -151,7 +167,7 @@ rest_zones x i p n f s r few h ha hs own' own =
     (every_append (mark_zones x i p r.superseded s few hs own) (every∷ (in_word p refl h refl refl) every[]))
 
 pub request_zone : (t origin : ℕ) (q : Request) → t < most_requests → WholeRequest q → InRequest t (request_write t origin q)
-request_zone t origin q h w = let l : length (encode_request origin q) ≡ request_size = length_request origin q w in in_request t refl h (omega arith) (omega arith)
+request_zone t origin q h w = let l : length (linked_bytes origin q) ≡ request_size = length_linked origin q w in in_request t refl h (omega arith) (omega arith)
 
 -- a request at t or behind it, and the count
 pub behind_zone : (t k : ℕ) (w : Write) → t ≤ k → InRequest k w → InAdded t w
@@ -205,12 +221,12 @@ module _ (b : List ℕ) (long : length b ≡ book_size) where
   open_is left place client p z e h =
       if_false _ _ _ (ne_eqb place 0 z) ∙ maybe_some (find_client left client) p b (λ i. store_open b i (open_of left client)) e ∙ in_table p most_orders h _
 
-  added_is : (origin : ℕ) (q : Request) (t : ℕ) → request_count b ≡ t → t < most_requests
-      → add_request b origin q ≡ put_all b (write (request_base t) (encode_request origin q) ∷ write header·requests (bytes_of 2 (t + 1)) ∷ [])
+  added_is : (q : Request) (t : ℕ) → request_count b ≡ t → t < most_requests
+      → add_request b q ≡ put_all b (write (request_base t) (encode_request q) ∷ write header·requests (bytes_of 2 (t + 1)) ∷ [])
   unfolding add_request put_request set_count
-  added_is origin q t e h =
+  added_is q t e h =
       in_table (request_count b) most_requests (omega arith) _
-      ∙ ap (λ (n : ℕ). put_all b (write (request_base n) (encode_request origin q) ∷ write header·requests (bytes_of 2 (n + 1)) ∷ [])) e
+      ∙ ap (λ (n : ℕ). put_all b (write (request_base n) (encode_request q) ∷ write header·requests (bytes_of 2 (n + 1)) ∷ [])) e
 
 abbrev settled : List ℕ → (f s : ℕ) → Requests → List ℕ
 settled b f s r = put_all (put_all b (mark_writes r.answered f)) (mark_writes r.superseded s)
@@ -249,18 +265,46 @@ module _ (b : List ℕ) (long : length b ≡ book_size) (r : Requests) (small : 
   abbrev after_both : List ℕ
   after_both = settled b (value_of b r r.answered) (value_of b r r.superseded) r
 
-  requests_is : (origin : ℕ) → (r.added ≡ 0) ⊎ (t < most_requests) → place_requests b origin r ≡ put_all after_both (add_writes t origin r)
-  unfolding place_requests add_writes
-  requests_is origin room = go (ℕ_discrete r.added 0) room
+  requests_is : (r.added ≡ 0) ⊎ (t < most_requests) → place_requests b r ≡ put_all after_both (plain_writes t r)
+  unfolding place_requests plain_writes
+  requests_is room = go (ℕ_discrete r.added 0) room
     where
-      go : Dec (r.added ≡ 0) → (r.added ≡ 0) ⊎ (t < most_requests) → place_requests b origin r ≡ put_all after_both (add_writes t origin r)
+      go : Dec (r.added ≡ 0) → (r.added ≡ 0) ⊎ (t < most_requests) → place_requests b r ≡ put_all after_both (plain_writes t r)
       go (yes z) d = if_true _ _ _ (eq-eqb r.added 0 z) ∙ settled_is ∙ ap (put_all after_both) (sym (if_true (eqb r.added 0) [] _ (eq-eqb r.added 0 z)))
       go (no z) (inl d) = absurd (z d)
       go (no z) (inr d) =
           if_false _ _ _ (ne_eqb r.added 0 z)
-          ∙ added_is (marked b r) ((marked_keeps b r small).same ∙ long) origin r.request t (marked_count b r ∙ length_requests b ∙ count) d
-          ∙ ap (λ (x : List ℕ). put_all x (write (request_base t) (encode_request origin r.request) ∷ write header·requests (bytes_of 2 (t + 1)) ∷ [])) settled_is
+          ∙ added_is (marked b r) ((marked_keeps b r small).same ∙ long) r.request t (marked_count b r ∙ length_requests b ∙ count) d
+          ∙ ap (λ (x : List ℕ). put_all x (write (request_base t) (encode_request r.request) ∷ write header·requests (bytes_of 2 (t + 1)) ∷ [])) settled_is
           ∙ ap (put_all after_both) (sym (if_false (eqb r.added 0) [] _ (ne_eqb r.added 0 z)))
+
+-- the origin goes into the record that was added
+origin_is : (s : List ℕ) → length s ≡ book_size → (t origin : ℕ) (r : Requests) → (r.added ≡ 0) ⊎ (t < most_requests) → ((r.added ≡ 0 → ⊥) → WholeRequest r.request)
+    → place_origin (put_all s (plain_writes t r)) r.added t origin ≡ put_all s (add_writes t origin r)
+unfolding place_origin store_origin plain_writes add_writes
+origin_is s l t origin r room whole = go (ℕ_discrete r.added 0) room
+  where
+    go : Dec (r.added ≡ 0) → (r.added ≡ 0) ⊎ (t < most_requests) → place_origin (put_all s (plain_writes t r)) r.added t origin ≡ put_all s (add_writes t origin r)
+    go (yes z) d =
+        let none : eqb r.added 0 ≡ true = eq-eqb r.added 0 z in
+        if_true _ _ _ none ∙ ap (put_all s) (if_true (eqb r.added 0) [] _ none ∙ sym (if_true (eqb r.added 0) [] _ none))
+    go (no z) (inl d) = absurd (z d)
+    go (no z) (inr d) =
+        let one : eqb r.added 0 ≡ false = ne_eqb r.added 0 z in
+        let q : List ℕ = encode_request r.request in
+        let e : length q ≡ request_size = length_request r.request (whole z) in
+        let w : Write = write (request_base t) q in
+        let o : Write = origin_write t origin in
+        let s₁ : List ℕ = put s w in
+        let l₁ : length s₁ ≡ book_size = length_splice s (request_base t) q (omega arith) ∙ l in
+        let s₂ : List ℕ = put s₁ (count_write (t + 1)) in
+        let l₂ : length s₂ ≡ book_size = length_splice s₁ header·requests (bytes_of 2 (t + 1)) (omega arith) ∙ l₁ in
+        if_false _ _ _ one
+        ∙ ap (λ (ws : List Write). store_origin (put_all s ws) t origin) (if_false (eqb r.added 0) [] _ one)
+        ∙ in_table s₂ l₂ t most_requests d _
+        ∙ put_comm s₁ (count_write (t + 1)) o (omega arith) (omega arith) (inl (omega arith))
+        ∙ ap (λ (x : List ℕ). put x (count_write (t + 1))) (splice_within s q (bytes_of 2 origin) (request_base t) request·origin (omega arith) (omega arith))
+        ∙ ap (put_all s) (sym (if_false (eqb r.added 0) [] _ one))
 
 -- what a change needs, so that it is these writes
 pub record Placing (b : List ℕ) (i p : ℕ) (c : Change) : Type 0 where
@@ -324,15 +368,22 @@ module _ (b : List ℕ) (i p : ℕ) (c : Change) (h : Placing b i p c) where
       ap length (sym (settled_is placed placed_long c.requests h.small t placed_count h.answers h.supersedes ∙ before_is))
       ∙ (marked_keeps placed c.requests h.small).same ∙ placed_long
 
-  tables_is : tables_with b c ≡ put_all before (add_writes t (origin_by b c) c.requests)
+  tables_is : tables_with b c ≡ put_all before (plain_writes t c.requests)
   unfolding tables_with
   tables_is =
-      ap (λ (x : List ℕ). place_requests x (origin_by b c) c.requests) placed_is
-      ∙ requests_is placed placed_long c.requests h.small t placed_count h.answers h.supersedes (origin_by b c) h.room
-      ∙ ap (λ (x : List ℕ). put_all x (add_writes t (origin_by b c) c.requests)) before_is
+      ap (λ (x : List ℕ). place_requests x c.requests) placed_is
+      ∙ requests_is placed placed_long c.requests h.small t placed_count h.answers h.supersedes h.room
+      ∙ ap (λ (x : List ℕ). put_all x (plain_writes t c.requests)) before_is
 
-  tables_long : length (tables_with b c) ≡ book_size
-  tables_long = (tables_keeps b c h.small (λ y. h.order) (λ y. h.request (eqb-false c.requests.added 0 y))).same ∙ h.long
+  -- the tables, and the origin
+  abbrev linked : List ℕ
+  linked = place_origin (tables_with b c) c.requests.added t (origin_by b c)
+
+  linked_is : linked ≡ put_all before (add_writes t (origin_by b c) c.requests)
+  linked_is = ap (λ (x : List ℕ). place_origin x c.requests.added t (origin_by b c)) tables_is ∙ origin_is before before_long t (origin_by b c) c.requests h.room h.request
+
+  linked_long : length linked ≡ book_size
+  linked_long = (origin_keeps (tables_with b c) c.requests.added t (origin_by b c)).same ∙ (tables_keeps b c h.small (λ y. h.order) (λ y. h.request (eqb-false c.requests.added 0 y))).same ∙ h.long
 
   -- the word goes before what is added
   word_first : put (put_all before (add_writes t (origin_by b c) c.requests)) (open_write p n) ≡ put_all (put before (open_write p n)) (add_writes t (origin_by b c) c.requests)
@@ -345,13 +396,13 @@ module _ (b : List ℕ) (i p : ℕ) (c : Change) (h : Placing b i p c) where
   pub change_is : book_with b c
       ≡ put_all (put_all b (order_write i c.order ∷ rest_writes p n (value_of b c.requests c.requests.answered) (value_of b c.requests c.requests.superseded) c.requests))
       (add_writes t (origin_by b c) c.requests)
-  unfolding book_with rest_writes put_order
+  unfolding book_with place_index rest_writes put_order
   change_is =
       let r : Requests = c.requests in
       let f : ℕ = value_of b r r.answered in
       let s : ℕ = value_of b r r.superseded in
-      open_is (tables_with b c) tables_long (after (book_of b) c) c.place c.order.client p (λ z. let y : c.place ≡ i + 1 = h.there in omega arith) h.found h.first
-      ∙ ap (λ (x : List ℕ). put x (open_write p n)) tables_is
+      open_is linked linked_long (after (book_of b) c) c.place c.order.client p (λ z. let y : c.place ≡ i + 1 = h.there in omega arith) h.found h.first
+      ∙ ap (λ (x : List ℕ). put x (open_write p n)) linked_is
       ∙ word_first
       ∙ ap (λ (x : List ℕ). put_all x (add_writes t (origin_by b c) r))
       (sym

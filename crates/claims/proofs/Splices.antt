@@ -50,6 +50,37 @@ splice_over s at w v e h =
     ∙ ap (λ (r : List ℕ). take at s ++ (v ++ r)) (drop_at w rest (length v) e)
     ∙ ap (λ (n : ℕ). take at s ++ (v ++ drop n (drop at s))) e
 
+splice_parts : (s : List ℕ) (at : ℕ) (w : List ℕ) → splice s at w ≡ take at s ++ (w ++ drop (length w) (drop at s))
+unfolding splice
+splice_parts s at w = refl
+
+-- written within what was written is written at once
+pub splice_within : (s w v : List ℕ) (at o : ℕ) → at + length w ≤ length s → o + length v ≤ length w → splice (splice s at w) (at + o) v ≡ splice s at (splice w o v)
+splice_within s w v at o h k =
+    let n : ℕ = length v in
+    let a : ℕ = at + o in
+    let p : List ℕ = take o w in
+    let m : List ℕ = span w o n in
+    let r : List ℕ = drop n (drop o w) in
+    let lp : length p ≡ o = length-take-le o w (omega arith) in
+    let lm : length m ≡ n = length_span w o n k in
+    let lr : length r ≡ length w - o - n = simp length-drop (omega arith) in
+    let whole : w ≡ p ++ (m ++ r) = sym (splice_self w o n k) ∙ splice_parts w o m ∙ ap (λ (j : ℕ). take o w ++ (m ++ drop j (drop o w))) lm in
+    let t : List ℕ = splice s at p in
+    let lt : length t ≡ length s = length_splice s at p (omega arith) in
+    let lx : length (splice t a m) ≡ length t = length_splice t a m (omega arith) in
+    let parts : (x : List ℕ) → length x ≡ n → splice s at (p ++ (x ++ r)) ≡ splice (splice t a x) (a + n) r = λ x e.
+    sym (splice_append s at p (x ++ r) (omega arith))
+    ∙ ap (λ (j : ℕ). splice t (at + j) (x ++ r)) lp
+    ∙ sym (splice_append t a x r (omega arith))
+    ∙ ap (λ (j : ℕ). splice (splice t a x) (a + j) r) e in
+    ap (λ (y : List ℕ). splice (splice s at y) a v) whole
+    ∙ ap (λ (y : List ℕ). splice y a v) (parts m lm)
+    ∙ sym (splice_comm (splice t a m) a v (a + n) r (omega arith) (omega arith))
+    ∙ ap (λ (y : List ℕ). splice y (a + n) r) (splice_over t a m v lm (omega arith))
+    ∙ sym (parts v refl)
+    ∙ ap (splice s at) (sym (splice_parts w o v))
+
 -- ---- lists of writes
 
 pub record Write : Type 0 where
@@ -90,7 +121,7 @@ pub length_all : (s : List ℕ) (ws : List Write) (n : ℕ) → length s ≡ n �
 length_all s [] n l every[] = l
 length_all s (w ∷ ws) n l (every∷ h hs) = length_all (put s w) ws n (length_put s w (omega (arith, h)) ∙ l) hs
 
-put_comm : (s : List ℕ) (w v : Write) → Inside (length s) w → Inside (length s) v → Beside w v → put (put s w) v ≡ put (put s v) w
+pub put_comm : (s : List ℕ) (w v : Write) → Inside (length s) w → Inside (length s) v → Beside w v → put (put s w) v ≡ put (put s v) w
 put_comm s w v h k d =
     ⊎_elim (λ p. splice_comm s w.at w.bytes v.at v.bytes p k) (λ p. sym (splice_comm s v.at v.bytes w.at w.bytes p h)) d
 

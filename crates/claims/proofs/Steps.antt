@@ -13,14 +13,15 @@ use Rattle.machine.specs.History.{messages_of}
 use Rattle.rules.specs.Keeps.{keeps_of}
 use Rattle.claims.specs.Claims.{Call}
 use Rattle.claims.specs.Exchange.{called}
-use Rattle.claims.proofs.Taken.{Taken, left, returned_taken, writes, keeps_after, keeps_sizes, step_room, whole_after, small}
+use Rattle.kept.proofs.Taken.{Taken, left, writes, keeps_after, step_room, whole_after, small}
+use Rattle.claims.proofs.Taken.{returned_taken, keeps_sizes}
 use Rattle.step.specs.Entries.{Returned, call_of}
 use Rattle.format.specs.Refusal.{event_refusal}
 use Rattle.records.specs.Record.{event_in}
 use Rattle.records.specs.Laws.Writing.{answer_most}
 use Rattle.store.specs.Layout.{most_requests}
 use Rattle.machine.proofs.Said.Steps.{messages_few}
-use Rattle.claims.proofs.Written.{order_written, request_written}
+use Rattle.kept.proofs.Written.{order_written, request_written}
 use Rattle.claims.proofs.Paired.{Fit}
 
 -- what a call's record reads as

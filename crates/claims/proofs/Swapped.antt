@@ -8,9 +8,8 @@ use Rattle.store.specs.declared.Order.{Order}
 use Rattle.store.specs.declared.Request.{Request}
 use Rattle.store.specs.Layout.{book_size, most_requests, request_size, request_base}
 use Rattle.store.specs.Orders.{WholeOrder}
-use Rattle.store.specs.Requests.{WholeRequest, encode_request}
+use Rattle.store.specs.Requests.{WholeRequest}
 use Rattle.store.specs.Laws.Orders.{length_order}
-use Rattle.store.specs.Laws.Requests.{length_request}
 use Rattle.store.specs.Book.{Book, book_of, order_in}
 use Rattle.machine.specs.declared.Requests.{Requests}
 use Rattle.machine.specs.declared.Change.{Change}
@@ -21,7 +20,7 @@ use Rattle.machine.proofs.Exchange.Links.{same_requests, linked_equal}
 use Rattle.machine.proofs.Exchange.Both.{next}
 use Rattle.step.specs.Entries.{book_with}
 use Rattle.claims.proofs.Splices.{Write, put, put_all, Inside, Beside, put_append, length_all, all_comm, put_over, span_put}
-use Rattle.claims.proofs.Placed.{order_write, origin_by, request_write, count_write, add_writes, none_added, one_added, Zone, No, InOrder, InRest, InRequest, InAdded, in_count, zone_inside, zones_beside, request_zone, behind_zone, count_zone}
+use Rattle.claims.proofs.Placed.{order_write, origin_by, linked_bytes, length_linked, request_write, count_write, add_writes, none_added, one_added, Zone, No, InOrder, InRest, InRequest, InAdded, in_count, zone_inside, zones_beside, request_zone, behind_zone, count_zone}
 use Rattle.claims.proofs.Paired.{Pair, turn, its, word_at, rest, here, there, rest_in, now_in, order_in_lem}
 
 -- ---- lists beside each other
@@ -204,8 +203,8 @@ module _ (b : List ℕ) (i j : ℕ) (c c' d d' : Change) (h : Pair b i j c c' d 
     owns_long o u f g =
         length_all _ _ book_size (own_long b i j c c' d d' h o f) (every∷ (zone_inside _ (order_j u g)) (inside_all (rest_in b j i d d' c c' k')))
 
-    same_size : (y : ℕ) (q : Request) (z : ℕ) (u : Request) → WholeRequest q → WholeRequest u → length (encode_request y q) ≡ length (encode_request z u)
-    same_size y q z u f g = length_request y q f ∙ sym (length_request z u g)
+    same_size : (y : ℕ) (q : Request) (z : ℕ) (u : Request) → WholeRequest q → WholeRequest u → length (linked_bytes y q) ≡ length (linked_bytes z u)
+    same_size y q z u f g = length_linked y q f ∙ sym (length_linked z u g)
 
     -- a request, and the count
     beside_count : (m l y : ℕ) (q : Request) → m ≤ n + 1 → WholeRequest q → Beside (request_write m y q) (count_write l)
@@ -232,20 +231,20 @@ module _ (b : List ℕ) (i j : ℕ) (c c' d d' : Change) (h : Pair b i j c c' d 
           (every∷ (beside_count n (n + 1 + 1) from_d qd (omega arith) whole_d) every[])))
 
       -- the two records, as bytes
-      first_record : span (put_all s (tail from_c qc from_d qd)) (request_base n) request_size ≡ encode_request from_c qc
+      first_record : span (put_all s (tail from_c qc from_d qd)) (request_base n) request_size ≡ linked_bytes from_c qc
       first_record =
           span_put book_size s (request_write n from_c qc) (count_write (n + 1) ∷ request_write (n + 1) from_d qd ∷ count_write (n + 1 + 1) ∷ []) request_size l
-          (zone_inside _ (request_in_lem n from_c qc (omega arith) whole_c)) (length_request from_c qc whole_c)
+          (zone_inside _ (request_in_lem n from_c qc (omega arith) whole_c)) (length_linked from_c qc whole_c)
           (every∷ (zone_inside _ (count_zone n (n + 1))) (every∷ (zone_inside _ (request_in_lem (n + 1) from_d qd (omega arith) whole_d)) (every∷ (zone_inside _ (count_zone n (n + 1 + 1))) every[])))
           (every∷ (beside_count n (n + 1) from_c qc (omega arith) whole_c)
           (every∷ (zones_beside _ (λ y a f. a) (λ y a f. omega arith) (λ a f. a) (λ y a f. a) _ (request_in_lem n from_c qc (omega arith) whole_c) (request_in_lem (n + 1) from_d qd (omega arith) whole_d))
           (every∷ (beside_count n (n + 1 + 1) from_c qc (omega arith) whole_c) every[])))
 
-      second_record : span (put_all s (tail from_c qc from_d qd)) (request_base (n + 1)) request_size ≡ encode_request from_d qd
+      second_record : span (put_all s (tail from_c qc from_d qd)) (request_base (n + 1)) request_size ≡ linked_bytes from_d qd
       second_record =
           span_put book_size (put_all s (request_write n from_c qc ∷ count_write (n + 1) ∷ [])) (request_write (n + 1) from_d qd) (count_write (n + 1 + 1) ∷ []) request_size
           (length_all s _ book_size l (every∷ (zone_inside _ (request_in_lem n from_c qc (omega arith) whole_c)) (every∷ (zone_inside _ (count_zone n (n + 1))) every[])))
-          (zone_inside _ (request_in_lem (n + 1) from_d qd (omega arith) whole_d)) (length_request from_d qd whole_d)
+          (zone_inside _ (request_in_lem (n + 1) from_d qd (omega arith) whole_d)) (length_linked from_d qd whole_d)
           (every∷ (zone_inside _ (count_zone n (n + 1 + 1))) every[]) (every∷ (beside_count (n + 1) (n + 1 + 1) from_d qd (omega arith) whole_d) every[])
 
     -- an order's record, and what is no order's
@@ -293,8 +292,8 @@ module _ (b : List ℕ) (i j : ℕ) (c c' d d' : Change) (h : Pair b i j c c' d 
         ∙ sym two_tail
 
     -- and the two records are, as bytes, what each event wrote
-    pub records : (span (book_with (book_with b c) d') (request_base n) request_size ≡ encode_request from_c qc)
-        × (span (book_with (book_with b c) d') (request_base (n + 1)) request_size ≡ encode_request from_d qd)
+    pub records : (span (book_with (book_with b c) d') (request_base n) request_size ≡ linked_bytes from_c qc)
+        × (span (book_with (book_with b c) d') (request_base (n + 1)) request_size ≡ linked_bytes from_d qd)
     records =
         let l : length (owns c.order d'.order) ≡ book_size = owns_long c.order d'.order h.first.order h.behind.order in (
           ap (λ (y : List ℕ). span y (request_base n) request_size) one_tail ∙ first_record (owns c.order d'.order) l,

@@ -16,7 +16,8 @@ use Rattle.machine.proofs.Venue.Books.{status_set, six_right, sources_right}
 use Rattle.rules.specs.Laws.Keeps.{keeps_held}
 use Rattle.step.specs.Entries.{Returned, event_of}
 use Rattle.claims.specs.Venue.{StatusOnBytes, SixOnBytes, SourcesOnBytes}
-use Rattle.claims.proofs.Taken.{Taken, call_taken, returned_is, returned_taken, writes}
+use Rattle.kept.proofs.Taken.{Taken, call_taken, returned_is, writes}
+use Rattle.claims.proofs.Taken.{returned_taken}
 use Rattle.claims.proofs.Calls.{answers_on_bytes}
 
 module _ (b r a : List ℕ) (bytes : Bytes b) (bytes' : Bytes r) (z : (event_of b r a).returned ≡ 0) where

@@ -7,5 +7,6 @@ pub mod Concern
 pub mod Exchange
 pub mod Net
 pub mod Marks
+pub mod Events
 pub mod Needs
 pub mod Venue

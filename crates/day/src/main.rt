@@ -1,16 +1,21 @@
-// A day: records from standard input, each after its length in two bytes, go to one book in their order.
-// For each event a line says its number, the refusal, how many messages went out, and the two
-// alarms. A record that the end of the input cuts gets the refusal of one that does not read whole.
-// Rests on prelude, store, step, gateway and input.
+// A day: records from standard input, each after its length in two bytes, go to one book in their order, as
+// many in one call of `events` as have come. For each event a line says its number, the refusal, how many
+// messages went out, and the two alarms. A record that the end of the input cuts gets the refusal of one that
+// does not read whole. Rests on prelude, store, gateway and input.
 #![tactic(auto)]
 
-use input::Next;
 use prelude::Refusal;
 use std::{fmt, io};
 use store::layout;
 
 // The most ClOrdIDs that a client may use: this program's choice, as evening and try_limits have theirs.
 const SETTING: u32 = 10000;
+
+// Room for records, of which one alone may take 65,537 bytes, and for what a call says of them: as much as may
+// come at once.
+const RECORDS: usize = 131072;
+
+const ANSWERS: usize = 65536;
 
 // A line: what is told of an event. The refusal is printed as the number that the call gives, 0 for none.
 #[derive(Clone, Copy, Default)]
@@ -45,40 +50,60 @@ impl fmt::Display for Line {
     }
 }
 
-// One event, and its line.
-fn taken(book: &mut [u8], event: u64, record: &[u8]) -> Line {
-    let mut answer = [0u8; records::SHORTEST_ANSWER];
-    match gateway::event(book, record, &mut answer) {
+// What an event said, at a place of the answers: its refusal, and with none its answer. The line, and where the
+// next event's begins.
+fn told(answers: &[u8], at: usize, event: u64) -> (Line, usize) {
+    let byte = |n: usize| answers.get(at.saturating_add(n)).copied().unwrap_or(0);
+    match byte(0) {
         0 => {
-            let [_, _, messages, alarm, alarm2, ..] = answer;
-            Line {
+            let long = usize::from(u16::from_le_bytes([byte(1), byte(2)]));
+            let line = Line {
                 event,
                 refusal: 0,
-                messages,
-                alarm,
-                alarm2,
-            }
+                messages: byte(3),
+                alarm: byte(4),
+                alarm2: byte(5),
+            };
+            (line, at.saturating_add(1 + long))
         }
-        refusal => Line::refused(event, refusal),
+        refusal => (
+            Line::refused(event, u32::from(refusal)),
+            at.saturating_add(1),
+        ),
     }
 }
 
 fn main(rt: HostRuntime) -> io::Result<()> {
     let mut input = rt.reader();
-    // As much as a length of two bytes can say, and a byte more: `read_record` is lent so many.
-    let mut space = [0u8; 65536];
+    let mut space = [0u8; RECORDS];
+    let mut answers = [0u8; ANSWERS];
     let mut book = [0u8; layout::BOOK];
     let _ = gateway::start(&mut book, SETTING);
     rt.println("event refusal messages alarm alarm2")?;
-    // A proved loop ends: this one after more events than an input can have.
-    for event in 1..u64::MAX {
-        match input::read_record(&mut input, &mut space)? {
-            Next::Record(size) => rt.println(taken(&mut book, event, &space[..size]))?,
-            Next::Cut => {
-                return rt.println(Line::refused(event, Refusal::BadRecord.number()));
-            }
-            Next::End => break,
+    let mut filled = 0;
+    let mut event = 0u64;
+    // A proved loop ends: this one after more calls than an input can have.
+    for _ in 0..u64::MAX {
+        let before = filled;
+        filled = input::read_more(&mut input, &mut space, before)?;
+        let ran = gateway::events(&mut book, &space[..filled], &mut answers);
+        let mut at = 0;
+        for _ in 0..ran.events {
+            event = event.saturating_add(1);
+            let (line, next) = told(&answers, at, event);
+            rt.println(line)?;
+            at = next;
         }
+        if filled == before && ran.events == 0 {
+            break;
+        }
+        // By `as`, which is proved to lose nothing: std has no `From<u64>` for usize. What is left is moved to the front.
+        let read = (ran.read as usize).min(filled);
+        space.copy_within(read..filled, 0);
+        filled -= read;
+    }
+    if filled > 0 {
+        rt.println(Line::refused(event.saturating_add(1), Refusal::BadRecord.number()))?;
     }
     Ok(())
 }

@@ -1,15 +1,16 @@
 // The entries of the gateway's book, on byte slices; gateway_c lends them to a host as C functions:
-// `start` makes an empty book, `event` takes one record and writes the answer, `check` says whether a
+// `start` makes an empty book, `event` takes one record and writes the answer, `events` takes many, `check` says whether a
 // book keeps its rules, `page` prints the evening page, `open_quantity` gives a client's open quantity,
 // `net_position` writes the net position's lines, `set_mark` marks the book and `return_to_mark` makes it
 // what it was then, `needs` gives what an event will need, `chain` writes the chain of a ClOrdID. They
 // return the numbers and structures of the C functions, which gateway_c lends as they are. Each is total:
-// whatever the bytes, it returns, and a refused call has written nothing. Rests on step, index, rules, opens,
-// records, store, page, net, marks, needs and chain.
+// whatever the bytes, it returns, and a refused call has written nothing. Rests on events, rules, store, opens,
+// page, net, marks, needs and chain.
 #![tactic(auto)]
 
 ghost use Rattle.std.specs.Prelude.{◌≡◌};
 ghost use Rattle.step.specs.Entries.{start_of, start_refusal, check_of, returned, event_of};
+ghost use Rattle.events.specs.Events.{many, events_of};
 ghost use Rattle.page.specs.Page.{paged, page_call};
 ghost use Rattle.opens.specs.Opens.{open_call};
 ghost use Rattle.net.specs.Net.{IsNet};
@@ -17,12 +18,10 @@ ghost use Rattle.marks.specs.Marks.{marked, set_mark_of, return_of};
 ghost use Rattle.needs.specs.Needs.{needs_call};
 ghost use Rattle.chain.specs.Chain.{chained, chain_call};
 
+use events::Ran;
 use opens::Opened;
-use orders::order;
 use prelude::{Counted, Refusal};
 use store::layout;
-
-mod write; // a change written into the book
 
 // Makes an empty book: zeros but for the setting, the most ClOrdIDs that a client may use. Its one question is
 // answered by its number, here and in `check`: a `Result` made for it would be no plainer.
@@ -37,34 +36,20 @@ pub fn start(book: &mut [u8], setting: u32) -> u32
     0
 }
 
-// Takes the event in `record`: the book changes, and the answer stands at the start of `answer`. With `?` it
-// would be a second function under the same contract, and this one its number: no plainer. A change is 1,136
-// bytes: borrowed from the answer instead of moved, it cost 8 % more instructions on an empty book.
-#[tactic(auto, using(crate::specs::Laws::Entered::left_0, orders::specs::Laws::Choices::choices))]
+// Takes the event in `record`: the book changes, and the answer stands at the start of `answer`.
 pub fn event(book: &mut [u8], record: &[u8], answer: &mut [u8]) -> u32
     ensures { returned result book.new answer.new ≡ event_of book.old «record».now answer.old }
 {
-    let c = match step::call_of(book, record, answer.len()) {
-        Ok(c) => c,
-        Err(refusal) => return refusal.number(),
-    };
-    let client = c.order.client;
-    let origin = index::origin_of(book, client, c.requests.request.origclordid);
-    let leaves = order::leaves_qty(c.order);
-    let opening = index::opening(book, c.place, client, leaves);
-    write::place_order(book, c.place, c.order);
-    write::place_requests(book, origin, c.requests);
-    write::place_open(book, c.place, opening);
-    let out = c.output;
-    let _ = records::write_answer(
-        answer,
-        out.alarm,
-        out.alarm2,
-        out.count,
-        &out.first,
-        &out.second,
-    );
-    0
+    events::event(book, record, answer)
+}
+
+// Takes the events in `records`, each record after its length in 2 bytes, as far as whole ones stand there and
+// `answers` has 1,025 bytes left. Of each its refusal stands in a byte of `answers`, and its answer behind it if
+// that is 0.
+pub fn events(book: &mut [u8], records: &[u8], answers: &mut [u8]) -> Ran
+    ensures { many result book.new answers.new ≡ events_of book.old records.now answers.old }
+{
+    events::events(book, records, answers)
 }
 
 // Whether the book keeps its rules: 0, or 1.

@@ -1,9 +1,10 @@
 // The entries of the gateway's book as C functions on byte slices: each calls the function of the same
-// name in gateway, whose contract it repeats. The symbols of libgateway.a. Rests on gateway.
+// name in gateway, whose contract it repeats. They are the symbols of libgateway.a. Rests on gateway.
 #![tactic(auto)]
 
 ghost use Rattle.std.specs.Prelude.{◌≡◌};
 ghost use Rattle.step.specs.Entries.{start_of, start_refusal, check_of, returned, event_of};
+ghost use Rattle.events.specs.Events.{many, events_of};
 ghost use Rattle.page.specs.Page.{paged, page_call};
 ghost use Rattle.opens.specs.Opens.{open_call};
 ghost use Rattle.net.specs.Net.{IsNet};
@@ -11,6 +12,7 @@ ghost use Rattle.marks.specs.Marks.{marked, set_mark_of, return_of};
 ghost use Rattle.needs.specs.Needs.{needs_call};
 ghost use Rattle.chain.specs.Chain.{chained, chain_call};
 
+use events::Ran;
 use opens::Opened;
 use prelude::Counted;
 
@@ -28,6 +30,16 @@ pub extern "C" fn event(book: &mut [u8], record: &[u8], answer: &mut [u8]) -> u3
     ensures { returned result book.new answer.new ≡ event_of book.old «record».now answer.old }
 {
     gateway::event(book, record, answer)
+}
+
+// Takes the events in `records`, each record after its length in 2 bytes, as far as whole ones stand there and
+// `answers` has 1,025 bytes left. Of each its refusal stands in a byte of `answers`, and its answer behind it if
+// that is 0.
+#[unsafe(no_mangle)]
+pub extern "C" fn events(book: &mut [u8], records: &[u8], answers: &mut [u8]) -> Ran
+    ensures { many result book.new answers.new ≡ events_of book.old records.now answers.old }
+{
+    gateway::events(book, records, answers)
 }
 
 // Whether the book keeps its rules: 0, or 1.

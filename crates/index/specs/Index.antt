@@ -1,5 +1,5 @@
 -- WHAT IS STORED ONLY TO BE FOUND QUICKLY, which the machine does not see: the link of the request that an OrigClOrdID names (change request 9), and each
--- client's open quantity (change request 4), which is machine's `open_of`: the sum of `leaves_qty` over its orders. Here: where the book's bytes store them,
+-- client's open quantity (change request 4), which is machine's `open_of`: the sum of `leaves_qty` over its orders. Here is where the book's bytes store them,
 -- when what is stored is right, and what an event makes of it, by value. Rests on store's words behind the tables and on machine.
 use Rattle.std.specs.Prelude.{ℕ, ◌+◌, ◌-◌, ◌%◌, ◌^◌, Bool, ◌&&◌, ◌||◌, List, ◌==◌}
 use Rattle.prelude.specs.Below.{all_below}
@@ -46,7 +46,7 @@ opens_right b = all_below (open_right b) (order_count b)
 unfoldable pub indexed : List ℕ → Bool
 indexed b = links_right b && opens_right b
 
--- ---- by value, before an event writes: the place of the client's word and what it becomes, if the order of link `place` then has these leaves
+-- ---- by value, before an event writes: the index of the client's word and what it becomes, if the order of link `place` then has these leaves
 
 abbrev pub word : (at quantity : ℕ) → Word
 word at quantity = record { at = at; quantity = quantity }

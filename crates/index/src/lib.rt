@@ -1,7 +1,7 @@
 // What the book's bytes store only so that it is found quickly, beside what they mean as a book: the link
 // of the request that an OrigClOrdID names, and each client's open quantity, in the word of its first
-// order. When they are right, as definitions; whether the open quantities are, decided (`rules` decides
-// the links in its pass over the requests); and what an event makes of them, by value. Every public
+// order. Definitions say when they are right; code decides it of the open quantities (`rules` decides it of
+// the links, in its pass over the requests), and gives what an event makes of both, by value. Every public
 // function is total and writes nothing. Rests on store, orders and words.
 #![tactic(auto)]
 
@@ -25,25 +25,25 @@ pub struct Word {
     pub quantity: u64,
 }
 
-// The link of the request that an OrigClOrdID of a client names, 0 for none: as the book holds it, so no
-// Option.
+// The link of the request that an OrigClOrdID of a client names, 0 for none, as the book holds it: so it
+// is no Option.
 #[tactic(auto, using(prelude::specs::Laws::Cases::maybe_some, prelude::specs::Laws::Cases::maybe_none, crate::specs::Laws::Found::found_few, crate::specs::Laws::Found::origin_none), unfolding(crate::specs::Index::origin_of))]
 pub fn origin_of(book: &[u8], client: u16, t: Text) -> u16
     ensures { result ≡ origin_of (book_of book.now) client t }
 {
-    // Most changes bring none, and an empty one is not looked up.
+    // Most changes bring no OrigClOrdID, and an empty one is not looked up.
     if t.len == 0 {
         return 0;
     }
     match store::find_clordid(book, client, t) {
-        // At most 256: by `as`, which is proved to lose nothing.
+        // It is at most 256, so the cast by `as` is proved to lose nothing.
         Some(k) => (k + 1) as u16,
         None => 0,
     }
 }
 
-// What the order of a link has left, 0 where there is none. A link is as the book holds it, 0 for none: any
-// two bytes may stand there, so no Option.
+// What the order of a link has left, 0 if there is none. A link is as the book holds it, 0 for none: any two
+// bytes may stand there, so it is no Option.
 #[tactic(auto, using(store::specs::Laws::Stored::count_most, crate::specs::Laws::Moved::links))]
 fn leaves_at_link(book: &[u8], place: u16) -> u64
     ensures { result ≡ leaves_qty (order_at_link (book_of book.now) place) }
@@ -70,7 +70,7 @@ pub fn opening(book: &[u8], place: u16, client: u16, leaves: u64) -> Word
             let quantity = rest.wrapping_add(leaves);
             Word { at, quantity }
         }
-        // The client's first order is the one that is added: its index, and no mark for none.
+        // The client has no order yet, so its first is the one that is added: its index.
         None => Word {
             at: store::order_count(book),
             quantity: leaves,

@@ -15,7 +15,7 @@ use orders::order;
 use store::layout::{self, Bytes};
 use words::{get16, get64};
 
-// What order i has left, in place.
+// What order i has left, read in the book's bytes.
 #[tactic(auto, using(words::specs::Laws::Windows::window_64, store::specs::Laws::Fields::terms_qty, store::specs::Laws::Fields::state_cumqty, store::specs::Laws::Fields::state_status), unfolding(machine::specs::Orders::leaves_qty))]
 pub(crate) fn leaves_at(book: &Bytes, i: usize) -> u64
     requires { i < most_orders }
@@ -27,7 +27,7 @@ pub(crate) fn leaves_at(book: &Bytes, i: usize) -> u64
     order::leaves_of(book[at + layout::STATUS], qty, cumqty)
 }
 
-// The client of order i, in place.
+// The client of order i, read in the book's bytes.
 #[tactic(auto, using(words::specs::Laws::Windows::window_16, store::specs::Laws::Fields::order_client))]
 fn client_of(book: &Bytes, i: usize) -> u16
     requires { i < most_orders }
@@ -45,8 +45,8 @@ pub struct Ruled<'a> {
 }
 
 impl Ruled<'_> {
-    // What the orders of a client have left together; its first is order i. A loop, since `sum` of a chain
-    // asks beforehand that all of it fits, which here each step shows.
+    // What the orders of a client have left together; its first is order i. It is a loop, since `sum` of a
+    // chain asks beforehand that all of it fits, which here each step shows.
     #[tactic(auto, using(store::specs::Laws::Stored::count_most, crate::specs::Laws::Left::summed))]
     fn leaves_from(&self, i: usize, client: u16) -> u64
         requires { find_client (book_of self.now.bytes.now) client ≡ Some i }

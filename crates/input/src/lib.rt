@@ -2,7 +2,7 @@
 // input goes. Rests on nothing.
 #![tactic(auto)]
 
-ghost use Rattle.std.specs.Prelude.{◌≤◌, ◌<◌, IfOk, OnOk, MatchOption, length, take};
+ghost use Rattle.std.specs.Prelude.{◌≡◌, ◌-◌, ◌≤◌, ◌<◌, IfOk, OnOk, MatchOption, length, take, drop};
 ghost use Rattle.std.specs.Io.KnownBytes.{Consumes, IsAtEnd};
 ghost use Rattle.input.specs.Reading.{Short, Padded, Given};
 
@@ -27,6 +27,19 @@ pub fn read_full<R: Read>(input: &mut R, space: &mut [u8]) -> io::Result<usize>
         done += got;
     }
     Ok(done)
+}
+
+// Reads once, behind the bytes that fill the space's front, and returns how many fill it then: as many as before
+// at the input's end, or if there is no room.
+pub fn read_more<R: Read>(input: &mut R, space: &mut [u8], filled: usize) -> io::Result<usize>
+    ensures within { IfOk result (λ n. n ≤ length space.new) }
+    ensures taken { IfOk result (λ n. filled ≤ length space.new → (filled ≤ n) × Consumes (R.remaining input.old) (R.remaining input.new) (take (n - filled) (drop filled space.new))) }
+    ensures ended { IfOk result (λ n. filled < length space.new → n ≡ filled → IsAtEnd (R.remaining input.new)) }
+    ensures kept { IfOk result (λ n. take filled space.new ≡ take filled space.old) }
+{
+    let from = filled.min(space.len());
+    let got = input.read(&mut space[from..])?;
+    Ok(from + got)
 }
 
 // The next N bytes; None if the input ends before them.

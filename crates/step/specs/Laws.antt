@@ -1,4 +1,5 @@
 pub mod Asked
 pub mod Found
+pub mod Linked
 pub mod Steps
 pub mod Taken

@@ -12,9 +12,18 @@ use Rattle.machine.specs.Constants.{failed_to_send, event_cancel, event_report, 
 use Rattle.machine.specs.Changes.{Event}
 use Rattle.machine.specs.Amend.{cancel, replace, venue_cancel_reject, send_failed, unsent}
 use Rattle.machine.specs.Report.{unknown_at_venue}
-use Rattle.machine.specs.Machine.{amending, on_report, nothing, unknown_report, text_note}
+use Rattle.index.specs.Index.{origin_of}
+use Rattle.machine.specs.Machine.{order_link, amending, on_report, nothing, unknown_report, text_note}
 
 -- ---- what an event finds
+
+-- the link of the request that the OrigClOrdID of a cancel or replace names, 0 for none
+unfoldable pub origin_asked : Book → Event → ℕ
+origin_asked b e = if leb 2 e.kind && leb e.kind 3 then origin_of b e.client e.ids.origclordid otherwise 0
+
+-- the link of the order of the request of a link, 0 for none
+unfoldable pub order_of_link : Book → (link : ℕ) → ℕ
+order_of_link b link = if eqb link 0 then 0 otherwise order_link b (link - 1)
 
 -- the request of a link, 0 for none
 unfoldable pub request_at_link : Book → ℕ → Request
@@ -41,7 +50,7 @@ handled event findings link request order =
     otherwise if eqb event.kind event_send_failed then send_failed findings link request event.venue failed_to_send (text_note event) order
     otherwise unsent findings link request event.venue order
 
--- and where they name none
+-- and if they name none
 unfoldable pub unknown_of : Event → Change
 unknown_of e = if leb e.kind event_cancel_reject then unknown_report otherwise nothing
 

@@ -1,14 +1,14 @@
 // An event's whole effect, by value, on a book that keeps its rules: what the event finds in the book, the
-// handling of its kind, and question 7. Writes nothing. A change of `Ok` says in each contract that its field
+// handling of its kind, and question 7. It writes nothing. A change of `Ok` says in each contract that its field
 // `refusal` is 0: machine's definitions keep the reason there, which is an `Err` here. Rests on rules, report
 // and loads.
-ghost use Rattle.std.specs.Prelude.{◌≡◌, IfOk};
+ghost use Rattle.std.specs.Prelude.{◌≡◌, ◌<◌, IfOk};
 ghost use Rattle.store.specs.Book.{book_of};
 ghost use Rattle.machine.specs.Taken.{change_in};
-ghost use Rattle.machine.specs.Machine.{unused, book_order, nothing, unknown_report, text_note, on_request, on_name, change_of, step_of};
-ghost use Rattle.step.specs.Steps.{amended, handled, unknown_of, has_room_for};
+ghost use Rattle.machine.specs.Machine.{order_of, unused, book_order, nothing, unknown_report, text_note, on_request, on_name, change_of, step_of};
+ghost use Rattle.step.specs.Steps.{origin_asked, amended, handled, unknown_of, has_room_for};
 
-use crate::loads;
+use crate::{Asked, loads};
 use amend::{Target, booking, rejects};
 use format::codes;
 use machine::{Change, Note};
@@ -19,10 +19,23 @@ use records::Record;
 use rules::Kept;
 use store::{layout, outcomes};
 
+// The link of the request that the OrigClOrdID of a cancel or replace names, 0 for none.
+#[tactic(auto, unfolding(crate::specs::Steps::origin_asked), using(crate::specs::Laws::Steps::origins))]
+pub(crate) fn origin_asked(book: &Kept<'_>, e: &Record) -> u16
+    ensures { result ≡ origin_asked (book_of book.now.bytes.now) e.now }
+{
+    match e.kind {
+        codes::EVENT_CANCEL | codes::EVENT_REPLACE => {
+            index::origin_of(book.bytes, e.client, e.ids.origclordid)
+        }
+        _ => 0,
+    }
+}
+
 // Whether a booking's name and ClOrdID are both unused.
 #[tactic(auto, using(crate::specs::Laws::Found::name_used, crate::specs::Laws::Found::name_unused))]
-fn is_unused(book: &Kept<'_>, e: Record) -> bool
-    ensures { result ≡ unused (book_of book.now.bytes.now) e }
+fn is_unused(book: &Kept<'_>, e: &Record) -> bool
+    ensures { result ≡ unused (book_of book.now.bytes.now) e.now }
 {
     store::find_name(book.bytes, e.ids.name).is_none()
         && loads::order_of(book, e.client, e.ids.clordid) == 0
@@ -30,26 +43,30 @@ fn is_unused(book: &Kept<'_>, e: Record) -> bool
 
 // Event 1.
 #[tactic(auto, using(store::specs::Laws::Stored::count_most, store::specs::Laws::Stored::length_orders, store::specs::Laws::Stored::length_requests))]
-fn book_order(book: &Kept<'_>, e: Record) -> Result<Change, Refusal>
-    ensures is { change_in result ≡ book_order (book_of book.now.bytes.now) e }
+fn book_order(book: &Kept<'_>, e: &Record) -> Result<Change, Refusal>
+    ensures is { change_in result ≡ book_order (book_of book.now.bytes.now) e.now }
     ensures taken { IfOk result (λ c. c.refusal ≡ 0) }
 {
     let place = loads::link_of(store::order_count(book.bytes));
     let link = loads::link_of(store::request_count(book.bytes));
     let fresh = is_unused(book, e);
-    booking::book_order(place, link, fresh, e)
+    booking::book_order(place, link, fresh, *e)
 }
 
 // Events 2 and 3.
-#[tactic(auto, unfolding(crate::specs::Steps::amended), using(orders::specs::Laws::Choices::choices, crate::specs::Laws::Steps::amends, crate::specs::Laws::Taken::cancel_taken))]
-fn amend(book: &Kept<'_>, e: Record) -> Result<Change, Refusal>
-    ensures is { change_in result ≡ amended (book_of book.now.bytes.now) e }
+#[tactic(auto, unfolding(crate::specs::Steps::amended), using(orders::specs::Laws::Choices::choices, crate::specs::Laws::Steps::amends, crate::specs::Laws::Steps::order_found, crate::specs::Laws::Taken::cancel_taken))]
+fn amend(asked: &Asked<'_>) -> Result<Change, Refusal>
+    requires low { 1 < asked.now.event.kind }
+    requires high { asked.now.event.kind < 4 }
+    ensures is { change_in result ≡ amended (book_of asked.now.book.bytes.now) asked.now.event }
     ensures taken { IfOk result (λ c. c.refusal ≡ 0) }
 {
-    let place = loads::order_of(book, e.client, e.ids.origclordid);
+    let book = asked.book;
+    let e = asked.event;
+    let place = loads::order_of_link(&book, asked.origin);
     let order = loads::order_at_link(book.bytes, place);
     let findings = loads::findings_at(book.bytes, place, order);
-    let used = loads::order_of(book, e.client, e.ids.clordid);
+    let used = loads::order_of(&book, e.client, e.ids.clordid);
     let full = loads::is_full(book.bytes, e.client);
     let target = Target {
         findings,
@@ -70,10 +87,10 @@ fn nothing() -> Change
     change::unchanged(0, store::no_order())
 }
 
-// Events 4 to 8 where the venue's ClOrdID is no request's.
+// Events 4 to 8 if the venue's ClOrdID is no request's.
 #[tactic(auto, unfolding(crate::specs::Steps::unknown_of), using(orders::specs::Laws::Choices::choices))]
-fn unknown(e: Record) -> Change
-    ensures { result ≡ unknown_of e }
+fn unknown(e: &Record) -> Change
+    ensures { result ≡ unknown_of e.now }
 {
     if e.kind <= codes::EVENT_CANCEL_REJECT {
         change::alarming(Alarm::UnknownOrder.number(), nothing())
@@ -82,8 +99,8 @@ fn unknown(e: Record) -> Change
     }
 }
 
-fn text_note(e: Record) -> Note
-    ensures { result ≡ text_note e }
+fn text_note(e: &Record) -> Note
+    ensures { result ≡ text_note e.now }
 {
     Note {
         text: e.text,
@@ -93,13 +110,13 @@ fn text_note(e: Record) -> Note
 
 // Events 4 to 8 on the request that they name.
 #[tactic(auto, unfolding(crate::specs::Steps::handled), using(orders::specs::Laws::Choices::choices))]
-fn handle(known: &Known, e: Record) -> Change
-    ensures { result ≡ handled e known.now.findings known.now.link known.now.request known.now.order }
+fn handle(known: &Known, e: &Record) -> Change
+    ensures { result ≡ handled e.now known.now.findings known.now.link known.now.request known.now.order }
 {
     match e.kind {
-        codes::EVENT_REPORT => report::on_report(known, e),
-        codes::EVENT_UNKNOWN => report::unknown_at_venue(known, e),
-        codes::EVENT_CANCEL_REJECT => rejects::venue_cancel_reject(known, e),
+        codes::EVENT_REPORT => report::on_report(known, *e),
+        codes::EVENT_UNKNOWN => report::unknown_at_venue(known, *e),
+        codes::EVENT_CANCEL_REJECT => rejects::venue_cancel_reject(known, *e),
         codes::EVENT_SEND_FAILED => {
             rejects::send_failed(known, e.venue, outcomes::FAILED_TO_SEND, text_note(e))
         }
@@ -109,8 +126,8 @@ fn handle(known: &Known, e: Record) -> Change
 
 // Events 4 to 8.
 #[tactic(auto, unfolding(machine::specs::Machine::on_request), using(crate::specs::Laws::Found::order_few, prelude::specs::Laws::Cases::maybe_some, prelude::specs::Laws::Cases::maybe_none))]
-fn on_request(book: &Kept<'_>, e: Record) -> Change
-    ensures { result ≡ on_request (unknown_of e) (handled e) (book_of book.now.bytes.now) e }
+fn on_request(book: &Kept<'_>, e: &Record) -> Change
+    ensures { result ≡ on_request (unknown_of e.now) (handled e.now) (book_of book.now.bytes.now) e.now }
 {
     match store::find_downstream(book.bytes, e.ids.downstream) {
         Some(k) => {
@@ -132,8 +149,8 @@ fn on_request(book: &Kept<'_>, e: Record) -> Change
 
 // Event 9.
 #[tactic(auto, unfolding(machine::specs::Machine::on_name), using(crate::specs::Laws::Found::name_few, prelude::specs::Laws::Cases::maybe_some, prelude::specs::Laws::Cases::maybe_none))]
-fn on_name(book: &Kept<'_>, e: Record) -> Change
-    ensures { result ≡ on_name (book_of book.now.bytes.now) e }
+fn on_name(book: &Kept<'_>, e: &Record) -> Change
+    ensures { result ≡ on_name (book_of book.now.bytes.now) e.now }
 {
     match store::find_name(book.bytes, e.ids.name) {
         Some(i) => {
@@ -146,13 +163,15 @@ fn on_name(book: &Kept<'_>, e: Record) -> Change
 }
 
 #[tactic(auto, using(crate::specs::Laws::Steps::kinds, crate::specs::Laws::Taken::request_taken, crate::specs::Laws::Taken::name_taken))]
-fn change_of(book: &Kept<'_>, e: Record) -> Result<Change, Refusal>
-    ensures is { change_in result ≡ change_of (book_of book.now.bytes.now) e }
+fn change_of(asked: &Asked<'_>) -> Result<Change, Refusal>
+    ensures is { change_in result ≡ change_of (book_of asked.now.book.bytes.now) asked.now.event }
     ensures taken { IfOk result (λ c. c.refusal ≡ 0) }
 {
+    let book = &asked.book;
+    let e = &asked.event;
     match e.kind {
         codes::EVENT_BOOK => book_order(book, e),
-        codes::EVENT_CANCEL | codes::EVENT_REPLACE => amend(book, e),
+        codes::EVENT_CANCEL | codes::EVENT_REPLACE => amend(asked),
         codes::EVENT_REPORT..=codes::EVENT_SEND_AGAIN => Ok(on_request(book, e)),
         _ => Ok(on_name(book, e)),
     }
@@ -171,12 +190,12 @@ fn has_room(book: &[u8], place: u16, added: u8) -> bool
 
 // The event's change, or why it is refused.
 #[tactic(auto, using(crate::specs::Laws::Steps::stepped))]
-pub(crate) fn step_of(book: &Kept<'_>, e: Record) -> Result<Change, Refusal>
-    ensures is { change_in result ≡ step_of (book_of book.now.bytes.now) e }
+pub(crate) fn step_of(asked: &Asked<'_>) -> Result<Change, Refusal>
+    ensures is { change_in result ≡ step_of (book_of asked.now.book.bytes.now) asked.now.event }
     ensures taken { IfOk result (λ c. c.refusal ≡ 0) }
 {
-    let c = change_of(book, e)?;
-    if !has_room(book.bytes, c.place, c.requests.added) {
+    let c = change_of(asked)?;
+    if !has_room(asked.book.bytes, c.place, c.requests.added) {
         return Err(Refusal::FullBook);
     }
     Ok(c)

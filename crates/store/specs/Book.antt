@@ -36,8 +36,8 @@ put_order b i o = put_row orders_at order_size encode_order b i o
 unfoldable pub request_at : List ℕ → ℕ → Request
 request_at b i = row_at requests_at request_size decode_request b i
 
-unfoldable pub put_request : List ℕ → ℕ → (origin : ℕ) → Request → List ℕ
-put_request b i origin r = put_row requests_at request_size (encode_request origin) b i r
+unfoldable pub put_request : List ℕ → ℕ → Request → List ℕ
+put_request b i r = put_row requests_at request_size encode_request b i r
 
 -- ---- the header
 
@@ -82,17 +82,18 @@ set_count b at n = splice b at (bytes_of 2 n)
 unfoldable pub add_order : List ℕ → Order → List ℕ
 add_order b o = if is_book b && ltb (order_count b) most_orders then set_count (put_order b (order_count b) o) header·orders (order_count b + 1) otherwise b
 
--- the origin is the link of the request that the OrigClOrdID names, 0 for none
-unfoldable pub add_request : List ℕ → (origin : ℕ) → Request → List ℕ
-add_request b origin r =
-    if is_book b && ltb (request_count b) most_requests then set_count (put_request b (request_count b) origin r) header·requests (request_count b + 1) otherwise b
+unfoldable pub add_request : List ℕ → Request → List ℕ
+add_request b r = if is_book b && ltb (request_count b) most_requests then set_count (put_request b (request_count b) r) header·requests (request_count b + 1) otherwise b
 
--- beside the request's fields, no part of the book that the bytes are: its origin
+-- beside the request's fields, no part of the book that the bytes are: its origin, the link of the request that the OrigClOrdID names, 0 for none
 abbrev pub origin_at : List ℕ → ℕ → ℕ
 origin_at b i = word16 b (request_base i + request·origin)
 
 unfoldable pub load_origin : List ℕ → ℕ → ℕ
 load_origin b i = if is_book b && ltb i most_requests then origin_at b i otherwise 0
+
+unfoldable pub store_origin : List ℕ → (i origin : ℕ) → List ℕ
+store_origin b i origin = if is_book b && ltb i most_requests then splice b (request_base i + request·origin) (bytes_of 2 origin) otherwise b
 
 -- an outcome is set once, for good: a request that is answered keeps the one that it has
 abbrev pub settled_as : (outcome : ℕ) → Request → ℕ

@@ -1,5 +1,5 @@
 -- A request's record: what its bytes say, and the bytes that say it. Rests on Layout and Cells.
-use Rattle.std.specs.Prelude.{◌≡◌, List, [], ◌∷◌, ◌++◌, ℕ, ◌<◌, get_or, replicate}
+use Rattle.std.specs.Prelude.{◌≡◌, List, [], ◌∷◌, ℕ, ◌<◌, get_or, replicate}
 use Rattle.std.specs.List.{concat}
 use Rattle.prelude.specs.Number.{word16, bytes_of}
 use Rattle.prelude.specs.Texts.{text_at, WholeText}
@@ -29,16 +29,12 @@ pub record IsRequest (s : List ℕ) (r : Request) : Type 0 where
   pub downstream : r.downstream ≡ text_at s request·downstream
   pub outcome : r.outcome ≡ get_or s request·outcome 0
 
--- behind the fields: the origin, and 22 bytes that are written as zeros and never read
-abbrev pub beside_bytes : (origin : ℕ) → List ℕ
-beside_bytes origin = bytes_of 2 origin ++ replicate 22 0
-
--- the widths of a record's pieces, 128 bytes in all, and the pieces
+-- the widths of a record's pieces, 128 bytes in all, and the pieces: behind the fields 24 zeros
 abbrev pub widths_request : List ℕ
 widths_request = 2 ∷ 1 ∷ 1 ∷ 33 ∷ 33 ∷ 33 ∷ 1 ∷ 24 ∷ []
 
-abbrev pub pieces_request : (origin : ℕ) → Request → List (List ℕ)
-pieces_request origin r =
+abbrev pub pieces_request : Request → List (List ℕ)
+pieces_request r =
     bytes_of 2 r.order
     ∷ (r.kind ∷ [])
     ∷ (r.answered ∷ [])
@@ -46,11 +42,11 @@ pieces_request origin r =
     ∷ text_bytes r.origclordid
     ∷ text_bytes r.downstream
     ∷ (r.outcome ∷ [])
-    ∷ beside_bytes origin
+    ∷ replicate 24 0
     ∷ []
 
-unfoldable pub encode_request : (origin : ℕ) → Request → List ℕ
-encode_request origin r = concat (pieces_request origin r)
+unfoldable pub encode_request : Request → List ℕ
+encode_request r = concat (pieces_request r)
 
 -- the record of zeros
 abbrev pub no_request : Request

@@ -8,7 +8,7 @@ ghost use Rattle.prelude.specs.Span.{span};
 ghost use Rattle.store.specs.Layout.{book_size, orders_at, most_orders, most_requests, request_size, request_base};
 ghost use Rattle.store.specs.Orders.{no_gateway, no_pending, no_order};
 ghost use Rattle.store.specs.Requests.{no_request};
-ghost use Rattle.store.specs.Book.{is_book, put_order, count_at, order_count, request_count, setting_of, load_order, store_order, add_order, load_request, add_request, mark_answered, load_origin, load_open, store_open, clear_book};
+ghost use Rattle.store.specs.Book.{is_book, put_order, count_at, order_count, request_count, setting_of, load_order, store_order, add_order, load_request, add_request, mark_answered, load_origin, store_origin, load_open, store_open, clear_book};
 
 use cells::{u16_at, u32_at};
 use prelude::{Terms, Text};
@@ -308,15 +308,15 @@ pub fn load_request(book: &[u8], i: usize) -> Request
     request_record(book, i).map_or(NO_REQUEST, requests::decode)
 }
 
-// Writes a request behind those in use, with its origin, or nothing if the table is full.
+// Writes a request behind those in use, with no origin, or nothing if the table is full.
 #[tactic(auto, using(prelude::specs::Laws::Cases::if_true, prelude::specs::Laws::Cases::if_false), unfolding(crate::specs::Book::add_request, crate::specs::Book::put_request, crate::specs::Book::set_count))]
-pub fn add_request(book: &mut [u8], origin: u16, r: Request)
-    ensures { book.new ≡ add_request book.old origin r }
+pub fn add_request(book: &mut [u8], r: Request)
+    ensures { book.new ≡ add_request book.old r }
 {
     let n = request_count(book);
     if has_record(book, layout::MOST_REQUESTS, n) {
         let at = layout::REQUESTS + n * layout::REQUEST;
-        cells::put(book, at, &requests::encode(origin, r));
+        cells::put(book, at, &requests::encode(r));
         // At most 256: by `as`, which is proved to lose nothing.
         cells::put16(book, layout::REQUEST_COUNT, (n + 1) as u16);
     }
@@ -327,6 +327,17 @@ pub fn load_origin(book: &[u8], i: usize) -> u16
     ensures { result ≡ load_origin book.now i }
 {
     request_record(book, i).map_or(0, |bytes| u16_at(bytes, layout::REQUEST_ORIGIN))
+}
+
+// Writes the origin of request i, or nothing if there is no such record.
+#[tactic(auto, using(prelude::specs::Laws::Cases::if_true, prelude::specs::Laws::Cases::if_false), unfolding(crate::specs::Book::store_origin))]
+pub fn store_origin(book: &mut [u8], i: usize, origin: u16)
+    ensures { book.new ≡ store_origin book.old i origin }
+{
+    if has_record(book, layout::MOST_REQUESTS, i) {
+        let at = layout::REQUESTS + i * layout::REQUEST;
+        cells::put16(book, at + layout::REQUEST_ORIGIN, origin);
+    }
 }
 
 // Sets the answered byte of request i, and its outcome if the byte was not set before; or nothing if there is

@@ -2,7 +2,7 @@
 ghost use Rattle.std.specs.Prelude.{◌≡◌, eqb, get_or};
 ghost use Rattle.prelude.specs.Cases.{if◌then◌otherwise◌};
 ghost use Rattle.store.specs.Layout.{request·answered, request·outcome};
-ghost use Rattle.store.specs.Requests.{WholeRequest, beside_bytes, decode_request, encode_request};
+ghost use Rattle.store.specs.Requests.{WholeRequest, decode_request, encode_request};
 
 use crate::Request;
 use crate::cells::{get_text, put, put_text, put16, u16_at};
@@ -23,21 +23,11 @@ pub(crate) fn decode(s: &[u8; REQUEST]) -> Request
     }
 }
 
-// The bytes behind the fields.
-#[tactic(auto, unfolding(prelude::specs::Span::splice))]
-fn beside(origin: u16) -> [u8; 24]
-    ensures { result ≡ beside_bytes origin }
-{
-    let mut bytes = [0u8; 24];
-    put16(&mut bytes, 0, origin);
-    bytes
-}
-
-// The bytes of a request's record, whose origin is this. Numbers fit their widths, and texts have 32
-// bytes.
+// The bytes of a request's record, with zeros behind its fields. Numbers fit their widths, and texts have
+// 32 bytes.
 #[tactic(auto, using(crate::specs::Laws::Requests::write_request))]
-pub(crate) fn encode(origin: u16, r: Request) -> [u8; REQUEST]
-    ensures { (result ≡ encode_request origin r) × WholeRequest r }
+pub(crate) fn encode(r: Request) -> [u8; REQUEST]
+    ensures { (result ≡ encode_request r) × WholeRequest r }
 {
     let mut s = [0u8; REQUEST];
     put16(&mut s, layout::REQUEST_ORDER, r.order);
@@ -47,7 +37,7 @@ pub(crate) fn encode(origin: u16, r: Request) -> [u8; REQUEST]
     put_text(&mut s, layout::REQUEST_ORIGCLORDID, r.origclordid);
     put_text(&mut s, layout::REQUEST_DOWNSTREAM, r.downstream);
     put(&mut s, layout::REQUEST_OUTCOME, &[r.outcome]);
-    put(&mut s, layout::REQUEST_ORIGIN, &beside(origin));
+    put(&mut s, layout::REQUEST_ORIGIN, &[0u8; 24]);
     s
 }
 

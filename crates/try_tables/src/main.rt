@@ -26,7 +26,13 @@ fn store_orders(book: &mut [u8]) {
 
 fn add_requests(book: &mut [u8]) {
     for j in 0..REQUESTS {
-        store::add_request(book, j, request(j, 0));
+        store::add_request(book, request(j, 0));
+    }
+}
+
+fn store_origins(book: &mut [u8]) {
+    for j in 0..REQUESTS {
+        store::store_origin(book, usize::from(j), j);
     }
 }
 
@@ -53,6 +59,12 @@ fn orders_right(book: &[u8], turn: u16) -> usize {
 fn requests_right(book: &[u8], outcome: u8) -> usize {
     count(REQUESTS, |j| {
         store::load_request(book, usize::from(j)) == request(j, outcome)
+    })
+}
+
+fn origins_right(book: &[u8]) -> usize {
+    count(REQUESTS, |j| {
+        store::load_origin(book, usize::from(j)) == j
     })
 }
 
@@ -83,15 +95,17 @@ fn stored(rt: &impl Print, book: &mut [u8]) -> io::Result<()> {
 
 fn changed(rt: &impl Print, book: &mut [u8]) -> io::Result<()> {
     store_orders(book);
+    store_origins(book);
     mark_requests(book);
     println!(rt; "orders right again {}", orders_right(book, 2))?;
-    println!(rt; "requests right again {}", requests_right(book, REFUSED))
+    println!(rt; "requests right again {}", requests_right(book, REFUSED))?;
+    println!(rt; "origins right {}", origins_right(book))
 }
 
 // A full table takes no more.
 fn full(rt: &impl Print, book: &mut [u8]) -> io::Result<()> {
     store::add_order(book, order(ORDERS, 2));
-    store::add_request(book, 0, request(REQUESTS, REFUSED));
+    store::add_request(book, request(REQUESTS, REFUSED));
     println!(rt; "orders when full {}", store::order_count(book))?;
     println!(rt; "requests when full {}", store::request_count(book))
 }

@@ -21,7 +21,7 @@ use Rattle.machine.specs.Rules.{rules}
 use Rattle.index.specs.Index.{stored_open, open_right, opens_right}
 use Rattle.index.specs.Laws.Sums.{total_start, total_more, total_ext, total_zero, client_at, none_at, first_for, first_for_lem, first_client, part_to, sum_to, leaves_small, open_bytes}
 
--- an order's leaves, where it is the client's
+-- an order's leaves, if it is the client's
 abbrev part : ℕ → Order → ℕ
 part c o = if o.client == c then leaves_qty o otherwise 0
 

@@ -1,4 +1,4 @@
--- An OrigClOrdID's link. Where the ClOrdIDs of a client are distinct, machine's rule of a request's OrigClOrdID and index's rule of its link say together that the
+-- An OrigClOrdID's link. If the ClOrdIDs of a client are distinct, machine's rule of a request's OrigClOrdID and index's rule of its link say together that the
 -- link names a request of the same order, numbered lower, with the OrigClOrdID as its ClOrdID. Rests on Named.
 use Rattle.std.specs.Prelude.{◌≡◌, ℕ, ◌+◌, ◌-◌, ◌<◌, Bool, true, false, not, ◌&&◌, ◌||◌, List, Option, None, Some, eqb, leb, ltb, length, get_or, refl}
 use Rattle.std.proofs.Common.{arith, sym, ap, subst, ◌∙◌, eqb-true, eq-eqb, ltb-true, lt-ltb, leb-true, le-leb}
@@ -29,7 +29,7 @@ pub record Named (x : Book) (k : ℕ) : Type 0 where
   pub at : ℕ
   pub lower : Lower x k at
 
--- the request of a link is one, as it is decided
+-- the request of a link is such a one, as the code decides it
 unfoldable pub backs : List Request → (k link : ℕ) → Bool
 backs qs k link =
     ltb 0 link && leb link k && eqb (get_or qs (link - 1) no_request).order (get_or qs k no_request).order

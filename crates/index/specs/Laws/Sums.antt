@@ -1,4 +1,4 @@
--- Sums over the orders in the bytes: the pass that puts each order's leaves to its client's first order, and that it comes to the open quantities. The code
+-- Sums over the orders in the bytes: the pass that adds each order's leaves at its client's first order, and that it gives the open quantities. The code
 -- sums each client's for itself, as Left has it. Rests on Index, store's laws, and machine's rules for how large a sum may be.
 use Rattle.std.specs.Prelude.{◌≡◌, ℕ, zero, suc, ◌+◌, ◌*◌, ◌^◌, ◌<◌, ◌≤◌, Bool, true, false, ◌&&◌, List, [], ◌∷◌, length, ◌==◌, nat_eq, nat_le, slice_index, slice_index_or, slice_set, Option, None, Some, refl}
 use Rattle.std.proofs.Common.{arith, ◌∙◌, get_or-set_same, get_or-set_other, below_more, sym, ap, ap₂, subst, eqb-true, eq-eqb, ne_eqb, leb-true}
@@ -82,7 +82,7 @@ open_fits x r client =
 -- ---- the first order of a client
 
 module _ (b : List ℕ) where
-  -- where it was found: it is in use and the client's, and the pass finds no other
+  -- what is known of it once it is found: it is in use and the client's, and the pass finds no other
   pub client_at : (c j : ℕ) → find_client (book_of b) c ≡ Some j → (j < order_count b) × ((order_at b j).client ≡ c)
   client_at c j e =
       let f : First (clients_at b c) (order_count b) j = first_some (clients_at b c) (order_count b) j (sym (find_client_bytes b c) ∙ e) in
@@ -97,7 +97,7 @@ module _ (b : List ℕ) where
       let f : First (clients_at b c) (i + 1) r = first_some (clients_at b c) (i + 1) r e in
       find_client_bytes b c ∙ first_hit (clients_at b c) (order_count b) r (omega (arith, f.below)) f.least f.passes
 
-  -- its index, 0 where there is none
+  -- its index, 0 if there is none
   unfoldable pub first_for : ℕ → ℕ
   first_for c = maybe 0 (λ i. i) (find_client (book_of b) c)
 
@@ -114,7 +114,7 @@ module _ (b : List ℕ) where
 
 -- ---- the sums
 
--- an order's leaves, where its client's first order is order q
+-- an order's leaves, if its client's first order is order q
 abbrev pub part_to : List ℕ → ℕ → Order → ℕ
 part_to b q o = if first_for b o.client == q then leaves_qty o otherwise 0
 

@@ -1,12 +1,14 @@
 -- The parts of a step are together machine's. Rests on Steps and machine's Machine.
-use Rattle.std.specs.Prelude.{ℕ, ◌+◌, ◌<◌, ◌≡◌, Bool, true, false, ◌||◌, eqb, refl, ltb}
-use Rattle.std.proofs.Common.{sym, ap, ◌∙◌, arith, eqb-true, eq-eqb, ne_eqb, lt-ltb, le-ltb}
+use Rattle.std.specs.Prelude.{ℕ, ◌+◌, ◌<◌, ◌≡◌, Bool, true, false, ◌&&◌, ◌||◌, eqb, refl, leb, ltb, Option, None, Some}
+use Rattle.std.proofs.Common.{sym, ap, ◌∙◌, arith, eqb-true, eq-eqb, ne_eqb, lt-ltb, le-ltb, le-leb}
 use Rattle.std.proofs.Math.Decide.{dec_lt}
-use Rattle.std.proofs.lemmas.Bool.{eqb-false}
-use Rattle.prelude.specs.Cases.{if◌then◌otherwise◌}
+use Rattle.std.proofs.lemmas.Bool.{eqb-false, lt-leb}
+use Rattle.prelude.specs.Cases.{if◌then◌otherwise◌, maybe}
+use Rattle.prelude.specs.declared.Text.{Text}
 use Rattle.store.specs.declared.Order.{Order}
 use Rattle.store.specs.declared.Request.{Request}
 use Rattle.store.specs.Book.{Book, order_in, request_in}
+use Rattle.store.specs.Finds.{find_clordid}
 use Rattle.machine.specs.declared.Findings.{Findings}
 use Rattle.machine.specs.declared.Change.{Change}
 use Rattle.machine.specs.Changes.{Event, refusing}
@@ -15,8 +17,10 @@ use Rattle.machine.specs.Machine.{order_link, order_of, order_at_link, latest_ca
 use Rattle.machine.proofs.Kept.Tables.{at_link}
 use Rattle.prelude.specs.declared.Refusal.{Refusal}
 use Rattle.prelude.specs.Refusal.{number_of}
+use Rattle.prelude.specs.Laws.Cases.{if_true, if_false}
 use Rattle.step.specs.Laws.Taken.{numbered}
-use Rattle.step.specs.Steps.{request_at_link, findings_at, is_full, amended, handled, unknown_of, has_room_for}
+use Rattle.index.specs.Index.{origin_of}
+use Rattle.step.specs.Steps.{origin_asked, order_of_link, request_at_link, findings_at, is_full, amended, handled, unknown_of, has_room_for}
 
 -- ---- what an event finds
 
@@ -122,6 +126,37 @@ pub asked : (b : Book) (e : Event) (k : ℕ) (q : Request) (o : Order) (f : Find
     → f ≡ findings_at b (q.order + 1) o → r ≡ handled e f (k + 1) q o
     → r ≡ handled e (findings_of b (order_link b k)) (k + 1) (request_in b k) (order_in b (request_in b k).order)
 asked b e k q o f r hq ho hf hr = rw (hr, hf, ho, hq, findings_of_lem b (request_in b k).order) refl
+
+-- the request of the OrigClOrdID, looked up once
+module _ (b : Book) (e : Event) where
+  amended_kind : 1 < e.kind → e.kind < 4 → leb 2 e.kind && leb e.kind 3 ≡ true
+  amended_kind low high = rw (le-leb 2 e.kind (omega arith), le-leb e.kind 3 (omega arith)) refl
+
+  pub origin_amended : 1 < e.kind → e.kind < 4 → origin_of b e.client e.ids.origclordid ≡ origin_asked b e
+  unfolding origin_asked
+  origin_amended low high = sym (if_true _ _ _ (amended_kind low high))
+
+  pub origin_low : e.kind < 2 → 0 ≡ origin_asked b e
+  unfolding origin_asked
+  origin_low low = sym (if_false _ _ _ (rw (lt-leb 2 e.kind low) refl))
+
+  pub origin_high : 3 < e.kind → 0 ≡ origin_asked b e
+  unfolding origin_asked
+  origin_high high = sym (if_false _ _ _ (rw (le-leb 2 e.kind (omega arith), lt-leb e.kind 3 high) refl))
+
+  order_linked : (client : ℕ) (t : Text) → order_of_link b (origin_of b client t) ≡ order_of b client t
+  unfolding order_of_link origin_of order_of maybe
+  order_linked client t = go (find_clordid b client t)
+    where
+      go : (x : Option ℕ) → order_of_link b (maybe 0 (λ k. k + 1) x) ≡ maybe 0 (order_link b) x
+      go None = if_true _ _ _ refl
+      go (Some k) = if_false _ _ _ (ne_eqb (k + 1) 0 (λ z. omega arith)) ∙ ap (order_link b) (omega arith)
+
+  pub order_found : 1 < e.kind → e.kind < 4 → (origin place : ℕ) → origin ≡ origin_asked b e → place ≡ order_of_link b origin → place ≡ order_of b e.client e.ids.origclordid
+  order_found low high origin place h k = k ∙ ap (order_of_link b) (h ∙ sym (origin_amended low high)) ∙ order_linked e.client e.ids.origclordid
+
+-- for the tactic of the function that asks for it
+pub ruleset origins = (origin_amended, origin_low, origin_high)
 
 pub amends : (handle : Amending) (b : Book) (e : Event) (place : ℕ) (o : Order) (f : Findings) (used : ℕ) (full : Bool) (r : Change)
     → place ≡ order_of b e.client e.ids.origclordid → o ≡ order_at_link b place → f ≡ findings_at b place o

@@ -59,36 +59,36 @@ module _ (b : List ℕ) (o : Order) where
 
 -- ---- a request added
 
-module _ (b : List ℕ) (origin : ℕ) (r : Request) where
-  pub add_request_book : length b ≡ book_size → request_count b < most_requests → WholeRequest r → book_of (add_request b origin r) ≡ plus_request (book_of b) r
+module _ (b : List ℕ) (r : Request) where
+  pub add_request_book : length b ≡ book_size → request_count b < most_requests → WholeRequest r → book_of (add_request b r) ≡ plus_request (book_of b) r
   unfolding add_request if◌then◌otherwise◌ book_of
   add_request_book l h w =
       let n : ℕ = request_count b in
-      let d : List ℕ = put_request b n origin r in
-      let m : length d ≡ book_size = length_put_request b l n h origin r w in
+      let d : List ℕ = put_request b n r in
+      let m : length d ≡ book_size = length_put_request b l n h r w in
       let f : List ℕ = set_count d header·requests (n + 1) in
       let u : length f ≡ book_size = length_set_count d m header·requests (n + 1) (omega arith) in
       let c : request_count f ≡ n + 1 = count_set_count d m header·requests (n + 1) (omega arith) most_requests (omega arith) ∙ omega arith in
       rw (eq-eqb (length b) book_size l, lt-ltb (request_count b) most_requests h)
       (λ t. record {
-        setting = (same_setting d f m u (span_set_count d m header·requests (n + 1) (omega arith) header·setting 4 (inr (omega arith))) ∙ put_request_setting b l n h origin r w) t;
+        setting = (same_setting d f m u (span_set_count d m header·requests (n + 1) (omega arith) header·setting 4 (inr (omega arith))) ∙ put_request_setting b l n h r w) t;
         orders =
             (ap (list_below (order_at f)) (same_count d f m u header·orders most_orders (omega arith) (span_set_count d m header·requests (n + 1) (omega arith) header·orders 2 (inl (omega arith))))
             ∙ list_ext (order_at f) (order_at d) (order_count d) (λ k j. order_set_count d m header·requests (n + 1) (omega arith) k)
-            ∙ put_request_orders b l n h origin r w) t;
+            ∙ put_request_orders b l n h r w) t;
         requests =
             (ap (list_below (request_at f)) c
             ∙ list_more (request_at f) n
-            ∙ ap (λ (x : Request). list_below (request_at f) n ++ (x ∷ [])) (request_set_count d m header·requests (n + 1) (omega arith) n ∙ request_put b l n h origin r w)
+            ∙ ap (λ (x : Request). list_below (request_at f) n ++ (x ∷ [])) (request_set_count d m header·requests (n + 1) (omega arith) n ∙ request_put b l n h r w)
             ∙ ap (λ (xs : List Request). xs ++ (r ∷ []))
             (list_ext (request_at f) (request_at b) n
-            (λ k j. request_set_count d m header·requests (n + 1) (omega arith) k ∙ request_put_other b l n h origin r w k (λ z. omega arith)))) t;
+            (λ k j. request_set_count d m header·requests (n + 1) (omega arith) k ∙ request_put_other b l n h r w k (λ z. omega arith)))) t;
       })
 
-  pub add_request_full : most_requests ≤ request_count b → add_request b origin r ≡ b
+  pub add_request_full : most_requests ≤ request_count b → add_request b r ≡ b
   unfolding add_request if◌then◌otherwise◌
   add_request_full h =
-      in_table (λ t. (if t then set_count (put_request b (request_count b) origin r) header·requests (request_count b + 1) otherwise b) ≡ b) b most_requests (request_count b) (λ l k. absurd (omega arith)) (λ d. refl)
+      in_table (λ t. (if t then set_count (put_request b (request_count b) r) header·requests (request_count b + 1) otherwise b) ≡ b) b most_requests (request_count b) (λ l k. absurd (omega arith)) (λ d. refl)
 
 -- ---- a request marked as answered, and its outcome set
 

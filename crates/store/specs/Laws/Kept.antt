@@ -40,11 +40,11 @@ bytes_order o h =
     bytes_joined (pieces_order o)
     (bytes_of_lem 2 o.client, (bytes_of_lem 2 o.venue, (bytes_text o.names.name h.names.name, (bytes_text o.names.clordid h.names.clordid, (bytes_text o.names.downstream h.names.downstream, (bytes_text o.names.symbol h.names.symbol, (bytes_text o.names.venueorderid h.names.venueorderid, (bytes_one o.terms.side h.terms.side, (bytes_one o.terms.ordtype h.terms.ordtype, (bytes_one o.terms.timeinforce h.terms.timeinforce, (bytes_of_lem 8 o.terms.qty, (bytes_of_lem 8 o.terms.price, (bytes_one o.state.status h.state.status, (bytes_of_lem 8 o.state.cumqty, (bytes_of_lem 8 o.state.avgpx, (bytes_of_lem 8 o.state.execseq, (bytes_of_lem 2 o.links.amendments, (bytes_of_lem 2 o.links.current, (bytes_of_lem 2 o.links.cancel, (bytes_of_lem 2 o.pending.request, (bytes_of_lem 8 o.pending.qty, (bytes_of_lem 8 o.pending.price, (bytes_one o.pending.ordtype h.pending.ordtype, (bytes_one o.pending.timeinforce h.pending.timeinforce, (bytes_one (stage_of o.gateway) (stage_small o.gateway), (bytes_one o.gateway.tries h.gateway.tries, (bytes_of_lem 2 o.gateway.origdownstream, (bytes_of_lem 4 o.gateway.refusedsends, (bytes_zeros 9, tt)))))))))))))))))))))))))))))
 
-pub bytes_request : (origin : ℕ) (r : Request) → WholeRequest r → Bytes (encode_request origin r)
+pub bytes_request : (r : Request) → WholeRequest r → Bytes (encode_request r)
 unfolding encode_request
-bytes_request origin r h =
-    bytes_joined (pieces_request origin r)
-    (bytes_of_lem 2 r.order, (bytes_one r.kind h.kind, (bytes_one r.answered h.answered, (bytes_text r.clordid h.clordid, (bytes_text r.origclordid h.origclordid, (bytes_text r.downstream h.downstream, (bytes_one r.outcome h.outcome, (bytes_append (bytes_of 2 origin) (zeros 22) (bytes_of_lem 2 origin) (bytes_zeros 22), tt))))))))
+bytes_request r h =
+    bytes_joined (pieces_request r)
+    (bytes_of_lem 2 r.order, (bytes_one r.kind h.kind, (bytes_one r.answered h.answered, (bytes_text r.clordid h.clordid, (bytes_text r.origclordid h.origclordid, (bytes_text r.downstream h.downstream, (bytes_one r.outcome h.outcome, (bytes_zeros 24, tt))))))))
 
 -- ---- the functions
 
@@ -71,9 +71,9 @@ module _ (b : List ℕ) (l : length b ≡ book_size) where
   unfolding put_order
   keeps_put_order i o h w = record { same = length_put_order b l i h o w ∙ sym l; bytes = λ g. bytes_splice b _ (encode_order o) g (bytes_order o w) }
 
-  keeps_put_request : (i origin : ℕ) (r : Request) → i < most_requests → WholeRequest r → Keeps b (put_request b i origin r)
+  keeps_put_request : (i : ℕ) (r : Request) → i < most_requests → WholeRequest r → Keeps b (put_request b i r)
   unfolding put_request
-  keeps_put_request i origin r h w = record { same = length_put_request b l i h origin r w ∙ sym l; bytes = λ g. bytes_splice b _ (encode_request origin r) g (bytes_request origin r w) }
+  keeps_put_request i r h w = record { same = length_put_request b l i h r w ∙ sym l; bytes = λ g. bytes_splice b _ (encode_request r) g (bytes_request r w) }
 
 pub store_order_keeps : (b : List ℕ) (i : ℕ) (o : Order) → FitsOrder o → Keeps b (store_order b i o)
 unfolding store_order if◌then◌otherwise◌
@@ -87,14 +87,14 @@ add_order_keeps b o w =
     (keeps_count (put_order b (order_count b) o) (length_put_order b l (order_count b) h o w) header·orders (order_count b + 1) (omega arith)))
     (λ d. keeps_self b)
 
-pub add_request_keeps : (b : List ℕ) (origin : ℕ) (r : Request) → WholeRequest r → Keeps b (add_request b origin r)
+pub add_request_keeps : (b : List ℕ) (r : Request) → WholeRequest r → Keeps b (add_request b r)
 unfolding add_request if◌then◌otherwise◌
-add_request_keeps b origin r w =
+add_request_keeps b r w =
     let n : ℕ = request_count b in
-    let d : List ℕ = put_request b n origin r in
+    let d : List ℕ = put_request b n r in
     in_table (λ t. Keeps b (if t then set_count d header·requests (n + 1) otherwise b)) b most_requests n
-    (λ l h. keeps_more b d (set_count d header·requests (n + 1)) (keeps_put_request b l n origin r h w)
-    (keeps_count d (length_put_request b l n h origin r w) header·requests (n + 1) (omega arith)))
+    (λ l h. keeps_more b d (set_count d header·requests (n + 1)) (keeps_put_request b l n r h w)
+    (keeps_count d (length_put_request b l n h r w) header·requests (n + 1) (omega arith)))
     (λ d. keeps_self b)
 
 -- the outcome that is there, or one that is a byte

@@ -117,16 +117,16 @@ module _ (b : List ℕ) (j : ℕ) (k : j < most_orders) where
       ∙ same_open b d l m j k (span_put_order b l n h o w (open_base j) open_size (inr (omega arith))))
       (λ d. refl)
 
-  pub add_request_open : (origin : ℕ) (r : Request) → WholeRequest r → open_at (add_request b origin r) j ≡ open_at b j
+  pub add_request_open : (r : Request) → WholeRequest r → open_at (add_request b r) j ≡ open_at b j
   unfolding add_request if◌then◌otherwise◌
-  add_request_open origin r w =
+  add_request_open r w =
       let n : ℕ = request_count b in
-      in_table (λ t. open_at (if t then set_count (put_request b n origin r) header·requests (n + 1) otherwise b) j ≡ open_at b j) b most_requests n
+      in_table (λ t. open_at (if t then set_count (put_request b n r) header·requests (n + 1) otherwise b) j ≡ open_at b j) b most_requests n
       (λ l h.
-      let d : List ℕ = put_request b n origin r in
-      let m : length d ≡ book_size = length_put_request b l n h origin r w in
+      let d : List ℕ = put_request b n r in
+      let m : length d ≡ book_size = length_put_request b l n h r w in
       same_open d (set_count d header·requests (n + 1)) m (length_set_count d m header·requests (n + 1) (omega arith)) j k (span_set_count d m header·requests (n + 1) (omega arith) (open_base j) open_size (inr (omega arith)))
-      ∙ same_open b d l m j k (span_put_request b l n h origin r w (open_base j) open_size (inr (omega arith))))
+      ∙ same_open b d l m j k (span_put_request b l n h r w (open_base j) open_size (inr (omega arith))))
       (λ d. refl)
 
   pub mark_open : (i outcome : ℕ) → open_at (mark_answered b i outcome) j ≡ open_at b j

@@ -143,15 +143,15 @@ load_stored_order b i o l h w =
 
 -- ---- a request written: the header and the orders stay
 
-module _ (b : List ℕ) (l : length b ≡ book_size) (i : ℕ) (h : i < most_requests) (origin : ℕ) (r : Request) (w : WholeRequest r) where
-  pub put_request_count : (at most : ℕ) → at + 2 ≤ orders_at → count_at at most (put_request b i origin r) ≡ count_at at most b
+module _ (b : List ℕ) (l : length b ≡ book_size) (i : ℕ) (h : i < most_requests) (r : Request) (w : WholeRequest r) where
+  pub put_request_count : (at most : ℕ) → at + 2 ≤ orders_at → count_at at most (put_request b i r) ≡ count_at at most b
   put_request_count at most k =
-      same_count b (put_request b i origin r) l (length_put_request b l i h origin r w) at most k (span_put_request b l i h origin r w at 2 (inl (omega arith)))
+      same_count b (put_request b i r) l (length_put_request b l i h r w) at most k (span_put_request b l i h r w at 2 (inl (omega arith)))
 
-  pub put_request_setting : setting_of (put_request b i origin r) ≡ setting_of b
-  put_request_setting = same_setting b (put_request b i origin r) l (length_put_request b l i h origin r w) (span_put_request b l i h origin r w header·setting 4 (inl (omega arith)))
+  pub put_request_setting : setting_of (put_request b i r) ≡ setting_of b
+  put_request_setting = same_setting b (put_request b i r) l (length_put_request b l i h r w) (span_put_request b l i h r w header·setting 4 (inl (omega arith)))
 
-  pub put_request_orders : list_below (order_at (put_request b i origin r)) (order_count (put_request b i origin r)) ≡ list_below (order_at b) (order_count b)
+  pub put_request_orders : list_below (order_at (put_request b i r)) (order_count (put_request b i r)) ≡ list_below (order_at b) (order_count b)
   put_request_orders =
-      ap (list_below (order_at (put_request b i origin r))) (put_request_count header·orders most_orders (omega arith))
-      ∙ list_ext (order_at (put_request b i origin r)) (order_at b) (order_count b) (λ k m. order_put_request b l i h origin r w k (omega (arith, count_most header·orders most_orders b)))
+      ap (list_below (order_at (put_request b i r))) (put_request_count header·orders most_orders (omega arith))
+      ∙ list_ext (order_at (put_request b i r)) (order_at b) (order_count b) (λ k m. order_put_request b l i h r w k (omega (arith, count_most header·orders most_orders b)))

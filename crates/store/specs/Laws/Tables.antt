@@ -55,24 +55,24 @@ order_put b l i h o w =
 
 -- ---- a request written
 
-module _ (b : List ℕ) (l : length b ≡ book_size) (i : ℕ) (h : i < most_requests) (origin : ℕ) (r : Request) (w : WholeRequest r) where
-  pub length_put_request : length (put_request b i origin r) ≡ book_size
+module _ (b : List ℕ) (l : length b ≡ book_size) (i : ℕ) (h : i < most_requests) (r : Request) (w : WholeRequest r) where
+  pub length_put_request : length (put_request b i r) ≡ book_size
   unfolding put_request
-  length_put_request = length_put_row requests_at request_size most_requests (encode_request origin) b (omega arith) i h r (length_request origin r w) ∙ l
+  length_put_request = length_put_row requests_at request_size most_requests encode_request b (omega arith) i h r (length_request r w) ∙ l
 
-  pub span_put_request : (at n : ℕ) → (at + n ≤ requests_at) ⊎ (request_base most_requests ≤ at) → span (put_request b i origin r) at n ≡ span b at n
+  pub span_put_request : (at n : ℕ) → (at + n ≤ requests_at) ⊎ (request_base most_requests ≤ at) → span (put_request b i r) at n ≡ span b at n
   unfolding put_request
-  span_put_request at n d = span_put_row requests_at request_size most_requests (encode_request origin) b (omega arith) i h r (length_request origin r w) at n d
+  span_put_request at n d = span_put_row requests_at request_size most_requests encode_request b (omega arith) i h r (length_request r w) at n d
 
-  pub request_put : request_at (put_request b i origin r) i ≡ r
+  pub request_put : request_at (put_request b i r) i ≡ r
   unfolding put_request request_at
-  request_put = row_put requests_at request_size most_requests (encode_request origin) b (omega arith) i h r (length_request origin r w) decode_request (decode_request_lem origin r w)
+  request_put = row_put requests_at request_size most_requests encode_request b (omega arith) i h r (length_request r w) decode_request (decode_request_lem r w)
 
-  pub request_put_other : (j : ℕ) → (i ≡ j → ⊥) → request_at (put_request b i origin r) j ≡ request_at b j
+  pub request_put_other : (j : ℕ) → (i ≡ j → ⊥) → request_at (put_request b i r) j ≡ request_at b j
   unfolding put_request request_at
-  request_put_other j n = row_put_other requests_at request_size most_requests (encode_request origin) b (omega arith) i h r (length_request origin r w) decode_request j n
+  request_put_other j n = row_put_other requests_at request_size most_requests encode_request b (omega arith) i h r (length_request r w) decode_request j n
 
-  pub order_put_request : (j : ℕ) → j < most_orders → order_at (put_request b i origin r) j ≡ order_at b j
+  pub order_put_request : (j : ℕ) → j < most_orders → order_at (put_request b i r) j ≡ order_at b j
   unfolding order_at
   order_put_request j k = ap decode_order (span_put_request (order_base j) order_size (inl (omega arith)))
 

@@ -2,7 +2,7 @@
 //! the length, nothing written by a refused event, every field of the book by docs/LAYOUT.md and
 //! no other byte of it, `check` 0, the evening page, the clients' open quantities and their nets, chains of ClOrdIDs
 //! after each event, events on copies of the book, and demand 3 and the nets counted from the
-//! messages.
+//! messages; and the whole list once more in calls of `events`.
 
 use std::panic::{AssertUnwindSafe, catch_unwind};
 
@@ -18,6 +18,7 @@ use crate::entries::{Entries, Needs};
 use crate::expected::{self, Lent};
 use crate::keeps::broken;
 use crate::layout::{self, Book, Header};
+use crate::many;
 use crate::minimize::minimize;
 use crate::mirror::{self, Sending};
 use crate::needs;
@@ -34,6 +35,8 @@ pub struct Probing {
     pub every: usize,
     /// Every chain after the last event.
     pub at_end: bool,
+    /// The whole list once more, in calls of many events.
+    pub many: bool,
 }
 
 const CHAINS: usize = 4;
@@ -142,7 +145,12 @@ pub fn compare(
     let last = list.items.len().saturating_sub(1);
     chains::hold_all(entries, &caller.book, &watched.machine).map_err(found(last))?;
     let chains = if probing.at_end { probes::all(&watched.machine) } else { Vec::new() };
-    probe(&caller, &watched.machine, chains.into_iter()).map_err(found(last))
+    probe(&caller, &watched.machine, chains.into_iter()).map_err(found(last))?;
+    if probing.many {
+        let calls = many::holds(entries, list).map_err(found(last))?;
+        tally.into_iter().for_each(|tally| tally.calls.add(calls));
+    }
+    Ok(())
 }
 
 /// A book that keeps its rules, built field by field, whether any events lead there or not.
@@ -189,7 +197,10 @@ pub fn compare_built(
         }
     }
     let last = built.list.items.len().saturating_sub(1);
-    chains::hold_all(entries, &caller.book, &watched.machine).map_err(found(last))
+    chains::hold_all(entries, &caller.book, &watched.machine).map_err(found(last))?;
+    let calls = many::holds_on(entries, built.bytes.clone(), &built.list).map_err(found(last))?;
+    tally.into_iter().for_each(|tally| tally.calls.add(calls));
+    Ok(())
 }
 
 /// An event on a book that keeps its rules, whether events lead there or not.
@@ -303,8 +314,8 @@ fn damaged(caller: &Caller<'_>, record: &[u8], random: &mut Random) -> Result<()
 /// A mismatch told whole: the shortest list found, and both answers.
 pub fn explain(entries: &Entries, list: &List, mismatch: &Mismatch) -> String {
     let cut = List { setting: list.setting, items: list.items[..=mismatch.at].to_vec() };
-    let unprobed = Probing { every: usize::MAX, at_end: false };
-    let probed = Probing { every: usize::MAX, at_end: true };
+    let unprobed = Probing { every: usize::MAX, at_end: false, many: true };
+    let probed = Probing { every: usize::MAX, at_end: true, many: true };
     let fails = |list: &List, probing: Probing| compare(entries, list, probing, None).is_err();
     let Some(probing) = [unprobed, probed].into_iter().find(|&probing| fails(&cut, probing)) else {
         return format!("event {}: {}", mismatch.at + 1, mismatch.what);

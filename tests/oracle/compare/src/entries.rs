@@ -10,6 +10,7 @@ pub type NetPosition = unsafe extern "C" fn(*const u8, usize, *mut u64, usize, *
 pub type SetMark = unsafe extern "C" fn(*const u8, usize, *const u8, usize, *mut u8, usize) -> u32;
 pub type ReturnToMark = unsafe extern "C" fn(*mut u8, usize, *const u8, usize, *const u8, usize) -> u32;
 pub type ChainCall = unsafe extern "C" fn(*const u8, usize, u16, *const u8, usize, *mut u8, usize) -> Counted;
+pub type EventsCall = unsafe extern "C" fn(*mut u8, usize, *const u8, usize, *mut u8, usize) -> Ran;
 pub type NeedsCall = unsafe extern "C" fn(*const u8, usize, *const u8, usize) -> Needs;
 
 /// A refusal, or 0 and the number that was asked for.
@@ -26,6 +27,17 @@ pub struct Counted {
 pub struct Opened {
     pub refusal: u32,
     pub quantity: u64,
+}
+
+/// A refusal, or 0 and what many events in one call came to: how many were run, the bytes of the records that they took, and
+/// the bytes of the answers that they wrote.
+#[repr(C)]
+#[derive(Debug, Clone, Copy, PartialEq, Eq, Default)]
+pub struct Ran {
+    pub refusal: u32,
+    pub events: u64,
+    pub read: u64,
+    pub written: u64,
 }
 
 /// A refusal, or 0 and what an event will need: its answer's length, the message and request records that it adds, and
@@ -45,6 +57,7 @@ pub struct Needs {
 pub struct Entries {
     pub start: Start,
     pub event: Event,
+    pub events: EventsCall,
     pub check: Check,
     pub page: Page,
     pub open_quantity: OpenQuantity,
@@ -65,6 +78,20 @@ impl Entries {
         let (record, record_len) = (record.as_ptr(), record.len());
         unsafe {
             (self.event)(book.as_mut_ptr(), book.len(), record, record_len, answer.as_mut_ptr(), answer.len())
+        }
+    }
+
+    /// Many records that cannot be written, as the bench has them.
+    pub fn events_of(&self, book: &mut [u8], records: &[u8], answers: &mut [u8]) -> Ran {
+        let (at, length) = (answers.as_mut_ptr(), answers.len());
+        unsafe { (self.events)(book.as_mut_ptr(), book.len(), records.as_ptr(), records.len(), at, length) }
+    }
+
+    /// The records are lent as ones that may be written, so that a library that does is seen.
+    pub fn events(&self, book: &mut [u8], records: &mut [u8], answers: &mut [u8]) -> Ran {
+        let (at, length) = (answers.as_mut_ptr(), answers.len());
+        unsafe {
+            (self.events)(book.as_mut_ptr(), book.len(), records.as_mut_ptr(), records.len(), at, length)
         }
     }
 
@@ -115,7 +142,7 @@ impl Entries {
 
 #[cfg(library)]
 mod linked {
-    use super::{Counted, Needs, Opened};
+    use super::{Counted, Needs, Opened, Ran};
 
     unsafe extern "C" {
         pub fn start(book: *mut u8, book_len: usize, setting: u32) -> u32;
@@ -127,6 +154,14 @@ mod linked {
             answer: *mut u8,
             answer_len: usize,
         ) -> u32;
+        pub fn events(
+            book: *mut u8,
+            book_len: usize,
+            records: *const u8,
+            records_len: usize,
+            answers: *mut u8,
+            answers_len: usize,
+        ) -> Ran;
         pub fn check(book: *const u8, book_len: usize) -> u32;
         pub fn page(book: *const u8, book_len: usize, out: *mut u8, out_len: usize) -> Counted;
         pub fn open_quantity(book: *const u8, book_len: usize, client: u16) -> Opened;
@@ -173,6 +208,7 @@ pub fn library() -> Option<Entries> {
     Some(Entries {
         start: linked::start,
         event: linked::event,
+        events: linked::events,
         check: linked::check,
         page: linked::page,
         open_quantity: linked::open_quantity,

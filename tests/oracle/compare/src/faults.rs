@@ -19,6 +19,7 @@ use crate::layout::{self, Book, Header};
 use crate::marking::MarkFault;
 use crate::net::{self, Pair};
 use crate::page::LINE;
+use crate::running::ManyFault;
 use crate::stand_in::names;
 
 #[derive(Debug, Clone, Copy, PartialEq, Eq)]
@@ -225,6 +226,8 @@ pub enum Fault {
     RuleLeftOut(usize),
     /// A fault in setting a mark or returning to it.
     Mark(MarkFault),
+    /// A fault in many events in one call.
+    Many(ManyFault),
     /// A fault in what requests come to, or in their chains.
     Chain(ChainFault),
 }

@@ -5,15 +5,12 @@
 use model::machine::BOOK_BYTES;
 
 use crate::entries::Entries;
+use crate::guards::{guarded, lend, same};
 use crate::keeps::keeps;
 
 /// A place: a name filled with zeros, then the image of a book.
 pub const NAME: usize = 32;
 pub const PLACE: usize = NAME + BOOK_BYTES;
-
-/// Bytes before and behind what is lent.
-const GUARD: usize = 64;
-const GUARDED: u8 = 0x5C;
 
 #[derive(Debug, Clone, Copy, PartialEq, Eq, PartialOrd, Ord)]
 pub enum Call {
@@ -59,27 +56,6 @@ pub fn after(call: Call, book: &[u8], name: &[u8], places: &[u8], at: usize) -> 
         Call::Return => book.copy_from_slice(&place[NAME..]),
     }
     (book, places)
-}
-
-fn guarded(bytes: &[u8]) -> Vec<u8> {
-    [&[GUARDED; GUARD], bytes, &[GUARDED; GUARD]].concat()
-}
-
-fn lend(buffer: &mut [u8]) -> &mut [u8] {
-    let end = buffer.len() - GUARD;
-    &mut buffer[GUARD..end]
-}
-
-/// Compares what was lent, with its guards, with what it should be.
-fn same(what: &str, should: &[u8], lent: &[u8]) -> Result<(), String> {
-    let should = guarded(should);
-    match (0..lent.len()).find(|&at| lent[at] != should[at]) {
-        None => Ok(()),
-        Some(at) => {
-            let (byte, right, is) = (at as isize - GUARD as isize, should[at], lent[at]);
-            Err(format!("byte {byte} of {what} should be {right}, is {is}"))
-        }
-    }
 }
 
 /// Calls, and compares the refusal and every byte with what they must be; book and places are then what was left of them.

@@ -1,16 +1,19 @@
 //! Lists that mix events with marks set and returned to (change request 10), on buffers that a host may have filled with
 //! anything; and the comparison of a library with the model on them. Each call is compared with the plain decision, book and
 //! places byte for byte. After a return the model has the image's book, and demand 3 and the nets are counted from there, by
-//! the messages since alone. A mark that was set and not set again is returned to as the very book that was marked.
+//! the messages since alone. A mark that was set and not set again is returned to as the very book that was marked. The events
+//! between two other steps run once more in one call of `events`, and must leave the same book.
 
 use std::collections::BTreeMap;
 
 use lists::Item;
 use model::demand::Misread;
+use model::machine::ANSWER_BYTES;
 use model::watch::Watched;
 
 use crate::comparison::{Caller, Mismatch, event_since, started};
 use crate::entries::Entries;
+use crate::many::{self, Calls, MOST_SAID, Many};
 use crate::marks::{self, Call, PLACE};
 use crate::minimize::shorten;
 use crate::{show, views};
@@ -55,6 +58,8 @@ pub struct Counts {
     pub given: BTreeMap<(Call, u32), u64>,
     /// Returns to a mark that the list itself had set.
     pub to_marked: u64,
+    /// The events once more, as many in one call as come without another step between.
+    pub calls: Calls,
 }
 
 impl Counts {
@@ -72,6 +77,7 @@ impl Counts {
             "  of the events {} after a return; of the returns {} to a mark set before",
             self.since, self.to_marked
         );
+        println!("  the events in calls of many {}", self.calls);
     }
 }
 
@@ -82,6 +88,8 @@ struct Run<'a> {
     watched: Watched,
     buffers: Vec<Vec<u8>>,
     returned: bool,
+    /// The book before the events since the last other step, and their records.
+    between: (Vec<u8>, Vec<Vec<u8>>),
     /// The book that was marked, by buffer and name, as long as the host writes nothing there.
     set: BTreeMap<(usize, Vec<u8>), Vec<u8>>,
     misread: Option<Misread>,
@@ -98,22 +106,51 @@ pub fn compare(
     let caller = started(entries, list.setting).map_err(|what| Mismatch { at: 0, what })?;
     let watched = Watched::start(list.setting).misread(misread);
     let (buffers, set) = (list.buffers.clone(), BTreeMap::new());
-    let mut run = Run { entries, caller, watched, buffers, returned: false, set, misread };
+    let between = (caller.book.clone(), Vec::new());
+    let mut run = Run { entries, caller, watched, buffers, returned: false, between, set, misread };
     counts.lists += 1;
     for (at, step) in list.steps.iter().enumerate() {
         run.step(step, counts).map_err(|what| Mismatch { at, what })?;
     }
-    Ok(())
+    let at = list.steps.len().saturating_sub(1);
+    run.together(counts).map_err(|what| Mismatch { at, what })
 }
 
 impl Run<'_> {
     fn step(&mut self, step: &Step, counts: &mut Counts) -> Result<(), String> {
+        let Step::Event(item) = step else {
+            self.together(counts)?;
+            self.other(step, counts)?;
+            self.between.0.clone_from(&self.caller.book);
+            return Ok(());
+        };
+        counts.events += 1;
+        counts.since += u64::from(self.returned);
+        event_since(&mut self.caller, &mut self.watched, item)?.ok();
+        // Many in one call have no short buffer: what is refused with 2 changes nothing.
+        if item.answer_buffer >= ANSWER_BYTES {
+            self.between.1.push(item.record.clone());
+        }
+        Ok(())
+    }
+
+    /// The events since the last other step in one call.
+    fn together(&mut self, counts: &mut Counts) -> Result<(), String> {
+        let (book, records) = &mut self.between;
+        let joined = many::joined(records.iter().map(|record| &record[..]));
+        let mut many = Many::new(self.entries, records.len() as u64);
+        let ran = many.call(book, &joined, (records.len() + 1) * MOST_SAID)?;
+        counts.calls.add(many.calls);
+        if ran.events != records.len() as u64 || *book != self.caller.book {
+            return Err(format!("{} events in one call: another book is left", ran.events));
+        }
+        records.clear();
+        Ok(())
+    }
+
+    fn other(&mut self, step: &Step, counts: &mut Counts) -> Result<(), String> {
         match step {
-            Step::Event(item) => {
-                counts.events += 1;
-                counts.since += u64::from(self.returned);
-                event_since(&mut self.caller, &mut self.watched, item).map(drop)
-            }
+            Step::Event(_) => Ok(()),
             Step::Mark(call, name, buffer) => self.mark(*call, name, *buffer, counts),
             Step::OnOther(call, name, buffer, odd) => {
                 let (mut book, mut places) = (self.caller.book.clone(), self.buffers[*buffer].clone());

@@ -13,7 +13,7 @@ use model::record::Record;
 
 use crate::chaining;
 use crate::chains::Requests;
-use crate::entries::{Counted, Entries, Needs, Opened};
+use crate::entries::{Counted, Entries, Needs, Opened, Ran};
 use crate::faults::{self, Fault};
 use crate::keeps::broken_but;
 use crate::layout::Book;
@@ -22,10 +22,12 @@ use crate::mirror;
 use crate::needs;
 use crate::net::{self, LINES, SCRATCH};
 use crate::page;
+use crate::running::Running;
 
 pub const STAND_IN: Entries = Entries {
     start,
     event,
+    events,
     check,
     page: print,
     open_quantity,
@@ -300,6 +302,24 @@ unsafe extern "C" fn event(
     let (book, record, answer) =
         unsafe { (lent(book, book_len), lent(record.cast_mut(), record_len), lent(answer, answer_len)) };
     handle(book, record, answer)
+}
+
+unsafe extern "C" fn events(
+    book: *mut u8,
+    book_len: usize,
+    records: *const u8,
+    records_len: usize,
+    answers: *mut u8,
+    answers_len: usize,
+) -> Ran {
+    // SAFETY: what the caller lends, three times; the records are only read, but for a fault.
+    let (book, records, answers) =
+        unsafe { (lent(book, book_len), lent(records.cast_mut(), records_len), lent(answers, answers_len)) };
+    let fault = match FAULT.get() {
+        Some(Fault::Many(fault)) => Some(fault),
+        _ => None,
+    };
+    Running { fault, keeps: &keeps, event: &handle }.call(book, records, answers)
 }
 
 fn handle(book: &mut [u8], record: &[u8], answer: &mut [u8]) -> u32 {

@@ -10,6 +10,8 @@ use model::filled::Met;
 use model::outcomes::Outcomes;
 use model::record::{ORD_STATUS, PRICE_SOURCE, Record};
 
+use crate::many::Calls;
+
 #[derive(Debug, Clone, Default)]
 pub struct Tally {
     pub lists: u64,
@@ -34,6 +36,8 @@ pub struct Tally {
     pub days: (u64, u64),
     /// Requests by the kind of the event that settled them and what they came to.
     pub settled: BTreeMap<(u8, u8), u64>,
+    /// The same events once more, many in one call.
+    pub calls: Calls,
     /// The requests that stood before the event that is about to come, and what they had come to.
     requests: usize,
     outcomes: Outcomes,
@@ -92,6 +96,7 @@ impl Tally {
         println!("  the events that bring a 3, and the messages that tell one {:?}", self.days);
         println!("  the events that add a request by kind {:?}", self.added);
         println!("  the requests settled by the event's kind and what they came to {:?}", self.settled);
+        println!("  the events in calls of many {}", self.calls);
         println!("  the fewest and most fields of messages by kind {:?}", self.fields);
     }
 }

@@ -1,4 +1,4 @@
--- `book_order` is `book_order`, by `book_at_lem`. Assumes nothing.
+-- `book_order` meets its contract by `book_at_lem`. Assumes nothing.
 use Rattle.std.proofs.Common.{◌∙◌}
 use Rattle.amend.specs.Laws.Booking.{book_at_lem}
 use Rattle.step.specs.Laws.Found.{orders_read, requests_read}

@@ -1,4 +1,4 @@
--- `on_name` is `on_name`, where the order is found. Assumes nothing.
+-- `on_name` meets its contract if the order is found. Assumes nothing.
 use Rattle.std.proofs.Common.{sym, ◌∙◌}
 use Rattle.machine.specs.Machine.{on_name}
 use Rattle.step.specs.Laws.Steps.{named}

@@ -1,4 +1,4 @@
--- `on_request` is `on_request` with what the kind does, where the request is found. Assumes nothing.
+-- `on_request` meets its contract, with what the kind does, if the request is found. Assumes nothing.
 use Rattle.std.proofs.Common.{arith, sym, ◌∙◌}
 use Rattle.machine.specs.Machine.{on_request}
 use Rattle.step.specs.Laws.Steps.{asked}

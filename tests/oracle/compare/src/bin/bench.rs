@@ -8,6 +8,7 @@ use std::hint::black_box;
 
 use compare::chains::ENTRY;
 use compare::entries::{Entries, library};
+use compare::many::{self, MOST_SAID};
 use compare::marks::PLACE;
 use compare::net::{LINES, SCRATCH};
 use gateway::CompactString;
@@ -25,6 +26,9 @@ use model::record::*;
 const LISTS: u64 = 20;
 const EVENTS: usize = 400;
 const SEED: u64 = 900_000;
+
+/// Events in one call of `events`.
+const TOGETHER: [usize; 7] = [1, 2, 5, 10, 50, 100, EVENTS];
 
 /// Calls in a round of one event on one book.
 const CALLS: usize = 200;
@@ -86,6 +90,22 @@ impl Bench {
         println!("  the library                    {ported:8.0} ns an event");
         let (of_checked, of_handling) = (ported / checked, ported / handling);
         println!("  library / Rust with check() {of_checked:.2}, library / Rust {of_handling:.2}");
+        let timed = |together: usize| {
+            let calls: Vec<Vec<Vec<u8>>> = lists.iter().map(|list| cut(&list.items, together)).collect();
+            let mut answers = room(together);
+            self.best(
+                events,
+                || (),
+                |()| {
+                    for (list, calls) in lists.iter().zip(&calls) {
+                        let mut book = vec![0; BOOK_BYTES];
+                        entries.start(&mut book, list.setting);
+                        run_together(entries, &mut book, calls, &mut answers);
+                    }
+                },
+            )
+        };
+        by_length("the realistic lists", (handling, checked), timed);
     }
 
     /// Two events that change little, and the rules alone, on the book that the list leaves.
@@ -112,6 +132,13 @@ impl Bench {
                 what,
                 &[("Rust", Some(handling)), ("Rust with check()", Some(checked)), ("library", ported)],
             );
+            if let Some(entries) = &self.entries {
+                let many: Vec<Item> = vec![items[0].clone(); EVENTS];
+                by_length(what, (handling, checked), |together| {
+                    let (calls, mut answers) = (cut(&many, together), room(together));
+                    self.best(EVENTS, || (), |()| run_together(entries, &mut book, &calls, &mut answers))
+                });
+            }
             let needs = self.ported(|entries| {
                 for item in &items {
                     let needs = entries.needs(black_box(&mut book), &item.record);
@@ -304,6 +331,36 @@ fn run_on(entries: &Entries, book: &mut [u8], items: &[Item]) {
         assert_eq!(entries.event(book, &item.record, &mut answer), 0, "a taken event");
         black_box(&answer);
     }
+}
+
+/// The records of so many events for each call of `events`.
+fn cut(items: &[Item], together: usize) -> Vec<Vec<u8>> {
+    items.chunks(together).map(|items| many::joined(items.iter().map(|item| &item.record[..]))).collect()
+}
+
+/// Room for the answers of so many events, whatever they say.
+fn room(together: usize) -> Vec<u8> {
+    vec![0; together * MOST_SAID]
+}
+
+fn run_together(entries: &Entries, book: &mut [u8], calls: &[Vec<u8>], answers: &mut [u8]) {
+    for records in calls {
+        let ran = entries.events_of(book, records, answers);
+        assert_eq!((ran.refusal, ran.read), (0, records.len() as u64), "events that are run");
+        black_box(&answers);
+    }
+}
+
+/// What an event takes by how many are handed over in one call, and the longest of them as a multiple of the Rust's.
+fn by_length(what: &str, rust: (f64, f64), mut timed: impl FnMut(usize) -> f64) {
+    let times = TOGETHER.map(|together| (together, timed(together)));
+    let shown = times.map(|(together, time)| format!("{together}: {time:.0}")).join(", ");
+    let last = times[times.len() - 1].1;
+    println!(
+        "    {what}, by how many in one call: {shown}; the last {:.2} of Rust, {:.2} of Rust with check()",
+        last / rust.0,
+        last / rust.1
+    );
 }
 
 /// A ClOrdID as a client counts them.

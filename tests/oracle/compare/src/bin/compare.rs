@@ -10,15 +10,19 @@ use compare::chaining::ChainFault;
 use compare::comparison::{Built, Mismatch, Probing, compare, compare_built, explain, explain_built};
 use compare::entries::{Entries, library};
 use compare::faults::Fault;
+use compare::many;
+use compare::running::ManyFault;
 use compare::stand_in::{STAND_IN, plant};
 use compare::tally::Tally;
 use lists::{DAYS, List, PROFILES, chains, days, exhaustive, list, positions};
 
-const PROBING: Probing = Probing { every: 25, at_end: false };
+const PROBING: Probing = Probing { every: 25, at_end: false, many: true };
+/// For faults that are not in calls of many events.
+const SINGLE: Probing = Probing { many: false, ..PROBING };
 /// Events on a book that was built.
 const BUILT_EVENTS: usize = 60;
 
-const WHOLE_PROBING: Probing = Probing { every: 25, at_end: true };
+const WHOLE_PROBING: Probing = Probing { every: 25, at_end: true, many: true };
 
 fn main() -> ExitCode {
     let args: Vec<String> = std::env::args().skip(1).collect();
@@ -118,9 +122,22 @@ fn compare_seed(
     compare(entries, &list, probing, Some(tally)).map_err(|mismatch| (list, mismatch))
 }
 
+/// Where the stand-in with the fault differs. One in calls of many events leaves event by event as it is.
+fn differs(fault: Fault, list: &List) -> Option<Mismatch> {
+    let of_calls = |what: String| Mismatch { at: list.items.len() - 1, what };
+    match fault {
+        Fault::Many(_) => many::holds(&STAND_IN, list).err().map(of_calls),
+        _ => compare(&STAND_IN, list, SINGLE, None).err(),
+    }
+}
+
 fn find_faults(lists: u64) -> ExitCode {
     let mut missed = 0;
-    let faults: Vec<Fault> = Fault::COMPARED.into_iter().chain(ChainFault::ALL.map(Fault::Chain)).collect();
+    let faults: Vec<Fault> = Fault::COMPARED
+        .into_iter()
+        .chain(ChainFault::ALL.map(Fault::Chain))
+        .chain(ManyFault::ALL.map(Fault::Many))
+        .collect();
     for &fault in &faults {
         plant(Some(fault));
         // A profile each, then the lists about positions, chains, quotients and a refusal, then more.
@@ -140,9 +157,7 @@ fn find_faults(lists: u64) -> ExitCode {
             (format!("a day with 3, seed {seed}"), list(&DAYS[seed as usize % DAYS.len()], seed, 400))
         });
         let mut tried = drawn(1..=10).chain(fixed).chain(days).chain(drawn(11..=lists));
-        let found = tried.find_map(|(origin, list)| {
-            compare(&STAND_IN, &list, PROBING, None).err().map(|mismatch| (origin, mismatch))
-        });
+        let found = tried.find_map(|(origin, list)| differs(fault, &list).map(|mismatch| (origin, mismatch)));
         match found {
             Some((origin, mismatch)) => {
                 let what: Vec<&str> = mismatch.what.lines().take(2).map(str::trim).collect();

@@ -7,10 +7,11 @@
 use std::collections::BTreeMap;
 use std::process::ExitCode;
 
-use compare::entries::{Counted, Entries, library};
+use compare::entries::{Counted, Entries, Ran, library};
 use compare::expected::{self, Lent};
 use compare::faults::Fault;
 use compare::layout::{Book, Header};
+use compare::many::{self, MOST_SAID, Many};
 use compare::stand_in::{STAND_IN, plant};
 use compare::{books, chains, needs, show, views};
 use lists::damage::damage;
@@ -32,6 +33,10 @@ const DRAWN: usize = 100;
 /// Every so many calls of `event` one of `needs` goes before.
 const NEEDS: u64 = 4;
 
+/// After every so many calls of `event` there is one of `events`, with up to so many records.
+const MANY: u64 = 40;
+const RECORDS: u64 = 8;
+
 /// Lengths this near to 0 and to a book's own are tried one by one.
 const NEAR: usize = 300;
 
@@ -40,6 +45,7 @@ struct User<'a> {
     entries: &'a Entries,
     random: Random,
     full: Vec<u8>,
+    many: Many<'a>,
     calls: u64,
     given: BTreeMap<u32, u64>,
 }
@@ -82,13 +88,15 @@ fn main() -> ExitCode {
         return ExitCode::FAILURE;
     }
     let compared = if linked.is_some() { "the library" } else { "the stand-in" };
+    println!("  the events in calls of many {}", user.many.calls);
     println!("garbage: {compared}, {} calls, given {:?}, no difference", user.calls, user.given);
     ExitCode::SUCCESS
 }
 
 impl<'a> User<'a> {
     fn new(entries: &'a Entries, seed: u64) -> Self {
-        Self { entries, random: Random::new(seed), full: books::full(), calls: 0, given: BTreeMap::new() }
+        let (random, many) = (Random::new(seed), Many::new(entries, seed));
+        Self { entries, random, full: books::full(), many, calls: 0, given: BTreeMap::new() }
     }
 
     fn run(&mut self, calls: u64) -> Result<(), String> {
@@ -113,6 +121,7 @@ impl<'a> User<'a> {
                 (entries.start)(null, 0, 1),
                 (entries.check)(null, 0),
                 (entries.event)(null, 0, null, 0, null, 0),
+                (entries.events)(null, 0, null, 0, null, 0).refusal,
                 (entries.page)(null, 0, null, 0).refusal,
                 (entries.open_quantity)(null, 0, 1).refusal,
                 (entries.net_position)(null, 0, std::ptr::null_mut(), 0, null, 0).refusal,
@@ -125,19 +134,28 @@ impl<'a> User<'a> {
         let mut book = self.full.clone();
         // SAFETY: a whole book is lent, and nothing else.
         let on_book = unsafe { (entries.event)(book.as_mut_ptr(), book.len(), null, 0, null, 0) };
-        let mut answer = vec![0; ANSWER_BYTES];
+        let mut answer = vec![0; MOST_SAID];
         let (start, length) = (answer.as_mut_ptr(), answer.len());
         // SAFETY: a whole book and an answer buffer are lent.
         let no_record = unsafe { (entries.event)(book.as_mut_ptr(), book.len(), null, 0, start, length) };
+        // SAFETY: a whole book is lent, and nothing else, then an answer buffer too.
+        let no_records = unsafe {
+            [(null, 0), (start, length)]
+                .map(|(at, size)| (entries.events)(book.as_mut_ptr(), book.len(), null, 0, at, size))
+        };
+        let ran = [2, 0].map(|refusal| Ran { refusal, ..Ran::default() });
+        if no_records != ran || answer.iter().any(|&byte| byte != 0) {
+            return Err(format!("no records give {no_records:?}"));
+        }
         // SAFETY: a whole book is lent, and nothing else.
         let no_needs = unsafe { (entries.needs)(book.as_ptr(), book.len(), null, 0).refusal };
-        self.calls += 14;
+        self.calls += 17;
         // SAFETY: a whole book is lent, and nothing else.
         let netted = unsafe {
             (entries.net_position)(book.as_ptr(), book.len(), std::ptr::null_mut(), 0, null, 0).refusal
         };
         match (given, on_book, no_record, no_needs, netted) {
-            ([1, 1, 1, 1, 1, 1, 1, 1, 1, 1], 2, 3, 3, 11) => self.no_places(&mut book),
+            ([1, 1, 1, 1, 1, 1, 1, 1, 1, 1, 1], 2, 3, 3, 11) => self.no_places(&mut book),
             given => Err(format!("on slices of no length: {given:?}")),
         }
     }
@@ -267,6 +285,9 @@ impl<'a> User<'a> {
                 let size = lent.bytes.len();
                 format!("book of {size} bytes, keeping its rules with {orders:?} orders, answer buffer of {buffer}, record {record}\n{what}")
             })?;
+            if self.random.below(MANY) == 0 {
+                self.many(&lent, records)?;
+            }
         }
         Ok(())
     }
@@ -322,6 +343,29 @@ impl<'a> User<'a> {
             book.lend().copy_from_slice(&lent.bytes);
             return if check == 0 { Ok(()) } else { Err(format!("check gives {check} after the event")) };
         }
+        Ok(())
+    }
+
+    /// A call of many records, cut or with a byte wrong or not, in any room.
+    fn many(&mut self, lent: &Lent, records: &[Vec<u8>]) -> Result<(), String> {
+        let drawn: Vec<Vec<u8>> = (0..self.random.below(RECORDS + 1)).map(|_| self.record(records)).collect();
+        let short = drawn.iter().map(|record| &record[..record.len().min(usize::from(u16::MAX))]);
+        let mut joined = many::joined(short);
+        if self.random.chance(30) {
+            joined.truncate(self.random.below(joined.len() as u64 + 1) as usize);
+        }
+        if self.random.chance(20) && !joined.is_empty() {
+            let at = self.random.below(joined.len() as u64) as usize;
+            joined[at] = self.random.next() as u8;
+        }
+        let room = match self.random.below(4) {
+            0 => self.answer_length(),
+            1 => ANSWER_BYTES + self.random.below(4) as usize,
+            _ => self.random.range(MOST_SAID as u64, RECORDS * MOST_SAID as u64) as usize,
+        };
+        self.calls += 1;
+        let ran = self.many.call(&mut lent.bytes.clone(), &joined, room)?;
+        *self.given.entry(ran.refusal).or_default() += 1;
         Ok(())
     }
 

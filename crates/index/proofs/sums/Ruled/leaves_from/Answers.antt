@@ -1,4 +1,4 @@
--- `Ruled::leaves_from` meets its contract: nothing before the first order, and all behind the last. Rests on Left.
+-- `Ruled::leaves_from` meets its contract: before the first order the sum is 0, behind the last it is whole. Rests on Left.
 use Rattle.std.proofs.Common.{◌≡◌, sym, ◌∙◌, arith}
 use Rattle.store.specs.Book.{order_count}
 use Rattle.index.specs.Laws.Sums.{client_at}

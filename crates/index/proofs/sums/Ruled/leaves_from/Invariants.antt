@@ -1,4 +1,4 @@
--- `Ruled::leaves_from` meets its contract: what the first k orders of the client have left. Rests on Left.
+-- `Ruled::leaves_from` meets its contract: the sum is what the first k orders of the client have left. Rests on Left.
 use Rattle.std.proofs.Common.{◌≡◌, ◌≤◌}
 use Rattle.store.specs.Book.{order_count}
 use Rattle.index.specs.Laws.Left.{left_to}

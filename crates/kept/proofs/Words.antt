@@ -15,6 +15,7 @@ use Rattle.store.specs.Requests.{WholeRequest}
 use Rattle.store.specs.Book.{Book, book_of, order_in, order_count, open_at, store_open}
 use Rattle.store.specs.Finds.{is_clients, find_client}
 use Rattle.store.specs.Laws.Opens.{open_here, open_other, store_order_open, add_order_open, add_request_open, mark_open}
+use Rattle.store.specs.Laws.Beside.{store_origin_open}
 use Rattle.machine.specs.declared.Requests.{Requests}
 use Rattle.machine.specs.declared.Change.{Change}
 use Rattle.machine.specs.Orders.{leaves_qty}
@@ -24,15 +25,15 @@ use Rattle.machine.specs.Whole.{WholeBook}
 use Rattle.machine.specs.Exchange.{open_of}
 use Rattle.machine.proofs.Kept.Indexed.{book_kept}
 use Rattle.machine.proofs.Claim.Filled.{after_orders, orders_same}
-use Rattle.index.specs.Index.{stored_open, open_right, opens_right}
+use Rattle.index.specs.Index.{origin_of, stored_open, open_right, opens_right}
 use Rattle.rules.specs.Keeps.{keeps_of}
 use Rattle.index.specs.Laws.Sums.{open_fits}
 use Rattle.rules.specs.Laws.Keeps.{keeps_held, keeps_stored}
 use Rattle.index.specs.Laws.Moved.{SameClients, sum_others, first_stays, first_new, first_others}
-use Rattle.step.specs.Entries.{place_order, mark_link, place_requests, place_open, tables_with, book_with}
-use Rattle.claims.proofs.Written.{order_written, request_written, Writes}
+use Rattle.step.specs.Entries.{place_order, mark_link, place_requests, tables_with, place_origin, place_open, place_index, book_with}
+use Rattle.kept.proofs.Written.{order_written, request_written, origin_keeps, Writes}
 
--- ---- the tables' writes leave the words
+-- ---- the other writes leave the words
 
 abbrev SameWord : List ℕ → ℕ → List ℕ → Type 0
 SameWord b j d = open_at d j ≡ open_at b j
@@ -48,13 +49,17 @@ module _ (j : ℕ) (k : j < most_orders) where
   unfolding mark_link
   link_word b link v = split_if (SameWord b j) (eqb link 0) (λ e. refl) (λ e. mark_open b j k (link - 1) v)
 
-  requests_word : (b : List ℕ) (origin : ℕ) (r : Requests) → (eqb r.added 0 ≡ false → WholeRequest r.request) → SameWord b j (place_requests b origin r)
+  requests_word : (b : List ℕ) (r : Requests) → (eqb r.added 0 ≡ false → WholeRequest r.request) → SameWord b j (place_requests b r)
   unfolding place_requests
-  requests_word b origin r w =
+  requests_word b r w =
       let v : ℕ = r.outcome in
       let once : List ℕ = mark_link b r.answered v in
       let marked : SameWord b j (mark_link once r.superseded v) = link_word once r.superseded v ∙ link_word b r.answered v in
-      split_if (SameWord b j) (eqb r.added 0) (λ e. marked) (λ e. add_request_open (mark_link once r.superseded v) j k origin r.request (w e) ∙ marked)
+      split_if (SameWord b j) (eqb r.added 0) (λ e. marked) (λ e. add_request_open (mark_link once r.superseded v) j k r.request (w e) ∙ marked)
+
+  origin_word : (b : List ℕ) (added m origin : ℕ) → SameWord b j (place_origin b added m origin)
+  unfolding place_origin
+  origin_word b added m origin = split_if (SameWord b j) (eqb added 0) (λ e. refl) (λ e. store_origin_open b m origin j k)
 
 -- what is stored by the same words
 stored_same : (b f : List ℕ) (x : Option ℕ) → ((j : ℕ) → x ≡ Some j → open_at f j ≡ open_at b j) → maybe 0 (open_at f) x ≡ maybe 0 (open_at b) x
@@ -67,8 +72,9 @@ module _ (b : List ℕ) (c : Change) (keeps : keeps_of b ≡ true) (w : Writes b
   abbrev left : Book
   left = after (book_of b) c
 
+  -- the tables and the origin are written
   abbrev d : List ℕ
-  d = tables_with b c
+  d = place_origin (tables_with b c) c.requests.added (length (book_of b).requests) (origin_of (book_of b) c.order.client c.requests.request.origclordid)
 
   abbrev f : List ℕ
   f = book_with b c
@@ -92,7 +98,8 @@ module _ (b : List ℕ) (c : Change) (keeps : keeps_of b ≡ true) (w : Writes b
   table_word : (j : ℕ) → j < most_orders → open_at d j ≡ open_at b j
   unfolding tables_with
   table_word j k =
-      requests_word j k (place_order b c.place c.order) _ c.requests (request_written (book_of b) c whole)
+      origin_word j k (tables_with b c) c.requests.added _ _
+      ∙ requests_word j k (place_order b c.place c.order) c.requests (request_written (book_of b) c whole)
       ∙ place_word j k b c.place c.order (order_written (book_of b) c whole)
 
   -- a client's word stays right if its first order, its sum and the word are as they were
@@ -105,7 +112,7 @@ module _ (b : List ℕ) (c : Change) (keeps : keeps_of b ≡ true) (w : Writes b
   -- ---- no order is placed
 
   still : c.place ≡ 0 → (k : ℕ) → maybe 0 (open_at f) (find_client left k) ≡ open_of left k
-  unfolding book_with place_open find_client
+  unfolding book_with place_index place_open find_client
   still z k =
       let os : left.orders ≡ (book_of b).orders = after_orders (book_of b) c ∙ orders_same (book_of b).orders c z in
       let is : f ≡ d = if_true _ _ _ (eq-eqb c.place 0 z) in
@@ -128,14 +135,14 @@ module _ (b : List ℕ) (c : Change) (keeps : keeps_of b ≡ true) (w : Writes b
         go (Some i) e = record { at = i; found = first_stays (book_of b) c there clients client i e }
 
     written : f ≡ store_open d own.at (open_of left client)
-    unfolding book_with place_open
+    unfolding book_with place_index place_open
     written = if_false _ _ _ z ∙ maybe_some (find_client left client) own.at d (λ i. store_open d i (open_of left client)) own.found
 
     its_own : maybe 0 (open_at f) (find_client left client) ≡ open_of left client
     its_own =
         maybe_some (find_client left client) own.at 0 (open_at f) own.found
         ∙ ap (λ (y : List ℕ). open_at y own.at) written
-        ∙ open_here d own.at (open_of left client) (w.tables.same ∙ (keeps_held b keeps).long) (found_few client own.at own.found) (open_fits left kept client)
+        ∙ open_here d own.at (open_of left client) ((origin_keeps (tables_with b c) c.requests.added _ _).same ∙ w.tables.same ∙ (keeps_held b keeps).long) (found_few client own.at own.found) (open_fits left kept client)
 
     others : (k : ℕ) → (client ≡ k → ⊥) → maybe 0 (open_at f) (find_client left k) ≡ open_of left k
     others k n =

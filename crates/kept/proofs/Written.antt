@@ -20,12 +20,13 @@ use Rattle.machine.specs.Rules.{gateway_range}
 use Rattle.machine.specs.Whole.{WholeBook}
 use Rattle.machine.proofs.Kept.Indexed.{BookKept, book_kept}
 use Rattle.machine.proofs.Kept.Tables.{length_answer}
-use Rattle.step.specs.Entries.{place_order, mark_link, place_requests, place_open, tables_with, book_with}
+use Rattle.step.specs.Entries.{place_order, mark_link, place_requests, tables_with, place_origin, place_open, place_index, book_with}
 use Rattle.store.specs.Laws.Cells.{fits_32}
 use Rattle.store.specs.Laws.Stored.{length_orders, length_requests, order_in_lem, request_in_lem, order_whole, request_whole, store_order_book}
 use Rattle.store.specs.Laws.Adds.{add_order_book, add_request_book, mark_book}
 use Rattle.store.specs.Laws.Kept.{Keeps, store_order_keeps, add_order_keeps, add_request_keeps, mark_keeps, store_open_keeps}
 use Rattle.store.specs.Laws.Opens.{store_open_book}
+use Rattle.store.specs.Laws.Beside.{store_origin_book, store_origin_keeps}
 use Rattle.rules.specs.Laws.Ruled.{Held}
 
 -- ---- a book in bytes that keeps its rules can be written again
@@ -114,18 +115,18 @@ marked_keeps b r small =
     let once : List ℕ = mark_link b r.answered r.outcome in
     keeps_more b once (marked b r) (mark_link_keeps r.outcome small b r.answered) (mark_link_keeps r.outcome small once r.superseded)
 
-requests_keeps : (b : List ℕ) (origin : ℕ) (r : Requests) → r.outcome ≤ 3 → (eqb r.added 0 ≡ false → WholeRequest r.request) → Keeps b (place_requests b origin r)
+requests_keeps : (b : List ℕ) (r : Requests) → r.outcome ≤ 3 → (eqb r.added 0 ≡ false → WholeRequest r.request) → Keeps b (place_requests b r)
 unfolding place_requests
-requests_keeps b origin r small w =
+requests_keeps b r small w =
     split_if (Keeps b) (eqb r.added 0) (λ e. marked_keeps b r small)
-    (λ e. keeps_more b (marked b r) (add_request (marked b r) origin r.request) (marked_keeps b r small) (add_request_keeps (marked b r) origin r.request (w e)))
+    (λ e. keeps_more b (marked b r) (add_request (marked b r) r.request) (marked_keeps b r small) (add_request_keeps (marked b r) r.request (w e)))
 
 pub tables_keeps : (b : List ℕ) (c : Change) → c.requests.outcome ≤ 3 → (eqb c.place 0 ≡ false → WholeOrder c.order)
     → (eqb c.requests.added 0 ≡ false → WholeRequest c.requests.request) → Keeps b (tables_with b c)
 unfolding tables_with
 tables_keeps b c small o q =
     let d : List ℕ = place_order b c.place c.order in
-    keeps_more b d _ (place_keeps b c.place c.order o) (requests_keeps d _ c.requests small q)
+    keeps_more b d _ (place_keeps b c.place c.order o) (requests_keeps d c.requests small q)
 
 -- ---- each write is the book's
 
@@ -169,12 +170,12 @@ marked_count b r =
     ∙ length_answer r.superseded r.outcome (answer_link r.answered r.outcome (book_of b).requests)
     ∙ length_answer r.answered r.outcome (book_of b).requests
 
-requests_book : (b : List ℕ) (origin : ℕ) (c : Change) → c.requests.outcome ≤ 3 → length b ≡ book_size → eqb c.requests.added 0 || ltb (length (book_of b).requests) 256 ≡ true
-    → (eqb c.requests.added 0 ≡ false → WholeRequest c.requests.request) → book_of (place_requests b origin c.requests) ≡ with_requests (requests_after (book_of b).requests c) (book_of b)
+requests_book : (b : List ℕ) (c : Change) → c.requests.outcome ≤ 3 → length b ≡ book_size → eqb c.requests.added 0 || ltb (length (book_of b).requests) 256 ≡ true
+    → (eqb c.requests.added 0 ≡ false → WholeRequest c.requests.request) → book_of (place_requests b c.requests) ≡ with_requests (requests_after (book_of b).requests c) (book_of b)
 unfolding place_requests requests_after if◌then◌otherwise◌
-requests_book b origin c small l room w = go (eqb c.requests.added 0) refl
+requests_book b c small l room w = go (eqb c.requests.added 0) refl
   where
-    go : (t : Bool) → eqb c.requests.added 0 ≡ t → book_of (place_requests b origin c.requests) ≡ with_requests (requests_after (book_of b).requests c) (book_of b)
+    go : (t : Bool) → eqb c.requests.added 0 ≡ t → book_of (place_requests b c.requests) ≡ with_requests (requests_after (book_of b).requests c) (book_of b)
     go true e = rw e (marked_book b c.requests)
     go false e =
         let d : List ℕ = marked b c.requests in
@@ -182,12 +183,19 @@ requests_book b origin c small l room w = go (eqb c.requests.added 0) refl
         let h : request_count d < 256 =
         ⊎_elim (λ z. clash (eqb c.requests.added 0) z e) (λ z. omega (arith, ltb-true (length (book_of b).requests) 256 z, marked_count b c.requests)) (or_cases _ _ room) in
         rw e
-        (add_request_book d origin q ((marked_keeps b c.requests small).same ∙ l) h (w e)
+        (add_request_book d q ((marked_keeps b c.requests small).same ∙ l) h (w e)
         ∙ ap (λ (x : Book). with_requests (x.requests ++ (q ∷ [])) x) (marked_book b c.requests))
 
--- ---- the word of an open quantity
+-- ---- what is stored only to be found quickly: the book does not see it
 
--- the book does not see it
+origin_book : (b : List ℕ) (added k origin : ℕ) → book_of (place_origin b added k origin) ≡ book_of b
+unfolding place_origin
+origin_book b added k origin = split_if (λ d. book_of d ≡ book_of b) (eqb added 0) (λ e. refl) (λ e. store_origin_book b k origin)
+
+pub origin_keeps : (b : List ℕ) (added k origin : ℕ) → Keeps b (place_origin b added k origin)
+unfolding place_origin
+origin_keeps b added k origin = split_if (Keeps b) (eqb added 0) (λ e. keeps_self b) (λ e. store_origin_keeps b k origin)
+
 open_book : (b : List ℕ) (left : Book) (place client : ℕ) → book_of (place_open b left place client) ≡ book_of b
 unfolding place_open
 open_book b left place client =
@@ -198,6 +206,14 @@ open_keeps : (b : List ℕ) (left : Book) (place client : ℕ) → Keeps b (plac
 unfolding place_open
 open_keeps b left place client =
     split_if (Keeps b) (eqb place 0) (λ e. keeps_self b) (λ e. split_maybe (Keeps b) (find_client left client) (λ z. keeps_self b) (λ i z. store_open_keeps b i _))
+
+index_book : (b : List ℕ) (x : Book) (c : Change) → book_of (place_index b x c) ≡ book_of b
+unfolding place_index
+index_book b x c = open_book (place_origin b c.requests.added _ _) (after x c) c.place c.order.client ∙ origin_book b c.requests.added _ _
+
+index_keeps : (b : List ℕ) (x : Book) (c : Change) → Keeps b (place_index b x c)
+unfolding place_index
+index_keeps b x c = keeps_more b (place_origin b c.requests.added _ _) _ (origin_keeps b c.requests.added _ _) (open_keeps _ (after x c) c.place c.order.client)
 
 -- ---- the whole change
 
@@ -218,7 +234,7 @@ tables_writes b c small l room w =
     let n : length (book_of d).requests ≡ length (book_of b).requests = ap (λ (x : Book). length x.requests) put in
     record {
       is =
-          requests_book d _ c small (k.same ∙ l) (ap (λ (m : ℕ). eqb c.requests.added 0 || ltb m 256) n ∙ requests) q
+          requests_book d c small (k.same ∙ l) (ap (λ (m : ℕ). eqb c.requests.added 0 || ltb m 256) n ∙ requests) q
           ∙ ap (λ (x : Book). with_requests (requests_after x.requests c) x) put;
       keeps = tables_keeps b c small o q;
     }
@@ -234,9 +250,8 @@ unfolding book_with
 change_writes b c small l room w =
     let t : Tables b c = tables_writes b c small l room w in
     let d : List ℕ = tables_with b c in
-    let f : List ℕ = place_open d (after (book_of b) c) c.place c.order.client in
     record {
-      is = open_book d (after (book_of b) c) c.place c.order.client ∙ t.is;
-      keeps = keeps_more b d f t.keeps (open_keeps d (after (book_of b) c) c.place c.order.client);
+      is = index_book d (book_of b) c ∙ t.is;
+      keeps = keeps_more b d (place_index d (book_of b) c) t.keeps (index_keeps d (book_of b) c);
       tables = t.keeps;
     }

@@ -13,10 +13,10 @@ use Rattle.store.specs.declared.Order.{Order}
 use Rattle.store.specs.declared.Request.{Request}
 use Rattle.store.specs.Layout.{book_size, header·requests, most_requests}
 use Rattle.store.specs.Orders.{WholeOrder}
-use Rattle.store.specs.Book.{Book, book_of, order_in, request_in, request_count, origin_at, add_request}
+use Rattle.store.specs.Book.{Book, book_of, order_in, request_in, request_count, origin_at, store_origin, add_request}
 use Rattle.store.specs.Finds.{find_client, find_clordid}
 use Rattle.store.specs.Laws.Stored.{count_most, length_requests}
-use Rattle.store.specs.Laws.Beside.{store_order_origin, add_order_origin, store_open_origin, add_request_origin_other, add_request_origin, mark_origin}
+use Rattle.store.specs.Laws.Beside.{store_order_origin, add_order_origin, store_open_origin, add_request_origin, mark_origin, origin_here, origin_other}
 use Rattle.machine.specs.declared.Change.{Change}
 use Rattle.machine.specs.Orders.{is_empty}
 use Rattle.machine.specs.Machine.{has_room, after}
@@ -27,9 +27,9 @@ use Rattle.machine.proofs.Claim.Records.{added_at, added_long, none_kept, longer
 use Rattle.index.specs.Index.{origin_of, link_right, links_right}
 use Rattle.index.specs.Laws.Named.{Bears, bears_found}
 use Rattle.index.specs.Laws.Links.{Lower, Named, rule_lower, lower_link, link_lower}
-use Rattle.step.specs.Entries.{place_order, mark_link, place_requests, place_open, tables_with, book_with}
-use Rattle.claims.proofs.Origin.{Added, nothing_added, first_one, own, same_order, same_clordid, same_origclordid}
-use Rattle.claims.proofs.Written.{order_written, request_written, place_keeps, place_book, marked, marked_keeps, marked_count, Writes}
+use Rattle.step.specs.Entries.{place_order, mark_link, place_requests, tables_with, place_origin, place_open, place_index, book_with}
+use Rattle.kept.proofs.Origin.{Added, nothing_added, first_one, own, same_order, same_clordid, same_origclordid}
+use Rattle.kept.proofs.Written.{order_written, request_written, place_book, marked, marked_count, Writes}
 
 -- ---- the writes that leave a link as it was
 
@@ -66,6 +66,10 @@ module _ (b : List ℕ) (c : Change) (long : length b ≡ book_size) (right : li
   abbrev d : List ℕ
   d = place_order b c.place c.order
 
+  -- the tables are written
+  abbrev to : List ℕ
+  to = tables_with b c
+
   abbrev origin : ℕ
   origin = origin_of x c.order.client c.requests.request.origclordid
 
@@ -84,9 +88,6 @@ module _ (b : List ℕ) (c : Change) (long : length b ≡ book_size) (right : li
 
   -- ---- the requests settled
 
-  mk_long : length mk ≡ book_size
-  mk_long = (marked_keeps d c.requests small).same ∙ (place_keeps b c.place c.order (order_written x c whole)).same ∙ long
-
   mk_count : request_count mk ≡ request_count b
   mk_count = marked_count d c.requests ∙ ap length d_requests ∙ length_requests b
 
@@ -98,29 +99,40 @@ module _ (b : List ℕ) (c : Change) (long : length b ≡ book_size) (right : li
 
   -- ---- one added
 
-  none_tables : c.requests.added ≡ 0 → tables_with b c ≡ mk
+  none_tables : c.requests.added ≡ 0 → to ≡ mk
   unfolding tables_with place_requests
   none_tables z = if_true _ _ _ (eq-eqb c.requests.added 0 z)
 
-  one_tables : (c.requests.added ≡ 0 → ⊥) → tables_with b c ≡ add_request mk origin c.requests.request
+  one_tables : (c.requests.added ≡ 0 → ⊥) → to ≡ add_request mk c.requests.request
   unfolding tables_with place_requests
   one_tables z = if_false _ _ _ (ne_eqb c.requests.added 0 z)
 
-  tables_origin : (k : ℕ) → k < request_count b → origin_at (tables_with b c) k ≡ origin_at mk k
+  tables_origin : (k : ℕ) → k < request_count b → origin_at to k ≡ origin_at mk k
   tables_origin k l = go (ℕ_discrete c.requests.added 0)
     where
-      go : Dec (c.requests.added ≡ 0) → origin_at (tables_with b c) k ≡ origin_at mk k
+      go : Dec (c.requests.added ≡ 0) → origin_at to k ≡ origin_at mk k
       go (yes z) = ap (λ (t : List ℕ). origin_at t k) (none_tables z)
       go (no z) =
           ap (λ (t : List ℕ). origin_at t k) (one_tables z)
-          ∙ add_request_origin_other mk origin c.requests.request (request_written x c whole (ne_eqb c.requests.added 0 z)) k (omega (arith, l, mk_count))
+          ∙ add_request_origin mk c.requests.request (request_written x c whole (ne_eqb c.requests.added 0 z)) k (omega (arith, l, mk_count))
 
-  f_same : (k : ℕ) → k < most_requests → origin_at f k ≡ origin_at (tables_with b c) k
-  unfolding book_with
-  f_same k l = open_same (tables_with b c) k l y c.place c.order.client
+  -- ---- and the origin
+
+  abbrev linked : List ℕ
+  linked = place_origin to c.requests.added (length x.requests) origin
+
+  f_same : (k : ℕ) → k < most_requests → origin_at f k ≡ origin_at linked k
+  unfolding book_with place_index
+  f_same k l = open_same linked k l y c.place c.order.client
+
+  linked_other : (k : ℕ) → k < request_count b → origin_at linked k ≡ origin_at to k
+  unfolding place_origin
+  linked_other k l =
+      split_if (Same to k (few_requests k l)) (eqb c.requests.added 0) (λ e. refl)
+      (λ e. origin_other to (length x.requests) origin k (few_requests k l) (λ z. omega (arith, in_book k l, z)))
 
   f_origin : (k : ℕ) → k < request_count b → origin_at f k ≡ origin_at b k
-  f_origin k l = f_same k (few_requests k l) ∙ tables_origin k l ∙ mk_origin k (few_requests k l)
+  f_origin k l = f_same k (few_requests k l) ∙ linked_other k l ∙ tables_origin k l ∙ mk_origin k (few_requests k l)
 
   f_count : request_count f ≡ length y.requests
   f_count = sym (length_requests f) ∙ ap (λ (z : Book). length z.requests) w.is
@@ -138,17 +150,19 @@ module _ (b : List ℕ) (c : Change) (long : length b ≡ book_size) (right : li
       record { adds = n; last = z; fits = omega (arith, l, count_most header·requests most_requests f) }
 
   module _ (k : ℕ) (n : IsNew k) where
-    at_end : request_count mk ≡ k
-    at_end = mk_count ∙ sym n.last
+    at_end : k ≡ length x.requests
+    at_end = n.last ∙ sym (length_requests b)
+
+    linked_here : linked ≡ store_origin to k origin
+    unfolding place_origin
+    linked_here = if_false _ _ _ (ne_eqb c.requests.added 0 n.adds) ∙ ap (λ (m : ℕ). store_origin to m origin) (sym at_end)
 
     new_origin : origin < 65536 → origin_at f k ≡ origin
     new_origin s =
-        f_same k n.fits
-        ∙ ap₂ origin_at (one_tables n.adds) (sym at_end)
-        ∙ add_request_origin mk origin c.requests.request (request_written x c whole (ne_eqb c.requests.added 0 n.adds)) mk_long (omega (arith, at_end, n.fits)) s
+        f_same k n.fits ∙ ap (λ (t : List ℕ). origin_at t k) linked_here ∙ origin_here to k origin (w.tables.same ∙ long) n.fits s
 
     new_request : request_in y k ≡ c.requests.request
-    new_request = ap (λ (m : ℕ). request_in y m) (n.last ∙ sym (length_requests b)) ∙ added_at x c n.adds
+    new_request = ap (λ (m : ℕ). request_in y m) at_end ∙ added_at x c n.adds
 
   -- ---- the rule is kept
 

@@ -16,7 +16,7 @@ use Rattle.store.specs.declared.Request.{Request}
 use Rattle.store.specs.Layout.{book_size, request_base, request·answered, request·outcome}
 use Rattle.store.specs.Orders.{WholeOrder}
 use Rattle.store.specs.Requests.{WholeRequest}
-use Rattle.store.specs.Book.{Book, book_of, count_at, order_count, request_count, setting_of, order_at, request_at, put_order, put_request, set_count, store_order, add_order, add_request, settled_as, mark_answered, store_open, blank, empty_book}
+use Rattle.store.specs.Book.{Book, book_of, count_at, order_count, request_count, setting_of, order_at, request_at, put_order, put_request, set_count, store_order, add_order, add_request, settled_as, mark_answered, store_origin, store_open, blank, empty_book}
 use Rattle.store.specs.Finds.{find_client}
 use Rattle.machine.specs.declared.Requests.{Requests}
 use Rattle.machine.specs.declared.Change.{Change}
@@ -25,13 +25,14 @@ use Rattle.machine.specs.Rules.{rules}
 use Rattle.machine.proofs.Kept.Steps.{start_keeps}
 use Rattle.rules.specs.Keeps.{keeps_of}
 use Rattle.index.specs.Index.{link_right, links_right, open_right, opens_right}
-use Rattle.step.specs.Entries.{place_order, mark_link, place_requests, place_open, tables_with, book_with}
+use Rattle.step.specs.Entries.{place_order, mark_link, place_requests, tables_with, place_origin, place_open, place_index, book_with}
 use Rattle.store.specs.Laws.Cells.{same_16}
 use Rattle.store.specs.Laws.Tables.{length_put_order, span_put_order, length_put_request, span_put_request, length_set_count, span_set_count, count_set_count}
 use Rattle.store.specs.Laws.Stored.{in_table}
 use Rattle.store.specs.Laws.Adds.{blank_length}
 use Rattle.store.specs.Laws.Kept.{store_open_keeps}
 use Rattle.store.specs.Laws.Opens.{span_store_open}
+use Rattle.store.specs.Laws.Beside.{store_origin_keeps, span_store_origin}
 use Rattle.rules.specs.Laws.Keeps.{held_keeps}
 
 pub record Headed (b : List ℕ) : Type 0 where
@@ -85,21 +86,21 @@ module _ (b : List ℕ) (h : Headed b) where
       })
       (λ d. h)
 
-  add_request_head : (origin : ℕ) (q : Request) → WholeRequest q → Headed (add_request b origin q)
+  add_request_head : (q : Request) → WholeRequest q → Headed (add_request b q)
   unfolding add_request if◌then◌otherwise◌
-  add_request_head origin q w =
+  add_request_head q w =
       let n : ℕ = request_count b in
-      in_table (λ t. Headed (if t then set_count (put_request b n origin q) 2 (n + 1) otherwise b)) b 256 n
+      in_table (λ t. Headed (if t then set_count (put_request b n q) 2 (n + 1) otherwise b)) b 256 n
       (λ l k.
-      let d : List ℕ = put_request b n origin q in
-      let m : length d ≡ book_size = length_put_request b l n k origin q w in
+      let d : List ℕ = put_request b n q in
+      let m : length d ≡ book_size = length_put_request b l n k q w in
       let u : length (set_count d 2 (n + 1)) ≡ book_size = length_set_count d m 2 (n + 1) (omega arith) in
       record {
         long = u;
         orders = omega (
           arith,
           same_16 (set_count d 2 (n + 1)) b 0 (omega arith) (omega arith)
-              (span_set_count d m 2 (n + 1) (omega arith) 0 2 (inl (omega arith)) ∙ span_put_request b l n k origin q w 0 2 (inl (omega arith))),
+              (span_set_count d m 2 (n + 1) (omega arith) 0 2 (inl (omega arith)) ∙ span_put_request b l n k q w 0 2 (inl (omega arith))),
         );
         requests = omega (arith, set_head d m 2 (n + 1) (omega arith) (omega arith));
       })
@@ -127,15 +128,21 @@ module _ (b : List ℕ) (h : Headed b) where
   unfolding mark_link
   link_head k v = split_if Headed (eqb k 0) (λ e. h) (λ e. mark_head (k - 1) v)
 
-requests_head : (b : List ℕ) → Headed b → (origin : ℕ) (r : Requests) → (eqb r.added 0 ≡ false → WholeRequest r.request) → Headed (place_requests b origin r)
+requests_head : (b : List ℕ) → Headed b → (r : Requests) → (eqb r.added 0 ≡ false → WholeRequest r.request) → Headed (place_requests b r)
 unfolding place_requests
-requests_head b h origin r w =
+requests_head b h r w =
     let v : ℕ = r.outcome in
     let d : List ℕ = mark_link (mark_link b r.answered v) r.superseded v in
     let k : Headed d = link_head (mark_link b r.answered v) (link_head b h r.answered v) r.superseded v in
-    split_if Headed (eqb r.added 0) (λ e. k) (λ e. add_request_head d k origin r.request (w e))
+    split_if Headed (eqb r.added 0) (λ e. k) (λ e. add_request_head d k r.request (w e))
 
--- a word behind the tables is not in the header
+-- an origin is not in the header, nor is a word behind the tables
+origin_head : (b : List ℕ) → Headed b → (added k origin : ℕ) → Headed (place_origin b added k origin)
+unfolding place_origin
+origin_head b h added k origin =
+    split_if Headed (eqb added 0) (λ e. h)
+    (λ e. same_head b (store_origin b k origin) h ((store_origin_keeps b k origin).same ∙ h.long) (span_store_origin b k origin 0 2 (omega arith)) (span_store_origin b k origin 2 2 (omega arith)))
+
 open_head : (b : List ℕ) → Headed b → (left : Book) (place client : ℕ) → Headed (place_open b left place client)
 unfolding place_open
 open_head b h left place client =
@@ -146,9 +153,9 @@ open_head b h left place client =
 -- a change keeps the counts within their tables
 pub change_head : (b : List ℕ) (c : Change) → Headed b → (eqb c.place 0 ≡ false → WholeOrder c.order)
     → (eqb c.requests.added 0 ≡ false → WholeRequest c.requests.request) → Headed (book_with b c)
-unfolding book_with tables_with
+unfolding book_with tables_with place_index
 change_head b c h o q =
-    open_head _ (requests_head (place_order b c.place c.order) (place_head b h c.place c.order o) _ c.requests q)
+    open_head _ (origin_head _ (requests_head (place_order b c.place c.order) (place_head b h c.place c.order o) c.requests q) c.requests.added _ _)
     (after (book_of b) c) c.place c.order.client
 
 -- ---- start

@@ -1,0 +1,4 @@
+pub mod Entered
+pub mod Records
+pub mod Said
+pub mod Runs
