@@ -11,16 +11,13 @@ use Rattle.prelude.specs.Laws.Cases.{split_if, clash}
 use Rattle.prelude.specs.Laws.Number.{word16_number, bytes_number}
 use Rattle.prelude.specs.Laws.Span.{length_span}
 use Rattle.events.specs.Events.{has_whole, records_from, records_in}
+use Rattle.events.specs.Laws.Runs.{whole_long}
 use Rattle.claims.specs.Events.{packed, Partial}
 
 -- the whole records at the front
 pub data Front : List ℕ → List (List ℕ) → Type 0 where
   ends : (rs : List ℕ) → has_whole rs ≡ false → Front rs []
   goes : (rs : List ℕ) (ss : List (List ℕ)) → has_whole rs ≡ true → Front (drop (2 + word16 rs 0) rs) ss → Front rs (span rs 2 (word16 rs 0) ∷ ss)
-
-pub whole_long : (rs : List ℕ) → has_whole rs ≡ true → 2 + word16 rs 0 ≤ length rs
-unfolding has_whole
-whole_long rs e = leb-true (2 + word16 rs 0) (length rs) (and_parts (leb 2 (length rs)) (leb (2 + word16 rs 0) (length rs)) e).1
 
 -- as the statement has it: there is none
 pub partial : (rs : List ℕ) → has_whole rs ≡ false → Partial rs

@@ -15,6 +15,7 @@ use words::get16;
 // What is said of an event at most: a byte for its refusal, and its answer.
 pub(crate) const MOST_SAID: usize = 1 + SHORTEST_ANSWER;
 
+// What a call that is refused returns.
 pub(crate) fn refusing(refusal: Refusal) -> Ran
     ensures { result ≡ refusing (number_of refusal) }
 {
@@ -55,14 +56,14 @@ fn say(book: &mut [u8], record: &[u8], answers: &mut [u8]) -> usize
             1 + length as usize
         }
         Err(refusal) => {
-            // At most 18: by `as`, which is proved to lose nothing.
+            // A refusal's number fits a byte: by `as`, which is proved to lose nothing.
             answers[0] = refusal.number() as u8;
             1
         }
     }
 }
 
-// A `while`: how far the records and the answers are used is known only once an event was run.
+// Runs the events one after the other, on a book that keeps its rules. A `while`: how far the records and the answers are used is known only once an event was run.
 pub(crate) fn run(book: &mut [u8], records: &[u8], answers: &mut [u8]) -> Ran
     requires keeps { keeps_of book.old ≡ true }
     requires bytes { Bytes book.old }

@@ -1,22 +1,13 @@
 -- `run` is the definition's, turn by turn. Assumes nothing.
-use Rattle.std.proofs.Common.{ℕ, zero, suc, ◌+◌, ◌-◌, ◌≤◌, ◌≡◌, arith, refl, sym, ap, ◌∙◌, subst, List, ◌++◌, length, take, drop, take_all, append-nil, length-drop, Bool, true, false, Option, None, Some}
-use Rattle.std.proofs.lemmas.List.{drop_all}
-use borrow.Rule.Slice.PartMut.{put_mid}
+use Rattle.std.proofs.Common.{ℕ, zero, suc, ◌+◌, ◌-◌, ◌≤◌, ◌≡◌, arith, refl, sym, ap, ◌∙◌, subst, List, length, take, drop, length-drop, Bool, true, false, Option, None, Some}
 use Rattle.prelude.specs.Cases.{if◌then◌otherwise◌, maybe}
 use Rattle.prelude.specs.Number.{word16}
 use Rattle.prelude.specs.Laws.Cases.{if_true, if_false}
 use Rattle.events.specs.Events.{has_whole}
 use Rattle.events.specs.Laws.Said.{Says}
 use Rattle.events.specs.Laws.Runs.{stands_full, stands_ended, stands_next, whole_long}
+use Rattle.events.proofs.Lent.{lent, back}
 use Rattle.events.proofs.list.run.Goals as goal
-
--- what is lent is all from an index on
-lent : (at : ℕ) (xs : List ℕ) → take (length xs - at) (drop at xs) ≡ drop at xs
-lent at xs = take_all (length xs - at) (drop at xs) (simp length-drop (omega arith))
-
--- and what comes back stands behind what is before it
-back : (at : ℕ) (xs ys : List ℕ) → put_mid at (length xs - at) xs ys ≡ take at xs ++ ys
-back at xs ys = ap (λ (l : List ℕ). take at xs ++ l) (ap (λ (l : List ℕ). ys ++ l) (drop_all (length xs - at) (drop at xs) (simp length-drop (omega arith))) ∙ append-nil ys)
 
 -- ---- what `whole` found
 
