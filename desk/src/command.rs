@@ -10,7 +10,7 @@ use std::io::{self, Write};
 use std::path::Path;
 
 use desk::Journal;
-use jubafiye::{explain, explain_record, text, Book, BOOK_BYTES};
+use jubafiye::{explain, explain_record, text, Book, Shelf, BOOK_BYTES};
 
 use crate::{Form, What};
 use day::{Day, Step};
@@ -43,8 +43,8 @@ impl Error for Misused {}
 
 pub fn run(what: What) -> Ended {
     match what {
-        What::Dump { book } => print(&book_of(&book)?.to_string()),
-        What::Diff { a, b } => diff(&book_of(&a)?, &book_of(&b)?),
+        What::Dump { book } => print(&all(&shelf_of(&book)?)),
+        What::Diff { a, b } => diff(&shelf_of(&a)?, &shelf_of(&b)?),
         What::Replay { day, until } => replay(&Day::load(&day)?, until),
         What::Explain { record: Some(record), .. } => {
             said_of_record(&text::from_text(&format!("record {record}")).map_err(Misused::new)?)
@@ -52,9 +52,10 @@ pub fn run(what: What) -> Ended {
         What::Explain { file, .. } => explained(&day::bytes(&file.unwrap_or_default())?),
         What::Events { day, to } => events(&Day::load(&day)?, to),
         What::Fix { log } => fix::show(&day::bytes(&log)?),
-        What::Page { day } => page(&book_of(&day)?),
+        What::Page { day } => page(&shelf_of(&day)?),
         What::Html { day, output, title } => html_page(&Day::load(&day)?, output.as_deref(), &title),
-        What::Create { journal, setting } => {
+        What::Create { journal, from: Some(before), .. } => next_day(&journal, &before),
+        What::Create { journal, setting, .. } => {
             Journal::create(journal, setting)?;
             Ok(Done::Well)
         }
@@ -74,31 +75,45 @@ fn out(bytes: &[u8]) -> Ended {
     }
 }
 
-/// The book of a file: its bytes, or what a journal or a day comes to.
-fn book_of(path: &Path) -> Result<Book, Box<dyn Error>> {
+/// The book of a file with what it has retired: its bytes, or what a journal or a day comes to.
+fn shelf_of(path: &Path) -> Result<Shelf<()>, Box<dyn Error>> {
     let bytes = day::bytes(path)?;
     if bytes.len() == BOOK_BYTES && !day::is_journal(&bytes) {
-        return Book::from_bytes(&bytes).map_err(|refused| {
+        let book = Book::from_bytes(&bytes).map_err(|refused| {
             let why = explain(&bytes).first().map(ToString::to_string).unwrap_or_default();
-            format!("{}: {refused}: {why}", path.display()).into()
-        });
+            format!("{}: {refused}: {why}", path.display())
+        })?;
+        return Ok(day::one_book(book)?);
     }
     Day::load(path)?.run(None, |_| Ok(()))
 }
 
-fn diff(a: &Book, b: &Book) -> Ended {
-    let changes = a.diff(b);
+/// The book of a shelf; an empty one if no order was booked.
+fn book(shelf: &Shelf<()>) -> Book {
+    shelf.book(&()).cloned().unwrap_or_else(|| Book::new(shelf.setting()))
+}
+
+/// The archives under a heading each, oldest first, and then the book; the book alone if nothing was retired.
+fn all(shelf: &Shelf<()>) -> String {
+    let archives = (1..).zip(shelf.archives(&()));
+    let archives = archives.map(|(number, archive)| format!("archive {number}, retired: {archive}\n"));
+    format!("{}{}", archives.collect::<String>(), book(shelf))
+}
+
+/// What differs between two books; what they have retired is left out.
+fn diff(a: &Shelf<()>, b: &Shelf<()>) -> Ended {
+    let changes = book(a).diff(&book(b));
     print(&changes.iter().map(|change| format!("{change}\n")).collect::<String>())?;
     Ok(if changes.is_empty() { Done::Well } else { Done::LookAtIt })
 }
 
 fn replay(day: &Day, until: Option<u64>) -> Ended {
     let mut refused = false;
-    let book = day.run(until, |step: &Step| {
+    let shelf = day.run(until, |step: &Step| {
         refused |= step.answer.is_err();
         print(&step.to_string()).map(drop)
     })?;
-    print(&format!("\n{book}"))?;
+    print(&format!("\n{}", all(&shelf)))?;
     Ok(if refused { Done::LookAtIt } else { Done::Well })
 }
 
@@ -141,14 +156,14 @@ fn events(day: &Day, to: Form) -> Ended {
     out(&written)
 }
 
-fn page(book: &Book) -> Ended {
-    let lines = book.net_position();
+fn page(shelf: &Shelf<()>) -> Ended {
+    let lines = shelf.net_position();
     let net = lines.iter().map(|line| {
         let symbol = String::from_utf8_lossy(&line.symbol).replace(char::is_control, " ");
         format!("{:>5} {symbol:<16} {:>+16}\n", line.client, line.net)
     });
     let heading = if lines.is_empty() { "" } else { "\nNet position: client, symbol, bought less sold\n" };
-    print(&format!("{}{heading}{}", book.page(), net.collect::<String>()))
+    print(&format!("{}{heading}{}", shelf.page(), net.collect::<String>()))
 }
 
 fn html_page(day: &Day, output: Option<&Path>, title: &str) -> Ended {
@@ -156,6 +171,21 @@ fn html_page(day: &Day, output: Option<&Path>, title: &str) -> Ended {
     match output {
         Some(path) => std::fs::write(path, page).map_err(|why| format!("{}: {why}", path.display()))?,
         None => return print(&page),
+    }
+    Ok(Done::Well)
+}
+
+/// Makes a journal that begins with the live orders of another. What that one has not handed over stays there.
+fn next_day(path: &Path, before: &Path) -> Ended {
+    let before = Journal::read(before).map_err(|why| format!("{}: {why}", before.display()))?;
+    let mut shelf = before.shelf().clone();
+    shelf.retire_all();
+    Journal::create_with(path, book(&shelf))?;
+    match before.outbox()?.len() {
+        0 => {}
+        left => {
+            eprintln!("desk: {left} messages of the earlier journal were not handed over, and stay there")
+        }
     }
     Ok(Done::Well)
 }

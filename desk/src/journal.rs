@@ -3,8 +3,9 @@
 
 use std::fmt::Display;
 use std::path::Path;
+use std::sync::Arc;
 
-use jubafiye::{Answer, Book, Event, Message, Refusal, ANSWER_BYTES};
+use jubafiye::{Answer, Book, Event, Message, Refusal, Shelf, ANSWER_BYTES};
 use rusqlite::{params, Connection, OpenFlags, Transaction};
 
 use crate::error::Error;
@@ -42,14 +43,20 @@ pub const LAYOUT_VERSION: i64 = jubafiye::LAYOUT_VERSION as i64;
 /// ```
 pub const SNAPSHOT_EVERY: u64 = 256;
 
-/// The version of the journal's tables, and the number by which SQLite's file is ours.
+/// The version of the journal's tables, and the one that it has from its first archive on; the number by which SQLite's file is ours.
 const VERSION: i64 = 1;
+const WITH_ARCHIVES: i64 = 2;
 const APPLICATION: i64 = 0x6A75_6265;
 
 const TABLES: &str = "
     CREATE TABLE event (seq INTEGER PRIMARY KEY, record BLOB NOT NULL, refusal INTEGER NOT NULL, answer BLOB NOT NULL, sum INTEGER NOT NULL);
     CREATE TABLE outbox (id INTEGER PRIMARY KEY AUTOINCREMENT, seq INTEGER NOT NULL, message BLOB NOT NULL, repeat INTEGER NOT NULL, sum INTEGER NOT NULL);
     CREATE TABLE snapshot (seq INTEGER PRIMARY KEY, layout INTEGER NOT NULL, book BLOB NOT NULL, sum INTEGER NOT NULL);
+";
+
+/// The archives as the last snapshot has them. Their sums are part of its own.
+const ARCHIVES: &str = "
+    CREATE TABLE IF NOT EXISTS archive (number INTEGER PRIMARY KEY, layout INTEGER NOT NULL, book BLOB NOT NULL, sum INTEGER NOT NULL);
 ";
 
 /// A message that is to be handed to a session.
@@ -135,6 +142,9 @@ pub struct Kept {
 
 /// A book that is kept through a crash, and what is to be sent.
 ///
+/// Where an order or a request finds no room, the book retires its done orders into archives (`jubafiye::Shelf`), which are kept too:
+/// a book's 64 orders bound what is live, not the day.
+///
 /// An event, its answer and its messages go to the disk in one transaction (`synchronous=FULL`) before [`Journal::take`] returns.
 /// A booking's own message to its venue, which the book leaves to the host, is among them.
 ///
@@ -160,10 +170,15 @@ pub struct Journal {
     stopped: bool,
 }
 
+/// An archive and its sum.
+type Archive = (Arc<Book>, u64);
+
 /// Where a journal is.
-#[derive(Clone)]
 struct Now {
-    book: Book,
+    /// The one book with its archives.
+    shelf: Shelf<()>,
+    /// The archives as the last snapshot has them.
+    archives: Vec<Archive>,
     /// The number and the sum of the last event.
     seq: u64,
     sum: u64,
@@ -186,6 +201,37 @@ impl Journal {
     /// # Ok::<(), Error>(())
     /// ```
     pub fn create(path: impl AsRef<Path>, setting: u32) -> Result<Self, Error> {
+        Self::create_with(path, Book::new(setting))
+    }
+
+    /// A new journal that begins with a book: that of the day before, once its done orders have retired, so that what is good till
+    /// cancelled goes on. It is made as [`Journal::create`] makes one. It knows nothing of the other day's archives, and its outbox is
+    /// empty.
+    ///
+    /// ```
+    /// use desk::Journal;
+    /// use jubafiye::text::from_text;
+    ///
+    /// # let folder = desk::doc_folder("create_with");
+    /// # let (monday, tuesday) = (folder.join("monday"), folder.join("tuesday"));
+    /// let mut before = Journal::create(&monday, 10_000)?;
+    /// for line in [
+    ///     "book client=7 venue=3 name=G1 clordid=C1 symbol=W side=buy ordtype=market qty=100",
+    ///     "book client=7 venue=3 name=G2 clordid=C2 symbol=W side=buy ordtype=market qty=100 timeinforce=good-till-cancel",
+    ///     "failed venue=3 downstream=G1 text=down",
+    /// ] {
+    ///     assert!(before.take(&from_text(line).unwrap())?.answer.is_ok());
+    /// }
+    /// // G1 is done, G2 good till cancelled
+    /// let mut shelf = before.shelf().clone();
+    /// assert_eq!(shelf.retire_all(), 1);
+    /// let journal = Journal::create_with(&tuesday, shelf.book(&()).unwrap().clone())?;
+    /// drop(journal);
+    /// let journal = Journal::open(&tuesday)?;
+    /// assert_eq!((journal.seq(), journal.book().order("G1").is_none(), journal.book().orders().count()), (0, true, 1));
+    /// # Ok::<(), desk::Error>(())
+    /// ```
+    pub fn create_with(path: impl AsRef<Path>, first: Book) -> Result<Self, Error> {
         let path = path.as_ref();
         if path.exists() && !may_be_unmade(path) {
             return Err(Error::AlreadyThere(path.into()));
@@ -193,7 +239,7 @@ impl Journal {
         let there =
             |why| if matches!(why, Error::NotAJournal) { Error::AlreadyThere(path.into()) } else { why };
         let mut db = connect_unlocked(path, OpenFlags::SQLITE_OPEN_CREATE).map_err(there)?;
-        let book = Book::new(setting);
+        let shelf = shelf(first, Vec::new())?;
         let behavior = rusqlite::TransactionBehavior::Exclusive;
         let all = db.transaction_with_behavior(behavior).map_err(|why| there(why.into()))?;
         // Asked with the lock held, and after SQLite has taken back what a crash cut.
@@ -203,9 +249,10 @@ impl Journal {
         all.pragma_update(None, "application_id", APPLICATION)?;
         all.pragma_update(None, "user_version", VERSION)?;
         all.execute_batch(TABLES)?;
-        let first = put_snapshot(&all, 0, &book)?;
+        let (sum, archives) = put_snapshot(&all, 0, &shelf, &[])?;
         all.commit()?;
-        Ok(Self { db, now: Now { book, seq: 0, sum: first, snapshot: 0 }, stopped: false })
+        let now = Now { shelf, archives, seq: 0, sum, snapshot: 0 };
+        Ok(Self { db, now, stopped: false })
     }
 
     /// Opens a journal: the last snapshot is taken up and the events behind it are run again, each answer compared with the one that
@@ -258,8 +305,8 @@ impl Journal {
         if whole != "ok" {
             return Err(Error::Damaged(whole));
         }
-        let (snapshot, book, first) = last_snapshot(&db)?;
-        let mut journal = Self { db, now: Now { book, seq: 0, sum: first, snapshot }, stopped: false };
+        let (now, stopped) = (last_snapshot(&db)?, false);
+        let mut journal = Self { db, now, stopped };
         journal.replay()?;
         journal.outbox()?;
         Ok(journal)
@@ -274,7 +321,42 @@ impl Journal {
     /// # Ok::<(), desk::Error>(())
     /// ```
     pub fn book(&self) -> &Book {
-        &self.now.book
+        own_book(&self.now.shelf)
+    }
+
+    /// The book with its archives, oldest first: page, net position, orders and chains over all of them.
+    /// ```
+    /// use desk::Journal;
+    /// use jubafiye::text::from_text;
+    ///
+    /// # let mut journal = Journal::create(desk::doc_folder("shelf").join("journal"), 10_000)?;
+    /// // 70 orders, each of which fails to be sent, and so is done
+    /// for number in 0..70 {
+    ///     let booking = format!("book client=7 venue=3 name=G{number} clordid={number} symbol=W side=buy ordtype=market qty=1");
+    ///     for line in [booking, format!("failed venue=3 downstream=G{number} text=down")] {
+    ///         assert!(journal.take(&from_text(&line).unwrap())?.answer.is_ok());
+    ///     }
+    /// }
+    /// assert_eq!((journal.book().orders().count(), journal.shelf().archives(&()).len()), (6, 1));
+    /// assert_eq!(journal.shelf().page().lines().count(), 70);
+    /// # Ok::<(), desk::Error>(())
+    /// ```
+    pub fn shelf(&self) -> &Shelf<()> {
+        &self.now.shelf
+    }
+
+    /// The book that the journal began with, before its first event.
+    /// ```
+    /// use desk::Journal;
+    ///
+    /// # let journal = Journal::create(desk::doc_folder("first").join("journal"), 10_000)?;
+    /// assert_eq!(journal.first_book()?.orders().count(), 0);
+    /// # Ok::<(), desk::Error>(())
+    /// ```
+    pub fn first_book(&self) -> Result<Book, Error> {
+        let query = "SELECT book FROM snapshot WHERE seq = 0";
+        let bytes: Vec<u8> = self.db.query_row(query, [], |row| row.get(0))?;
+        Book::from_bytes(&bytes).map_err(|_| Error::Damaged(why(0, &bytes)))
     }
 
     /// The number of the last event.
@@ -433,7 +515,7 @@ impl Journal {
     /// # Ok::<(), desk::Error>(())
     /// ```
     pub fn setting(&self) -> u32 {
-        self.now.book.setting()
+        self.book().setting()
     }
 
     /// Runs a step in one transaction. With an error the book is what it was; if the disk may have taken the step all the same,
@@ -442,11 +524,14 @@ impl Journal {
         if self.stopped {
             return Err(Error::Stopped);
         }
-        let mut now = self.now.clone();
-        let done = commit(&mut self.db, &mut now, step);
-        match done {
-            Ok(_) => self.now = now,
-            Err(_) => self.stopped = true,
+        // The books alone: a clone of the shelf would make each booking copy the names of all orders.
+        let Now { shelf: before, archives, seq, sum, snapshot } = &self.now;
+        let books = (own_book(before).clone(), before.archives(&()).to_vec());
+        let (archives, seq, sum, snapshot) = (archives.clone(), *seq, *sum, *snapshot);
+        let done = commit(&mut self.db, &mut self.now, step);
+        if done.is_err() {
+            self.stopped = true;
+            self.now = Now { shelf: shelf(books.0, books.1)?, archives, seq, sum, snapshot };
         }
         done
     }
@@ -469,7 +554,9 @@ impl Journal {
             if seq <= now.snapshot {
                 continue;
             }
-            let ran = match now.book.take_record_into(&record, &mut buffer) {
+            // Whatever was refused for want of room was refused for good: before there were archives nothing retired.
+            now.shelf.retires(refusal != Refusal::Full.number());
+            let ran = match now.shelf.take_record_into(&record, &mut buffer) {
                 Ok(ran) => (0, ran),
                 Err(refused) => (refused.number(), &[][..]),
             };
@@ -477,6 +564,7 @@ impl Journal {
                 return Err(Error::AnswersOtherwise { seq });
             }
         }
+        now.shelf.retires(true);
         if now.seq < now.snapshot {
             return Err(Error::Damaged(format!(
                 "the events end at {}, before the snapshot {}",
@@ -509,6 +597,19 @@ impl Journal {
     }
 }
 
+/// The one book of a journal's shelf.
+fn own_book(shelf: &Shelf<()>) -> &Book {
+    shelf.book(&()).expect("the shelf of a journal has its book from the start")
+}
+
+/// A shelf with one book for all clients.
+fn shelf(book: Book, archives: Vec<Arc<Book>>) -> Result<Shelf<()>, Error> {
+    let mut shelf = Shelf::keyed(book.setting(), |_| ());
+    let put = shelf.put((), book, archives);
+    put.map_err(|_| Error::Damaged("an order stands twice in the book and its archives".into()))?;
+    Ok(shelf)
+}
+
 /// A transaction that takes events.
 struct Step<'a> {
     all: Transaction<'a>,
@@ -525,7 +626,7 @@ fn commit<T>(
     let done = step(&mut on)?;
     let Step { all, now } = on;
     if now.seq >= now.snapshot + SNAPSHOT_EVERY {
-        put_snapshot(&all, now.seq, &now.book)?;
+        (_, now.archives) = put_snapshot(&all, now.seq, &now.shelf, &now.archives)?;
         now.snapshot = now.seq;
     }
     all.commit()?;
@@ -536,7 +637,7 @@ impl Step<'_> {
     /// Takes an event. What an event 8 sends to a venue may have been handed over before.
     fn take(&mut self, record: &[u8]) -> Result<Taken, Error> {
         let mut buffer = [0; ANSWER_BYTES];
-        let (refusal, bytes) = match self.now.book.take_record_into(record, &mut buffer) {
+        let (refusal, bytes) = match self.now.shelf.take_record_into(record, &mut buffer) {
             Ok(bytes) => (None, bytes),
             Err(refusal) => (Some(refusal), &[][..]),
         };
@@ -575,7 +676,7 @@ impl Step<'_> {
         if let Ok(Event::Book(booking)) = Event::read(record) {
             let order = Event::SendAgain { venue: booking.venue, downstream: booking.name }.record();
             let mut buffer = [0; ANSWER_BYTES];
-            if let Ok(answer) = self.now.book.take_record_into(&order, &mut buffer) {
+            if let Ok(answer) = self.now.shelf.take_record_into(&order, &mut buffer) {
                 self.put_out(answer, false)?;
             }
         }
@@ -636,35 +737,61 @@ fn known(db: &Connection) -> Result<(), Error> {
         return Err(Error::NotAJournal);
     }
     match pragma("user_version")? {
-        VERSION => Ok(()),
-        found => Err(Error::Version { found, wanted: VERSION }),
+        VERSION | WITH_ARCHIVES => Ok(()),
+        found => Err(Error::Version { found, wanted: WITH_ARCHIVES }),
     }
 }
 
-/// The last snapshot: its number and its book, and the sum that the first event is chained to. Every snapshot's sum is checked.
-fn last_snapshot(db: &Connection) -> Result<(u64, Book, u64), Error> {
+/// Where the last snapshot was, with the sum that the first event is chained to. Every snapshot's sum is checked.
+fn last_snapshot(db: &Connection) -> Result<Now, Error> {
+    let archives = archives(db)?;
     let mut rows = db.prepare("SELECT seq, layout, book, sum FROM snapshot ORDER BY seq")?;
     let mut rows = rows.query([])?;
     let (mut first, mut last) = (None, None);
     while let Some(row) = rows.next()? {
-        let (seq, layout, bytes, kept): (i64, i64, Vec<u8>, i64) =
-            (row.get(0)?, row.get(1)?, row.get(2)?, row.get(3)?);
-        if layout != LAYOUT_VERSION {
-            return Err(Error::Version { found: layout, wanted: LAYOUT_VERSION });
-        }
+        let (seq, bytes, kept): (i64, Vec<u8>, i64) = (row.get(0)?, row.get(2)?, row.get(3)?);
+        of_this_layout(row.get(1)?)?;
         let seq = count(seq)?;
-        let sum = snapshot_sum(seq, &bytes);
+        let sum = snapshot_sum(seq, &bytes, if seq == 0 { &[] } else { &archives });
         if sum != kept as u64 {
             return Err(Error::Damaged(format!("the snapshot {seq} is not the one that was written")));
         }
         first = first.or((seq == 0).then_some(sum));
         last = Some((seq, bytes));
     }
-    let (Some(first), Some((seq, bytes))) = (first, last) else {
+    let (Some(sum), Some((snapshot, bytes))) = (first, last) else {
         return Err(Error::Damaged("there is no snapshot".into()));
     };
-    let book = Book::from_bytes(&bytes).map_err(|_| Error::Damaged(why(seq, &bytes)))?;
-    Ok((seq, book, first))
+    let book = Book::from_bytes(&bytes).map_err(|_| Error::Damaged(why(snapshot, &bytes)))?;
+    let shelf = shelf(book, archives.iter().map(|archive| archive.0.clone()).collect())?;
+    Ok(Now { shelf, archives, seq: 0, sum, snapshot })
+}
+
+fn of_this_layout(found: i64) -> Result<(), Error> {
+    if found == LAYOUT_VERSION {
+        return Ok(());
+    }
+    Err(Error::Version { found, wanted: LAYOUT_VERSION })
+}
+
+/// The archives, oldest first, each with its sum, which is checked.
+fn archives(db: &Connection) -> Result<Vec<Archive>, Error> {
+    let there = "SELECT count(*) FROM sqlite_master WHERE name = 'archive'";
+    if db.query_row(there, [], |row| row.get::<_, i64>(0))? == 0 {
+        return Ok(Vec::new());
+    }
+    let mut rows = db.prepare("SELECT number, layout, book, sum FROM archive ORDER BY number")?;
+    let mut rows = rows.query([])?;
+    let mut archives = Vec::new();
+    while let Some(row) = rows.next()? {
+        let (place, bytes, kept): (i64, Vec<u8>, i64) = (row.get(0)?, row.get(2)?, row.get(3)?);
+        of_this_layout(row.get(1)?)?;
+        let sum = archive_sum(place, &bytes);
+        let book = Book::from_bytes(&bytes).ok().filter(|_| sum == kept as u64);
+        let damaged = || Error::Damaged(format!("the archive {place} is not the one that was written"));
+        archives.push((Arc::new(book.ok_or_else(damaged)?), sum));
+    }
+    Ok(archives)
 }
 
 /// Why the book of a snapshot is none.
@@ -674,17 +801,45 @@ fn why(seq: u64, bytes: &[u8]) -> String {
     format!("the book of the snapshot {seq}: {first}")
 }
 
-/// Keeps a snapshot and gives its sum; of the earlier ones the first and the latest stay.
-fn put_snapshot(all: &Transaction<'_>, seq: u64, book: &Book) -> Result<u64, Error> {
-    let sum = snapshot_sum(seq, book.as_bytes());
+/// Keeps a snapshot with its archives, of which those of `before` are there, and gives its sum and the archives with theirs; of the
+/// earlier snapshots the first and, while there are no archives, the latest stay.
+fn put_snapshot(
+    all: &Transaction<'_>,
+    seq: u64,
+    shelf: &Shelf<()>,
+    before: &[Archive],
+) -> Result<(u64, Vec<Archive>), Error> {
     all.execute("DELETE FROM snapshot WHERE seq > 0 AND seq < (SELECT max(seq) FROM snapshot)", [])?;
-    let values = params![number(seq)?, LAYOUT_VERSION, book.as_bytes(), sum as i64];
+    if !shelf.archives(&()).is_empty() {
+        all.execute("DELETE FROM snapshot WHERE seq > 0", [])?;
+        all.execute_batch(ARCHIVES)?;
+        all.pragma_update(None, "user_version", WITH_ARCHIVES)?;
+    }
+    let mut archives = Vec::with_capacity(shelf.archives(&()).len());
+    for (place, archive) in (0_i64..).zip(shelf.archives(&())) {
+        let kept = before.get(archives.len()).filter(|kept| Arc::ptr_eq(&kept.0, archive));
+        let sum = kept.map_or_else(|| archive_sum(place, archive.as_bytes()), |kept| kept.1);
+        if kept.is_none() {
+            let values = params![place, LAYOUT_VERSION, archive.as_bytes(), sum as i64];
+            all.execute("INSERT OR REPLACE INTO archive VALUES (?1, ?2, ?3, ?4)", values)?;
+        }
+        archives.push((archive.clone(), sum));
+    }
+    let book = own_book(shelf).as_bytes();
+    let sum = snapshot_sum(seq, book, &archives);
+    let values = params![number(seq)?, LAYOUT_VERSION, book, sum as i64];
     all.execute("INSERT INTO snapshot VALUES (?1, ?2, ?3, ?4)", values)?;
-    Ok(sum)
+    Ok((sum, archives))
 }
 
-fn snapshot_sum(seq: u64, book: &[u8]) -> u64 {
-    sum(LAYOUT_VERSION as u64, &[&seq.to_le_bytes(), book])
+/// A book's sum, and with archives also theirs.
+fn snapshot_sum(seq: u64, book: &[u8], archives: &[Archive]) -> u64 {
+    let own = sum(LAYOUT_VERSION as u64, &[&seq.to_le_bytes(), book]);
+    archives.iter().fold(own, |before, archive| sum(before, &[&archive.1.to_le_bytes()]))
+}
+
+fn archive_sum(place: i64, book: &[u8]) -> u64 {
+    sum(WITH_ARCHIVES as u64, &[&place.to_le_bytes(), book])
 }
 
 fn message_sum(seq: u64, record: &[u8]) -> u64 {
@@ -724,5 +879,29 @@ mod tests {
         journal.db.execute("INSERT INTO event VALUES (?1, ?2, ?3, ?4, ?5)", row).unwrap();
         drop(journal);
         assert!(matches!(Journal::open(&path), Err(Error::AnswersOtherwise { seq: 1 })));
+    }
+
+    /// A journal from before there were archives has an event that was refused for want of room, though an order was done.
+    #[test]
+    fn what_was_refused_for_want_of_room_stays_refused() {
+        let path = crate::doc_folder("full").join("journal");
+        let mut journal = Journal::create(&path, 10_000).unwrap();
+        let booking = |number: u32| {
+            let line = format!("book client=7 venue=3 name=G{number} clordid={number} symbol=W side=buy ordtype=market qty=1");
+            jubafiye::text::from_text(&line).unwrap()
+        };
+        for number in 0..64 {
+            assert!(journal.take(&booking(number)).unwrap().answer.is_ok());
+        }
+        let done = jubafiye::text::from_text("failed venue=3 downstream=G0 text=down").unwrap();
+        assert!(journal.take(&done).unwrap().answer.is_ok());
+        let sum = event_sum(journal.now.sum, 66, &booking(64), 7, &[]);
+        let row = params![66, booking(64), 7, [0u8; 0], sum as i64];
+        journal.db.execute("INSERT INTO event VALUES (?1, ?2, ?3, ?4, ?5)", row).unwrap();
+        drop(journal);
+        let mut journal = Journal::open(&path).unwrap();
+        assert_eq!((journal.book().orders().count(), journal.shelf().archives(&()).len()), (64, 0));
+        assert!(journal.take(&booking(64)).unwrap().answer.is_ok());
+        assert_eq!((journal.book().orders().count(), journal.shelf().archives(&()).len()), (64, 1));
     }
 }

@@ -108,13 +108,16 @@ enum What {
         #[arg(long, default_value = "The day's orders")]
         title: String,
     },
-    /// Makes an empty journal
+    /// Makes an empty journal, or one that begins with the live orders of another
     Create {
         /// The file, which must not be there
         journal: PathBuf,
         /// The most ClOrdIDs that a client may use
-        #[arg(long, default_value_t = 10_000)]
+        #[arg(long, default_value_t = 10_000, conflicts_with = "from")]
         setting: u32,
+        /// The journal of the day before, whose live orders go on
+        #[arg(long, value_name = "JOURNAL")]
+        from: Option<PathBuf>,
     },
     /// Takes an event into a journal: what goes out stays in its outbox
     #[command(after_help = EVENTS)]

@@ -296,3 +296,41 @@ fn what_is_not_there_or_no_day_is_said() {
         assert!(jubafiye::text::from_text(line).is_ok(), "{line}");
     }
 }
+
+#[test]
+fn the_next_day_begins_with_the_live_orders() {
+    let folder = folder("next");
+    assert_eq!(desk(&folder, &["create", "monday", "--setting", "300"]).0, 0);
+    for number in 0..70 {
+        let (name, id) = (format!("name=G{number}"), format!("clordid={number}"));
+        let terms = ["client=7", "venue=3", "symbol=W", "side=buy", "ordtype=market", "qty=100"];
+        let booking = [&["take", "monday", "book", &name, &id][..], &terms].concat();
+        assert_eq!(desk(&folder, &booking).0, 0);
+        let fill = "exectype=trade ordstatus=filled lastqty=100 lastpx=10 cumqty=100 avgpx=10";
+        let downstream = format!("downstream=G{number}");
+        let mut report = vec!["take", "monday", "report", "venue=3", &downstream];
+        report.extend(fill.split(' '));
+        assert_eq!(desk(&folder, &report).0, 0);
+    }
+    let live = [
+        "client=7",
+        "venue=3",
+        "symbol=W",
+        "side=buy",
+        "ordtype=market",
+        "qty=5",
+        "timeinforce=good-till-cancel",
+    ];
+    let booking = [&["take", "monday", "book", "name=GTC", "clordid=GTC"][..], &live].concat();
+    assert_eq!(desk(&folder, &booking).0, 0);
+    let (_, page, _) = desk(&folder, &["page", "monday"]);
+    assert_eq!((page.lines().count(), page.contains("+7000")), (74, true));
+    let (_, dump, _) = desk(&folder, &["dump", "monday"]);
+    assert!(dump.starts_with("archive 1, retired: 64 of 64 orders"), "{dump}");
+    let (status, _, said) = desk(&folder, &["create", "tuesday", "--from", "monday"]);
+    assert_eq!((status, said.contains("were not handed over")), (0, true));
+    let (_, dump, _) = desk(&folder, &["dump", "tuesday"]);
+    assert!(dump.starts_with("1 of 64 orders, 1 of 256 requests, 300 ClOrdIDs"), "{dump}");
+    assert_eq!(desk(&folder, &["take", "tuesday", "gateway-cancel", "name=GTC"]).0, 0);
+    assert_eq!(desk(&folder, &["create", "tuesday", "--from", "monday"]).0, 3);
+}

@@ -15,7 +15,7 @@ use std::time::{Duration, Instant};
 
 use common::Numbers;
 use desk::{Error, Journal, Outgoing};
-use jubafiye::{Answer, Book, Event, Message, Outcome};
+use jubafiye::{Answer, Book, Event, Message, Outcome, Shelf};
 
 fn main() {
     if let Some(folder) = std::env::var_os("DESK_WORKER") {
@@ -32,11 +32,12 @@ fn main() {
     }
     crashes.at_random(random, &mut count);
     count.close();
-    let [acked, sent, repeats] = count.done;
+    let [acked, sent, repeats, archives] = count.done;
     assert!(count.kills > if long { 3_000 } else { 150 }, "{} kills", count.kills);
+    assert!(archives > 0, "nothing was retired");
     println!(
         "crash: {} kills ({} at a write, {} of these with what was not synced lost; {} at random), {} events acknowledged, {} messages \
-         sent, {} of them marked as repeats; nothing lost, nothing told otherwise, {:.0} s",
+         sent, {} of them marked as repeats, {} archives; nothing lost, nothing told otherwise, {:.0} s",
         count.kills,
         count.at_writes,
         count.power,
@@ -44,6 +45,7 @@ fn main() {
         acked,
         sent,
         repeats,
+        archives,
         started.elapsed().as_secs_f64()
     );
 }
@@ -53,9 +55,9 @@ struct Count {
     kills: usize,
     at_writes: usize,
     power: usize,
-    /// Events acknowledged, messages sent and those marked: of the journals that are done with, and of the one that is not.
-    done: [usize; 3],
-    now: [usize; 3],
+    /// Events acknowledged, messages sent, those marked, and archives: of the journals that are done with, and of the one that is not.
+    done: [usize; 4],
+    now: [usize; 4],
 }
 
 impl Count {
@@ -212,7 +214,9 @@ impl Crashes {
         for run in 0..kills {
             if run % 10 == 0 {
                 folder = self.fresh(count);
-                assert!(self.worker(&folder, run as u64, 3).status().unwrap().success());
+                // The first journal has archives before it is killed.
+                let events = if run == 0 { 900 } else { 3 };
+                assert!(self.worker(&folder, run as u64, events).status().unwrap().success());
             }
             let mut child = self.worker(&folder, 10_000 + run as u64, 100_000).spawn().unwrap();
             std::thread::sleep(Duration::from_micros(1_000 + numbers.below(15_000) as u64));
@@ -273,9 +277,9 @@ fn verify(folder: &Path, count: &mut Count) {
         .map(|(seq, record)| (seq.parse().unwrap(), unhex(record)))
         .collect();
     let last = acked.keys().last().copied().unwrap_or(0);
-    let mut book = Book::new(10_000);
+    let mut shelf = Shelf::keyed(10_000, |_| ());
     for event in &events {
-        drop(book.take_record(&event.record));
+        drop(shelf.take_record(&event.record));
         match acked.get(&event.seq) {
             Some(record) => assert_eq!(*record, event.record, "event {} is the one acknowledged", event.seq),
             // Before the last acknowledged one just what a restart put itself, or a step whose process was killed before it could
@@ -286,8 +290,13 @@ fn verify(folder: &Path, count: &mut Count) {
         }
     }
     assert!(events.len() as u64 >= last, "event {last} was acknowledged, and {} are there", events.len());
+    let book = shelf.book(&()).map_or_else(|| Book::new(10_000), Book::clone);
     assert!(book.as_bytes() == journal.book().as_bytes(), "the book is that of the events");
-    count.now = [acked.len(), 0, 0];
+    let archives = |shelf: &Shelf<()>| -> Vec<Vec<u8>> {
+        shelf.archives(&()).iter().map(|archive| archive.as_bytes().to_vec()).collect()
+    };
+    assert!(archives(&shelf) == archives(journal.shelf()), "and so are its archives");
+    count.now = [acked.len(), 0, 0, journal.shelf().archives(&()).len()];
     sent(folder, &journal, &events, &acked, count);
 }
 
@@ -322,7 +331,9 @@ fn sent(
         count.now[1] += 1;
         known.insert(name);
     }
-    let requests: BTreeSet<String> = journal.book().requests().map(|one| request(one.downstream)).collect();
+    let books = journal.shelf().archives(&()).iter().map(|archive| &**archive).chain([journal.book()]);
+    let requests: BTreeSet<String> =
+        books.flat_map(Book::requests).map(|one| request(one.downstream)).collect();
     for name in known.iter().filter(|name| name.starts_with("request")) {
         assert!(requests.contains(name), "{name} went out, and the book has it not");
     }

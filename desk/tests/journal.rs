@@ -407,13 +407,76 @@ fn a_file_that_was_flipped_or_cut() {
     assert!(matches!(Journal::read(&path), Err(Error::NotAJournal)));
 }
 
+/// All bytes of a journal's book and archives.
+fn whole(journal: &Journal) -> Vec<Vec<u8>> {
+    let archives = journal.shelf().archives(&()).iter().map(|archive| archive.as_bytes().to_vec());
+    archives.chain([journal.book().as_bytes().to_vec()]).collect()
+}
+
+/// Orders, each filled some steps after it was booked.
+fn filled(orders: std::ops::Range<usize>) -> Vec<Vec<u8>> {
+    let line = |number: usize| {
+        let terms = "client=7 venue=3 symbol=W side=buy ordtype=market qty=100";
+        let fill = "venue=3 exectype=trade ordstatus=filled lastqty=100 lastpx=10 cumqty=100 avgpx=10";
+        [
+            format!("book {terms} name=G{number} clordid={number}"),
+            format!("report {fill} downstream=G{}", number - 9),
+        ]
+    };
+    orders.flat_map(line).map(|line| from_text(&line).unwrap()).collect()
+}
+
+#[test]
+fn a_book_does_not_fill() {
+    let (path, mut journal) = journal("retired");
+    for number in 0..9 {
+        let line = format!(
+            "book client=7 venue=3 name=G{number} clordid={number} symbol=W side=buy ordtype=market qty=100"
+        );
+        assert!(journal.take(&from_text(&line).unwrap()).unwrap().answer.is_ok());
+    }
+    let events = filled(9..400);
+    for events in events.chunks(50) {
+        let taken = journal.drain(events.iter().map(Vec::as_slice)).unwrap();
+        assert!(taken.iter().all(|taken| taken.answer.is_ok()));
+    }
+    let (before, seq) = (whole(&journal), journal.seq());
+    assert_eq!((before.len(), journal.shelf().orders().count()), (8, 400));
+    assert_eq!(journal.shelf().net_position()[0].net.to_string(), "39100");
+    // the booking again is refused, a late report known
+    assert_eq!(journal.take(&events[0]).unwrap().answer, Err(jubafiye::Refusal::InUse));
+    assert!(journal.take(&events[1]).unwrap().answer.unwrap().alarms.is_empty());
+    drop(journal);
+    let mut journal = Journal::open(&path).unwrap();
+    assert!(journal.seq() > seq && journal.shelf().orders().count() == 400);
+    for events in filled(400..600).chunks(3) {
+        assert!(journal
+            .drain(events.iter().map(Vec::as_slice))
+            .unwrap()
+            .iter()
+            .all(|taken| taken.answer.is_ok()));
+    }
+    let after = whole(&journal);
+    drop(journal);
+    assert!(whole(&Journal::read(&path).unwrap()) == after);
+    // an archive that was changed, or lost
+    let db = rusqlite::Connection::open(&path).unwrap();
+    db.execute("UPDATE archive SET book = zeroblob(65536) WHERE number = 2", []).unwrap();
+    drop(db);
+    assert!(matches!(Journal::open(&path), Err(Error::Damaged(_))));
+    let db = rusqlite::Connection::open(&path).unwrap();
+    db.execute("DELETE FROM archive WHERE number = 2", []).unwrap();
+    drop(db);
+    assert!(matches!(Journal::open(&path), Err(Error::Damaged(_))));
+}
+
 #[test]
 fn another_version() {
     let path = some("version");
     let db = rusqlite::Connection::open(&path).unwrap();
     db.pragma_update(None, "user_version", 9).unwrap();
     drop(db);
-    assert!(matches!(Journal::open(&path), Err(Error::Version { found: 9, wanted: 1 })));
+    assert!(matches!(Journal::open(&path), Err(Error::Version { found: 9, wanted: 2 })));
     let db = rusqlite::Connection::open(&path).unwrap();
     db.pragma_update(None, "user_version", 1).unwrap();
     db.execute("UPDATE snapshot SET layout = 7", []).unwrap();

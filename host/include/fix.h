@@ -24,7 +24,7 @@ extern "C" {
 #endif
 
 /* The version of library and header, the same as in gateway.h. */
-#define JUBAFIYE_VERSION "0.1.1"
+#define JUBAFIYE_VERSION "0.1.2"
 
 /* A refusal, or 0 and the length of the message. With a refusal the length is 0. */
 typedef struct {

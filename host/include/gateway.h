@@ -1,4 +1,4 @@
-/* The proved order book: eleven functions over lent slices, each a pointer and then a length. docs/SCOPE.md says what they do,
+/* The proved order book: twelve functions over lent slices, each a pointer and then a length. docs/SCOPE.md says what they do,
  * docs/LAYOUT.md has the book's bytes.
  *
  * Each pointer must be valid for its length, and the slices of one call must not overlap. Any bytes may be passed. A call
@@ -28,7 +28,7 @@ extern "C" {
 
 /* The version of library and header (CHANGELOG.md), and of the book's layout (docs/LAYOUT.md, Version): the bytes of a book do not
  * say theirs, so that whoever stores a book stores this number beside it. */
-#define JUBAFIYE_VERSION "0.1.1"
+#define JUBAFIYE_VERSION "0.1.2"
 #define JUBAFIYE_LAYOUT_VERSION 1
 
 #define JUBAFIYE_BOOK_BYTES 65536
@@ -148,6 +148,22 @@ Needs JUBAFIYE_FUNCTION(needs)(const uint8_t *book, size_t book_len, const uint8
 Counted JUBAFIYE_FUNCTION(chain)(const uint8_t *book, size_t book_len, uint16_t client, const uint8_t *name, size_t name_len, uint8_t *list,
               size_t list_len);
 
+/* Moves every done order with all its requests from the book to the archive, which is a book too: any that keeps its rules, a
+ * fresh one from `start` for instance. They go behind what it holds, orders in booking order and requests in the order of sending;
+ * the live orders stay, in order, with theirs, and the records that become free are zeros. Both keep their settings. Page, net
+ * position, chain and check serve an archive as any book. The number is how many orders were moved; with none done it is 0, and
+ * nothing changes.
+ *
+ * Refused with JUBAFIYE_REFUSED_BOOK, then with JUBAFIYE_REFUSED_BAD_ARCHIVE if the archive has another length or does not keep
+ * its rules, then with JUBAFIYE_REFUSED_IN_ARCHIVE if the name of a done order, or a ClOrdID of one for the same client, stands in
+ * the archive, then with JUBAFIYE_REFUSED_FULL_ARCHIVE if the archive has no room for all of them. Either all done orders move or
+ * none. A fresh archive gets neither of the last two, and so is the way out of both.
+ *
+ * The book does not know what it has retired: a name and a ClOrdID that were retired must not be used again, and a mark that was
+ * set before must be returned to with the archive as it was then. Both are the host's to see to (host/README.md, A day of 50,000
+ * orders). The call takes 64 KiB of stack beside what `event` takes. */
+Counted JUBAFIYE_FUNCTION(retire)(uint8_t *book, size_t book_len, uint8_t *archive, size_t archive_len);
+
 /* What a request came to: open until it is settled; from then on it stays what it became. */
 enum {
     JUBAFIYE_OUTCOME_OPEN = 0,
@@ -171,7 +187,10 @@ enum {
     JUBAFIYE_REFUSED_CHAIN_LIST = 12,   /* the list cannot hold the whole chain of the ClOrdID */
     JUBAFIYE_REFUSED_MARK_NAME = 13,    /* a mark's name is not 1 to 16 letters or digits */
     JUBAFIYE_REFUSED_NO_MARK = 14,      /* no mark of that name has an image that keeps the book's rules */
-    JUBAFIYE_REFUSED_NO_PLACE = 15      /* no place is free for a mark of a new name */
+    JUBAFIYE_REFUSED_NO_PLACE = 15,     /* no place is free for a mark of a new name */
+    JUBAFIYE_REFUSED_BAD_ARCHIVE = 16,  /* the archive has another length or does not keep its rules */
+    JUBAFIYE_REFUSED_IN_ARCHIVE = 17,   /* the name or a ClOrdID of a done order stands in the archive */
+    JUBAFIYE_REFUSED_FULL_ARCHIVE = 18  /* the archive has no room for all done orders and their requests */
 };
 
 /* A record: a kind (1 byte), a map of 32 bits (4 bytes), then the fields whose bit is set, in bit order. All numbers are

@@ -148,6 +148,8 @@ mod c {
             list: *mut u8,
             list_len: usize,
         ) -> Counted;
+        #[link_name = "jubafiye_retire"]
+        pub fn retire(book: *mut u8, book_len: usize, archive: *mut u8, archive_len: usize) -> Counted;
     }
 }
 
@@ -297,4 +299,13 @@ pub(crate) fn chain(book: &BookBytes, client: u16, name: &[u8], list: &mut [u8])
     Refusal::of(counted.refusal)?;
     // A number that is past the address space is past any buffer.
     Ok(usize::try_from(counted.number).unwrap_or(usize::MAX))
+}
+
+/// Moves the done orders to the archive and gives how many they were; a refused call has changed nothing.
+#[allow(unsafe_code)]
+pub(crate) fn retire(book: &mut BookBytes, archive: &mut BookBytes) -> Result<u32, Refusal> {
+    // SAFETY: two slices that do not overlap, since both are lent as `&mut`; each with its own length.
+    let counted = unsafe { c::retire(book.as_mut_ptr(), book.len(), archive.as_mut_ptr(), archive.len()) };
+    Refusal::of(counted.refusal)?;
+    Ok(counted.number)
 }

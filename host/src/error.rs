@@ -50,6 +50,12 @@ pub enum Refusal {
     NoMark,
     /// 15: no place is free for a mark of a new name.
     NoPlace,
+    /// 16: the archive has another length or does not keep its rules.
+    BadArchive,
+    /// 17: the name or a ClOrdID of a done order stands in the archive.
+    InArchive,
+    /// 18: the archive has no room for all done orders and their requests.
+    FullArchive,
     /// Another number, which this crate does not know: the library is of another version.
     Other(u32),
 }
@@ -76,6 +82,9 @@ impl Refusal {
             Self::MarkName => 13,
             Self::NoMark => 14,
             Self::NoPlace => 15,
+            Self::BadArchive => 16,
+            Self::InArchive => 17,
+            Self::FullArchive => 18,
             Self::Other(number) => number,
         }
     }
@@ -105,6 +114,9 @@ impl Refusal {
             13 => Self::MarkName,
             14 => Self::NoMark,
             15 => Self::NoPlace,
+            16 => Self::BadArchive,
+            17 => Self::InArchive,
+            18 => Self::FullArchive,
             _ => Self::Other(number),
         })
     }
@@ -134,6 +146,9 @@ impl fmt::Display for Refusal {
             Self::MarkName => "a mark's name is not 1 to 16 letters or digits",
             Self::NoMark => "no mark of that name has an image that keeps the rules",
             Self::NoPlace => "no place is free for a new mark",
+            Self::BadArchive => "the archive does not keep its rules",
+            Self::InArchive => "a done order's name or ClOrdID stands in the archive",
+            Self::FullArchive => "the archive has no room for the done orders",
             Self::Other(_) => "a number that is not known here",
         };
         write!(f, "refused with {}: {why}", self.number())
@@ -341,7 +356,7 @@ mod tests {
 
     #[test]
     fn numbers_and_refusals_are_each_others() {
-        for number in 1..=20 {
+        for number in 1..=25 {
             assert_eq!(Refusal::from_number(number).map(Refusal::number), Some(number));
             assert_eq!(Refusal::of(number).map_err(Refusal::number), Err(number));
         }

@@ -81,6 +81,10 @@ mod open;
 mod page;
 mod read;
 mod record;
+#[cfg(feature = "book")]
+mod retire;
+#[cfg(feature = "book")]
+mod shelf;
 mod show;
 pub mod text;
 #[cfg(feature = "book")]
@@ -123,6 +127,8 @@ pub use net::{NetLine, NET_BYTES, NET_SCRATCH};
 #[cfg(feature = "book")]
 pub use page::{Page, PAGE_BYTES};
 pub use read::{explain_record, BadRecord, RecordFault};
+#[cfg(feature = "book")]
+pub use shelf::{Batch, Shelf};
 pub use text::{OwnedEvent, TextError};
 #[cfg(feature = "book")]
 pub use view::{GatewayCancel, Order, Pending, Request};

@@ -46,6 +46,10 @@ pub struct Page {
 }
 
 impl Page {
+    pub(crate) fn of(bytes: Vec<u8>) -> Self {
+        Self { bytes }
+    }
+
     /// The bytes, as the library printed them.
     /// ```
     /// # use jubafiye::{Book, Booking, Event, Qty, Side};

@@ -5,6 +5,7 @@
 #include <string.h>
 
 static uint8_t book[JUBAFIYE_BOOK_BYTES];
+static uint8_t archive[JUBAFIYE_BOOK_BYTES];
 static uint8_t answer[JUBAFIYE_ANSWER_BYTES];
 static uint8_t out[JUBAFIYE_PAGE_BYTES];
 static uint8_t lines[JUBAFIYE_NET_BYTES];
@@ -112,6 +113,25 @@ int main(void) {
     expect("events, the rest", ran.refusal == JUBAFIYE_TAKEN && ran.events == 2 && ran.read == whole - one && ran.written == 2);
     static const uint8_t said[] = {0, 5, 0, 0, 0, 0, JUBAFIYE_REFUSED_IN_USE, JUBAFIYE_REFUSED_RECORD, 7};
     expect("what was said", memcmp(answers, said, sizeof said) == 0);
+
+    /* Order A could not be sent, which ends it; it goes to the archive, and may not go there twice. */
+    static const uint8_t unsent[] = {JUBAFIYE_EVENT_SEND_FAILED, 0x22, 0, 0x10, 0, 3, 0, 1, 'A', 1, 't'};
+    expect("an archive", start(archive, sizeof archive, 7) == JUBAFIYE_TAKEN);
+    Counted moved = retire(book, sizeof book, archive, sizeof archive);
+    expect("retire, none done", moved.refusal == JUBAFIYE_TAKEN && moved.number == 0);
+    expect("A ends", event(book, sizeof book, unsent, sizeof unsent, answer, sizeof answer) == JUBAFIYE_TAKEN);
+    moved = retire(book, sizeof book - 1, archive, sizeof archive - 1);
+    expect("retire, no book", moved.refusal == JUBAFIYE_REFUSED_BOOK && moved.number == 0);
+    moved = retire(book, sizeof book, archive, sizeof archive - 1);
+    expect("retire, no archive", moved.refusal == JUBAFIYE_REFUSED_BAD_ARCHIVE && moved.number == 0);
+    moved = retire(book, sizeof book, archive, sizeof archive);
+    expect("retire", moved.refusal == JUBAFIYE_TAKEN && moved.number == 1);
+    expect("the book after it", page(book, sizeof book, out, 0).number == 0);
+    expect("the archive after it", page(archive, sizeof archive, out, sizeof out).number == JUBAFIYE_PAGE_LINE && out[0] == 'A');
+    expect("A again", event(book, sizeof book, booking, sizeof booking, answer, sizeof answer) == JUBAFIYE_TAKEN &&
+                          event(book, sizeof book, unsent, sizeof unsent, answer, sizeof answer) == JUBAFIYE_TAKEN);
+    moved = retire(book, sizeof book, archive, sizeof archive);
+    expect("retire, in the archive", moved.refusal == JUBAFIYE_REFUSED_IN_ARCHIVE && moved.number == 0);
 
     if (!failed) {
         printf("calls: each function from C\n");

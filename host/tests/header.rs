@@ -62,6 +62,9 @@ fn refusals_and_alarms() {
         ("MARK_NAME", Refusal::MarkName),
         ("NO_MARK", Refusal::NoMark),
         ("NO_PLACE", Refusal::NoPlace),
+        ("BAD_ARCHIVE", Refusal::BadArchive),
+        ("IN_ARCHIVE", Refusal::InArchive),
+        ("FULL_ARCHIVE", Refusal::FullArchive),
     ];
     for (name, refusal) in refusals {
         assert_eq!(number(&format!("REFUSED_{name}")), Some(refusal.number() as usize), "{name}");

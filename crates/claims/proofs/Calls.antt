@@ -141,7 +141,7 @@ kinds_right i =
     split_if P _ (λ t. (omega arith, omega arith))
     (λ t. split_if P _ (λ u. (omega arith, omega arith)) (λ u. event_kind i.event (eqb-true (event_refusal i.event) 0 (not-false _ u))))
 
-kinds : Kinds read_call
+pub kinds : Kinds read_call
 unfolding kind_of
 kinds = record {
   above = λ i e z. omega (arith, (kinds_right i).0, ap kind_of z);

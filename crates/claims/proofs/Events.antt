@@ -31,11 +31,11 @@ bytes_append : (b : List ℕ) (cs ds : List Call) → bytes_after b (cs ++ ds) �
 bytes_append b [] ds = refl
 bytes_append b (c ∷ cs) ds = bytes_append (event_of b c.event c.answer).book cs ds
 
-left_is : (b : List ℕ) → Passes b → (t : Taking) → book_left b t ≡ bytes_after b (singly b t)
+pub left_is : (b : List ℕ) → Passes b → (t : Taking) → book_left b t ≡ bytes_after b (singly b t)
 left_is b p (one c) = refl
 left_is b p (several rs a bytes) = (facts b rs a (kept_check b p.passes) bytes).book
 
-left_passes : (b : List ℕ) → Passes b → (t : Taking) → Passes (book_left b t)
+pub left_passes : (b : List ℕ) → Passes b → (t : Taking) → Passes (book_left b t)
 left_passes b p t = subst Passes (sym (left_is b p t)) (passes_after_calls b p (singly b t))
 
 same : (b : List ℕ) → Passes b → (ts : List Taking) → all_left b ts ≡ bytes_after b (all_singly b ts)
@@ -47,7 +47,7 @@ same b p (t ∷ ts) =
 
 -- ---- the history
 
-past_more : (b : List ℕ) (past : List Entry) (cs : List Call) → (calls entries b past cs).past ≡ lines_of b cs ++ past
+pub past_more : (b : List ℕ) (past : List Entry) (cs : List Call) → (calls entries b past cs).past ≡ lines_of b cs ++ past
 past_more b past [] = refl
 past_more b past (c ∷ cs) =
     let left : List ℕ = (event_of b c.event c.answer).book in

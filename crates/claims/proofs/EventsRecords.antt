@@ -1,8 +1,8 @@
 -- The records at the front of bytes, as a relation: which records there are, how many bytes they take, and what more bytes behind them add. Rests on events.
 use Rattle.std.specs.Prelude.{ℕ, zero, suc, ◌+◌, ◌*◌, ◌≤◌, ◌≡◌, ◌&&◌, refl, true, false, List, [], ◌∷◌, ◌++◌, leb, length, take, drop, get_or}
-use Rattle.std.proofs.Common.{Bool, inl, inr, ⊎_elim, arith, sym, ap, ◌∙◌, subst, length-append, length-drop, drop-drop, take-add, leb-true, le-leb}
+use Rattle.std.proofs.Common.{Bool, inl, inr, ⊎_elim, arith, sym, ap, ◌∙◌, subst, length-append, length-drop, drop-drop, take-add, le-leb}
 use Rattle.std.proofs.Math.ListN.{get_or-append}
-use Rattle.std.proofs.lemmas.Bool.{leb-false, and_parts, and_from, lt-leb}
+use Rattle.std.proofs.lemmas.Bool.{leb-false, and_from, lt-leb}
 use Rattle.std.proofs.lemmas.List.{take-append-le, drop-append-le}
 use Rattle.prelude.specs.Number.{Bytes, number, bytes_of, word16}
 use Rattle.prelude.specs.Span.{span}

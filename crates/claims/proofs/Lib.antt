@@ -23,3 +23,16 @@ pub mod EventsRun
 pub mod EventsHeard
 pub mod EventsCalls
 pub mod Events
+pub mod RetireHolds
+pub mod Retired
+pub mod RetirePlaced
+pub mod RetireSums
+pub mod RetireOwn
+pub mod RetireWhole
+pub mod Retire
+pub mod RetireCalls
+pub mod RetireGone
+pub mod RetireMoves
+pub mod RetireTaken
+pub mod RetireSince
+pub mod Unnoticed

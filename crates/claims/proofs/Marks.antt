@@ -37,7 +37,7 @@ passes_after b r p bytes same keeps = go (eqb r.returned 0) refl
 set_passes : (b name places : List ℕ) → Passes b → Passes (set_mark_of b name places).book
 set_passes b name places p = subst Passes (sym (calls_keep.same_book b name places)) p
 
-return_passes : (b name places : List ℕ) → Passes b → Bytes places → Passes (return_of b name places).book
+pub return_passes : (b name places : List ℕ) → Passes b → Bytes places → Passes (return_of b name places).book
 return_passes b name places p bytes =
     let k = calls_keep.returns b name places in
     passes_after b (return_of b name places) p (k.bytes p.bytes bytes).0 (λ z. (k.refused z).0) k.keeps

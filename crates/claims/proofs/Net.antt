@@ -28,7 +28,7 @@ held_passes (back h g ∷ is) s p = held_passes is _ g
 
 -- ---- the call on a book that passes
 
-says : (b : List ℕ) → Passes b → Says b (filled_in (book_of b))
+pub says : (b : List ℕ) → Passes b → Says b (filled_in (book_of b))
 says b p scratch lines g h =
     let w : Written = net_call b scratch lines in
     let r : IsWritten b lines w = (sound_call b scratch lines).enough (kept_check b p.passes) g h in (

@@ -10,3 +10,9 @@ pub mod Marks
 pub mod Events
 pub mod Needs
 pub mod Venue
+pub mod RetireSince
+pub mod Retire
+pub mod RetirePlaced
+pub mod RetireWrong
+pub mod RetireWrongNumbers
+pub mod Unnoticed

@@ -1,12 +1,17 @@
 // A day: records from standard input, each after its length in two bytes, go to one book in their order, as
 // many in one call of `events` as have come. For each event a line says its number, the refusal, how many
 // messages went out, and the two alarms. A record that the end of the input cuts gets the refusal of one that
-// does not read whole. Rests on prelude, store, gateway and input.
+// does not read whole. Standard error has how many events were refused and with what number, and says so if a
+// record was cut. Rests on prelude, store, gateway and input.
 #![tactic(auto)]
 
 use prelude::Refusal;
 use std::{fmt, io};
 use store::layout;
+
+mod refused; // how many events were refused
+
+use refused::Refused;
 
 // The most ClOrdIDs that a client may use: this program's choice, as evening and try_limits have theirs.
 const SETTING: u32 = 10000;
@@ -82,6 +87,7 @@ fn main(rt: HostRuntime) -> io::Result<()> {
     rt.println("event refusal messages alarm alarm2")?;
     let mut filled = 0;
     let mut event = 0u64;
+    let mut refused = Refused::default();
     // A proved loop ends: this one after more calls than an input can have.
     for _ in 0..u64::MAX {
         let before = filled;
@@ -91,6 +97,7 @@ fn main(rt: HostRuntime) -> io::Result<()> {
         for _ in 0..ran.events {
             event = event.saturating_add(1);
             let (line, next) = told(&answers, at, event);
+            refused.count(line.refusal);
             rt.println(line)?;
             at = next;
         }
@@ -103,7 +110,8 @@ fn main(rt: HostRuntime) -> io::Result<()> {
         filled -= read;
     }
     if filled > 0 {
+        refused.cut = true;
         rt.println(Line::refused(event.saturating_add(1), Refusal::BadRecord.number()))?;
     }
-    Ok(())
+    refused.tell(&rt)
 }

@@ -20,3 +20,4 @@ pub mod SweptSteps
 pub mod Edges
 pub mod Worn
 pub mod SweptParts
+pub mod RetireLimits

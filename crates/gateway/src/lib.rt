@@ -2,10 +2,10 @@
 // `start` makes an empty book, `event` takes one record and writes the answer, `events` takes many, `check` says whether a
 // book keeps its rules, `page` prints the evening page, `open_quantity` gives a client's open quantity,
 // `net_position` writes the net position's lines, `set_mark` marks the book and `return_to_mark` makes it
-// what it was then, `needs` gives what an event will need, `chain` writes the chain of a ClOrdID. They
-// return the numbers and structures of the C functions, which gateway_c lends as they are. Each is total:
-// whatever the bytes, it returns, and a refused call has written nothing. Rests on events, rules, store, opens,
-// page, net, marks, needs and chain.
+// what it was then, `needs` gives what an event will need, `chain` writes the chain of a ClOrdID, `retire` moves
+// done orders into an archive. They return the numbers and structures of the C functions, which gateway_c lends
+// as they are. Each is total: whatever the bytes, it returns, and a refused call has written nothing. Rests on
+// events, rules, store, opens, page, net, marks, needs, chain and retire.
 #![tactic(auto)]
 
 ghost use Rattle.std.specs.Prelude.{◌≡◌};
@@ -17,6 +17,7 @@ ghost use Rattle.net.specs.Net.{IsNet};
 ghost use Rattle.marks.specs.Marks.{marked, set_mark_of, return_of};
 ghost use Rattle.needs.specs.Needs.{needs_call};
 ghost use Rattle.chain.specs.Chain.{chained, chain_call};
+ghost use Rattle.retire.specs.Retire.{retired, retire_of};
 
 use events::Ran;
 use opens::Opened;
@@ -115,4 +116,12 @@ pub fn chain(book: &[u8], client: u16, name: &[u8], list: &mut [u8]) -> Counted
     ensures { chained result list.new ≡ chain_call book.now client name.now list.old }
 {
     Counted::from(chain::chain(book, client, name, list))
+}
+
+// Moves every done order of the book with all its requests into the archive, which is a book, behind what it
+// holds; the number is that of the orders moved.
+pub fn retire(book: &mut [u8], archive: &mut [u8]) -> Counted
+    ensures { retired result book.new archive.new ≡ retire_of book.old archive.old }
+{
+    Counted::from(retire::retire(book, archive))
 }

@@ -11,6 +11,7 @@ ghost use Rattle.net.specs.Net.{IsNet};
 ghost use Rattle.marks.specs.Marks.{marked, set_mark_of, return_of};
 ghost use Rattle.needs.specs.Needs.{needs_call};
 ghost use Rattle.chain.specs.Chain.{chained, chain_call};
+ghost use Rattle.retire.specs.Retire.{retired, retire_of};
 
 use events::Ran;
 use opens::Opened;
@@ -108,4 +109,13 @@ pub extern "C" fn chain(book: &[u8], client: u16, name: &[u8], list: &mut [u8]) 
     ensures { chained result list.new ≡ chain_call book.now client name.now list.old }
 {
     gateway::chain(book, client, name, list)
+}
+
+// Moves every done order of the book with all its requests into the archive, which is a book, behind what it
+// holds; the number is that of the orders moved.
+#[unsafe(no_mangle)]
+pub extern "C" fn retire(book: &mut [u8], archive: &mut [u8]) -> Counted
+    ensures { retired result book.new archive.new ≡ retire_of book.old archive.old }
+{
+    gateway::retire(book, archive)
 }

@@ -41,7 +41,7 @@ pub record Headed (b : List ℕ) : Type 0 where
   pub requests : word16 b 2 ≤ 256
 
 -- the header's first four bytes are as they were
-same_head : (b d : List ℕ) → Headed b → length d ≡ book_size → span d 0 2 ≡ span b 0 2 → span d 2 2 ≡ span b 2 2 → Headed d
+pub same_head : (b d : List ℕ) → Headed b → length d ≡ book_size → span d 0 2 ≡ span b 0 2 → span d 2 2 ≡ span b 2 2 → Headed d
 same_head b d h l o r = record {
   long = l;
   orders = omega (arith, same_16 d b 0 (omega arith) (omega arith) o);
@@ -66,7 +66,7 @@ module _ (b : List ℕ) (h : Headed b) where
       (span_put_order b l i k o w.fits 2 2 (inl (omega arith))))
       (λ d. h)
 
-  add_order_head : (o : Order) → WholeOrder o → Headed (add_order b o)
+  pub add_order_head : (o : Order) → WholeOrder o → Headed (add_order b o)
   unfolding add_order if◌then◌otherwise◌
   add_order_head o w =
       let n : ℕ = order_count b in
@@ -86,7 +86,7 @@ module _ (b : List ℕ) (h : Headed b) where
       })
       (λ d. h)
 
-  add_request_head : (q : Request) → WholeRequest q → Headed (add_request b q)
+  pub add_request_head : (q : Request) → WholeRequest q → Headed (add_request b q)
   unfolding add_request if◌then◌otherwise◌
   add_request_head q w =
       let n : ℕ = request_count b in
@@ -169,7 +169,7 @@ module _ (n : ℕ) (h : 8 ≤ n) (w : List ℕ) (k : length w ≡ 4) where
       ∙ omega (arith, get_zeros n at, get_zeros n (at + 1))
 
 module _ (setting : ℕ) where
-  blank_head : (at : ℕ) → at + 2 ≤ 4 → word16 (blank setting) at ≡ 0
+  pub blank_head : (at : ℕ) → at + 2 ≤ 4 → word16 (blank setting) at ≡ 0
   unfolding blank
   blank_head at l = zeros_head book_size (omega arith) (bytes_of 4 setting) refl at l
 
@@ -177,7 +177,7 @@ module _ (setting : ℕ) where
   unfolding count_at if◌then◌otherwise◌
   blank_count at most l = rw (eq-eqb _ book_size (blank_length setting)) (omega (arith, blank_head at l))
 
-  blank_empty : book_of (blank setting) ≡ empty_book (setting_of (blank setting))
+  pub blank_empty : book_of (blank setting) ≡ empty_book (setting_of (blank setting))
   unfolding book_of list_below
   blank_empty = λ t. record {
     setting = setting_of (blank setting);

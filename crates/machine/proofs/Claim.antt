@@ -13,6 +13,12 @@ pub mod Records
 pub mod Steps
 pub mod Events
 pub mod Rounds
+pub mod Names
+pub mod Booked
+pub mod Told
+pub mod Sent
+pub mod Counts
+pub mod Since
 pub mod Whole
 pub mod Start
 pub mod Short

@@ -1,7 +1,7 @@
 -- The number of each refusal, as docs/SCOPE.md has them: what the C functions return.
 use Rattle.std.specs.Prelude.{ℕ}
 use Rattle.prelude.specs.declared.Refusal.{Refusal}
-use Rattle.prelude.specs.declared.Refusal.TheVariants.{BadBook, ShortAnswer, BadRecord, OutOfRange, InUse, WrongPrice, FullBook, ShortPage, BadText, NoRoom, ShortNet, ShortList, BadName, NoMark, NoPlace}
+use Rattle.prelude.specs.declared.Refusal.TheVariants.{BadBook, ShortAnswer, BadRecord, OutOfRange, InUse, WrongPrice, FullBook, ShortPage, BadText, NoRoom, ShortNet, ShortList, BadName, NoMark, NoPlace, BadArchive, InArchive, FullArchive}
 
 abbrev pub number_of : Refusal → ℕ
 number_of BadBook = 1
@@ -19,3 +19,6 @@ number_of ShortList = 12
 number_of BadName = 13
 number_of NoMark = 14
 number_of NoPlace = 15
+number_of BadArchive = 16
+number_of InArchive = 17
+number_of FullArchive = 18

@@ -43,6 +43,9 @@ pub enum Refusal {
     BadName = 13, // a mark's name is malformed
     NoMark = 14, // no mark of that name
     NoPlace = 15, // no place is free for a mark
+    BadArchive = 16, // the archive has another length or does not keep its rules
+    InArchive = 17, // a name or ClOrdID of a done order stands in the archive
+    FullArchive = 18, // the archive has no room for all done orders and their requests
 }
 
 impl Refusal {

@@ -1,5 +1,6 @@
 //! A day of events: read from a journal, a text or records, and run.
 
+use std::collections::BTreeSet;
 use std::error::Error;
 use std::fmt;
 use std::io::Read;
@@ -7,15 +8,18 @@ use std::path::Path;
 use std::time::{Duration, Instant};
 
 use desk::Journal;
-use jubafiye::{text, Answer, Book, Error as Taken, Event, Refusal};
+use jubafiye::{text, Answer, Book, Error as Taken, Event, Refusal, Shelf};
 
 /// The setting of a day that says none.
 const SETTING: u32 = 10_000;
 
 /// The records of a day, in order.
 pub struct Day {
-    pub setting: u32,
+    /// The book that it begins with.
+    first: Book,
     pub records: Vec<Vec<u8>>,
+    /// The numbers of those that a journal has as refused for want of room: before there were archives nothing retired.
+    full: BTreeSet<u64>,
 }
 
 /// An event of a day as it was run.
@@ -58,8 +62,10 @@ impl Day {
         if is_journal(&bytes) {
             let journal = Journal::read(path).map_err(|why| of_file(why.to_string()))?;
             let events = journal.events(1)?;
+            let full = events.iter().filter(|event| event.answer == Err(Refusal::Full));
             return Ok(Self {
-                setting: journal.setting(),
+                first: journal.first_book().map_err(|why| of_file(why.to_string()))?,
+                full: full.map(|event| event.seq).collect(),
                 records: events.into_iter().map(|event| event.record).collect(),
             });
         }
@@ -69,17 +75,17 @@ impl Day {
         };
         match records.map_err(of_file)? {
             records if records.is_empty() => Err(of_file("no event stands in it".into()).into()),
-            records => Ok(Self { setting: SETTING, records }),
+            records => Ok(Self { first: Book::new(SETTING), records, full: BTreeSet::new() }),
         }
     }
 
-    /// Runs the day up to an event and shows each step; gives the book then.
+    /// Runs the day up to an event and shows each step; gives the book then, with what it has retired.
     pub fn run(
         &self,
         until: Option<u64>,
         mut show: impl FnMut(&Step) -> Result<(), Box<dyn Error>>,
-    ) -> Result<Book, Box<dyn Error>> {
-        let mut book = Book::new(self.setting);
+    ) -> Result<Shelf<()>, Box<dyn Error>> {
+        let mut shelf = one_book(self.first.clone())?;
         let mut told = Instant::now();
         for (seq, record) in
             (1..).zip(&self.records).take_while(|(seq, _)| until.is_none_or(|until| *seq <= until))
@@ -88,17 +94,25 @@ impl Day {
                 eprintln!("desk: event {seq} of {}", self.records.len());
                 told = Instant::now();
             }
-            let before = concerns(&book, record);
-            let answer = match book.take_record(record) {
+            let before = concerns(&shelf, record);
+            shelf.retires(!self.full.contains(&seq));
+            let answer = match shelf.take_record(record) {
                 Ok(answer) => Ok(answer),
                 Err(Taken::Refused(refusal)) => Err(refusal),
                 Err(other) => return Err(other.into()),
             };
-            let order = before.or_else(|| concerns(&book, record));
+            let order = before.or_else(|| concerns(&shelf, record));
             show(&Step { seq, record: record.clone(), answer, order })?;
         }
-        Ok(book)
+        Ok(shelf)
     }
+}
+
+/// A shelf with one book for all clients.
+pub fn one_book(book: Book) -> Result<Shelf<()>, Refusal> {
+    let mut shelf = Shelf::keyed(book.setting(), |_| ());
+    shelf.put((), book, Vec::new())?;
+    Ok(shelf)
 }
 
 fn from_text(day: &str) -> Result<Vec<Vec<u8>>, String> {
@@ -123,16 +137,18 @@ fn from_records(mut bytes: &[u8]) -> Result<Vec<Vec<u8>>, String> {
 }
 
 /// The name of the order that an event concerns (docs/SCOPE.md, Events).
-fn concerns(book: &Book, record: &[u8]) -> Option<Vec<u8>> {
-    let request = |found: &dyn Fn(&jubafiye::Request<'_>) -> bool| {
-        book.requests().find(found).map(|request| request.order_name.to_vec())
-    };
+fn concerns(shelf: &Shelf<()>, record: &[u8]) -> Option<Vec<u8>> {
+    let by_name = |name: &[u8]| shelf.order(name).map(|order| order.name.to_vec());
     let by_client = |amend: jubafiye::Amend<'_>| {
-        request(&|request| request.client == amend.client && request.cl_ord_id == Some(amend.orig_cl_ord_id))
+        shelf.order_of(amend.client, amend.orig_cl_ord_id).map(|order| order.name.to_vec())
     };
-    let by_downstream = |downstream: &[u8]| request(&|request| request.downstream == downstream);
+    let by_downstream = |downstream: &[u8]| {
+        let name = downstream.split(|&byte| byte == b'-').next()?;
+        let mut requests = shelf.holder(name)?.requests();
+        requests.find(|request| request.downstream == downstream).map(|request| request.order_name.to_vec())
+    };
     match Event::read(record).ok()? {
-        Event::Book(booking) => book.order(booking.name).map(|order| order.name.to_vec()),
+        Event::Book(booking) => by_name(booking.name),
         Event::Cancel(amend) => by_client(amend),
         Event::Replace(replace) => by_client(replace.amend),
         Event::VenueReport(report) => by_downstream(report.downstream),
@@ -140,6 +156,6 @@ fn concerns(book: &Book, record: &[u8]) -> Option<Vec<u8>> {
         Event::UnknownAtVenue { downstream, .. }
         | Event::SendFailed { downstream, .. }
         | Event::SendAgain { downstream, .. } => by_downstream(downstream),
-        Event::GatewayCancel { name } => book.order(name).map(|order| order.name.to_vec()),
+        Event::GatewayCancel { name } => by_name(name),
     }
 }

@@ -3,7 +3,7 @@
 use std::error::Error;
 use std::fmt::Write;
 
-use jubafiye::{Alarm, Book, Event, Message, Order};
+use jubafiye::{Alarm, Event, Message, Order, Shelf};
 
 use super::day::{Day, Step};
 
@@ -83,7 +83,7 @@ fn bytes(text: &[u8]) -> String {
 /// The page of a day.
 pub fn page(day: &Day, title: &str) -> Result<String, Box<dyn Error>> {
     let mut steps = Vec::new();
-    let book = day.run(None, |step| {
+    let shelf = day.run(None, |step| {
         steps.push(Step {
             seq: step.seq,
             record: step.record.clone(),
@@ -103,12 +103,12 @@ pub fn page(day: &Day, title: &str) -> Result<String, Box<dyn Error>> {
         "<meta name=\"viewport\" content=\"width=device-width\"><style>{STYLE}</style></head><body>"
     )?;
     write!(page, "<h1>{}</h1>", plain(title))?;
-    summary(&mut page, &book, &steps)?;
-    look_at(&mut page, &book, &steps)?;
-    overview(&mut page, &book)?;
-    net(&mut page, &book)?;
+    summary(&mut page, &shelf, &steps)?;
+    look_at(&mut page, &shelf, &steps)?;
+    overview(&mut page, &shelf)?;
+    net(&mut page, &shelf)?;
     legend(&mut page)?;
-    for order in book.orders() {
+    for order in shelf.orders() {
         card(&mut page, &order, &steps)?;
     }
     others(&mut page, &steps)?;
@@ -116,13 +116,13 @@ pub fn page(day: &Day, title: &str) -> Result<String, Box<dyn Error>> {
     Ok(page)
 }
 
-fn summary(page: &mut String, book: &Book, steps: &[Step]) -> Result<(), Box<dyn Error>> {
-    let live = book.orders().filter(|order| !order.status.is_done()).count();
+fn summary(page: &mut String, shelf: &Shelf<()>, steps: &[Step]) -> Result<(), Box<dyn Error>> {
+    let live = shelf.orders().filter(|order| !order.status.is_done()).count();
     let alarms: usize =
         steps.iter().filter_map(|step| step.answer.as_ref().ok()).map(|answer| answer.alarms.len()).sum();
     let refused = steps.iter().filter(|step| step.answer.is_err()).count();
     let tiles = [
-        ("orders", book.orders().count()),
+        ("orders", shelf.orders().count()),
         ("live", live),
         ("events", steps.len()),
         ("refused events", refused),
@@ -138,9 +138,9 @@ fn summary(page: &mut String, book: &Book, steps: &[Step]) -> Result<(), Box<dyn
 }
 
 /// What a person has to look at: alarms, cancels that were given up, refused events.
-fn look_at(page: &mut String, book: &Book, steps: &[Step]) -> Result<(), Box<dyn Error>> {
+fn look_at(page: &mut String, shelf: &Shelf<()>, steps: &[Step]) -> Result<(), Box<dyn Error>> {
     let mut lines = Vec::new();
-    for order in book.stuck() {
+    for order in shelf.books().flat_map(|(_, book, _)| book.stuck()) {
         lines.push((
             None,
             format!(
@@ -177,11 +177,11 @@ fn look_at(page: &mut String, book: &Book, steps: &[Step]) -> Result<(), Box<dyn
     Ok(())
 }
 
-fn overview(page: &mut String, book: &Book) -> Result<(), Box<dyn Error>> {
+fn overview(page: &mut String, shelf: &Shelf<()>) -> Result<(), Box<dyn Error>> {
     page.push_str("<h2>Orders</h2><div class=\"wide\"><table><thead><tr><th>Order</th><th class=\"n\">Client</th><th>ClOrdID</th><th>Symbol</th><th>Side</th>");
     page.push_str("<th class=\"n\">Ordered</th><th class=\"n\">Price</th><th class=\"n\">Filled</th><th></th><th class=\"n\">Average</th>");
     page.push_str("<th class=\"n\">Leaves</th><th>Status</th></tr></thead><tbody>");
-    for order in book.orders() {
+    for order in shelf.orders() {
         let name = plain(&bytes(order.name));
         let price = order.price.map_or_else(|| "market".into(), |price| price.to_string());
         let average = if order.cum_qty.0 > 0 { order.avg_px.to_string() } else { String::new() };
@@ -210,12 +210,12 @@ fn bar(order: &Order<'_>) -> String {
     format!("<span class=\"bar\"><span style=\"width:{part}%\"></span></span>")
 }
 
-fn net(page: &mut String, book: &Book) -> Result<(), Box<dyn Error>> {
+fn net(page: &mut String, shelf: &Shelf<()>) -> Result<(), Box<dyn Error>> {
     page.push_str(
         "<h2>Net position</h2><table class=\"net\"><thead><tr><th class=\"n\">Client</th><th>Symbol</th>",
     );
     page.push_str("<th class=\"n\">Bought less sold</th></tr></thead><tbody>");
-    for line in book.net_position() {
+    for line in shelf.net_position() {
         let symbol = plain(&bytes(&line.symbol));
         let net = if line.net.0 == 0 { "0".into() } else { format!("{:+}", line.net) };
         write!(

@@ -34,7 +34,7 @@ use Rattle.machine.proofs.Numbered.{NumberedLaws, numbered_laws}
 -- ---- two requests of one text are one order's
 
 module _ (laws : NumberedLaws) (x y : Text) (m n : ℕ) (nx : name_range x ≡ true) (ny : name_range y ≡ true) (lm : m ≤ 255) (ln : n ≤ 255) where
-  same_names : same_text (name_number x m) (name_number y n) ≡ true → same_text x y ≡ true
+  pub same_names : same_text (name_number x m) (name_number y n) ≡ true → same_text x y ≡ true
   same_names e = go (cases_Bool (eqb m 0)) (cases_Bool (eqb n 0))
     where
       go : (eqb m 0 ≡ true) ⊎ (eqb m 0 ≡ false) → (eqb n 0 ≡ true) ⊎ (eqb n 0 ≡ false) → same_text x y ≡ true

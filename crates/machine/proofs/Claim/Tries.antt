@@ -1,28 +1,21 @@
--- The tries of a gateway cancel: what holds of a book's requests and of one order. Rests on machine's Claim and Since.
--- Here an order is known by its index; Whole goes over to its name.
-use Rattle.std.proofs.Common.{ℕ, ◌+◌, arith, ◌≡◌, refl, ap, ◌∙◌, ◌⊎◌, inl, inr, Bool, true, false, not, ◌&&◌, ◌||◌, Option, None, Some, List, [], ◌∷◌, ◌++◌, eqb, length, eqb-true}
+-- The tries of a gateway cancel: words for the order at an index, lists of texts, and a request's record by its ClOrdID. Rests on machine's Claim.
+use Rattle.std.proofs.Common.{ℕ, ◌+◌, arith, ◌≡◌, refl, ap, ◌∙◌, ◌⊎◌, inl, inr, Bool, true, false, not, ◌&&◌, ◌||◌, Option, None, Some, List, [], ◌∷◌, eqb, eqb-true}
 use Rattle.std.proofs.lemmas.Bool.{or_cases, cases_Bool, or_left, or_right}
-use Rattle.std.specs.List.{list_any}
 use Rattle.prelude.specs.Laws.Below.{first_ext}
 use Rattle.prelude.specs.Cases.{if◌then◌otherwise◌, maybe}
 use Rattle.prelude.specs.Laws.Cases.{clash, maybe_none, maybe_some}
 use Rattle.prelude.specs.Texts.{same_text}
 use Rattle.prelude.specs.Laws.Texts.{same_self, same_back, same_trans, same_right, same_left}
-use Rattle.prelude.specs.Totals.{how_many, those}
+use Rattle.prelude.specs.Totals.{how_many}
 use Rattle.prelude.specs.declared.Text.{Text}
 use Rattle.store.specs.declared.Request.{Request}
-use Rattle.store.specs.Book.{Book, order_in, request_in}
-use Rattle.machine.specs.Orders.{has_gateway}
+use Rattle.store.specs.Book.{Book, request_in}
 use Rattle.machine.specs.Changes.{is_first, is_replace, is_gateway, is_cancel, is_answered}
 use Rattle.store.specs.Finds.{find_name, find_downstream}
 use Rattle.machine.specs.History.{Decoded, unread, read_as, Entry}
-use Rattle.machine.specs.Claim.{holds, of_kind, starts, cancels_in, once, answered_in, fails, failed}
-use Rattle.machine.specs.Since.{known, downstreams}
+use Rattle.machine.specs.Claim.{holds, of_kind, starts, answered_in, fails}
 
 -- ---- the claim's words for the order at an index
-
-unfoldable pub is_for_at : ℕ → Book → Text → Bool
-is_for_at j b d = maybe false (λ k. eqb (request_in b k).order j) (find_downstream b d)
 
 abbrev pub asks_at : ℕ → Book → Decoded → Bool
 asks_at j b (unread n) = false
@@ -30,25 +23,6 @@ asks_at j b (read_as e) = eqb e.kind 9 && maybe false (λ i. eqb i j && starts b
 
 unfoldable pub begins_at : ℕ → Entry → Bool
 begins_at j e = eqb e.refusal 0 && asks_at j e.before e.input
-
-unfoldable pub new_by_at : Book → ℕ → Entry → List Entry → List Text
-new_by_at image j e earlier = if of_kind 2 e.input then [] otherwise those (λ d. is_for_at j e.left d && not (known image d earlier)) (once (cancels_in e.messages))
-
--- those of the image
-abbrev pub mine : ℕ → Request → Bool
-mine j q = is_gateway q && eqb q.order j
-
-abbrev pub held_at : Book → ℕ → List Text
-held_at image j = downstreams (mine j) image.requests
-
--- all that count: the new ones, and the image's until the gateway cancel begins again
-abbrev pub out_at : Book → ℕ → List Entry → List Text
-out_at image j [] = held_at image j
-out_at image j (e ∷ earlier) = new_by_at image j e earlier ++ (if begins_at j e then [] otherwise out_at image j earlier)
-
--- a number of the image's, which counts until then
-abbrev pub still_at : ℕ → List Entry → ℕ → ℕ
-still_at j past n = if list_any (begins_at j) past then 0 otherwise n
 
 -- ---- lists of texts
 
@@ -124,33 +98,9 @@ pub gateway_cancels : (q : Request) → is_gateway q ≡ true → is_cancel q �
 unfolding is_gateway is_cancel is_first is_replace
 gateway_cancels q g = let z : q.kind ≡ 3 = eqb-true _ 3 g in rw z
 
--- ---- what holds of the requests, and of one order
-
-pub record Base (image b : Book) (past : List Entry) : Type 0 where
-  -- what is held or was sent has its record, and a cancel's record is held or was sent
-  pub sent_has : (d : Text) → known image d past ≡ true → (k : ℕ) × (find_downstream b d ≡ Some k)
-  pub cancel_sent : (d : Text) (k : ℕ) → find_downstream b d ≡ Some k → is_cancel (request_in b k) ≡ true → known image d past ≡ true
-  -- a failed send's record is answered
-  pub fail_answered : (d : Text) → failed past d ≡ true → (k : ℕ) × (find_downstream b d ≡ Some k) × (is_answered (request_in b k) ≡ true)
-
 -- the record is a gateway cancel's of the order
 pub record Own (j : ℕ) (b : Book) (d : Text) : Type 0 where
   pub at : ℕ
   pub found : find_downstream b d ≡ Some at
   pub by_gateway : is_gateway (request_in b at) ≡ true
   pub of_order : (request_in b at).order ≡ j
-
--- the tries are the image's and the requests that count, but for the image's, less those whose send failed
-abbrev pub TriesOf : (image : Book) (j : ℕ) (past : List Entry) → List Text → ℕ → Type 0
-TriesOf image j past l n = n + (how_many (failed past) l + still_at j past (length (held_at image j))) ≡ length l + still_at j past (order_in image j).gateway.tries
-
-abbrev pub Tries : (image : Book) (j : ℕ) (past : List Entry) → ℕ → Type 0
-Tries image j past = TriesOf image j past (out_at image j past)
-
-pub record At (image : Book) (j : ℕ) (b : Book) (past : List Entry) : Type 0 where
-  -- what is counted is the gateway's, and each once
-  pub own : (d : Text) → holds d (out_at image j past) ≡ true → Own j b d
-  pub one : Distinct (out_at image j past)
-  -- a gateway request that is not answered is counted
-  pub unanswered : has_gateway (order_in b j) ≡ true → (d : Text) (w : Own j b d) → is_answered (request_in b w.at) ≡ false → holds d (out_at image j past) ≡ true
-  pub tries : has_gateway (order_in b j) ≡ true → Tries image j past (order_in b j).gateway.tries

@@ -2,7 +2,7 @@
 use Rattle.std.specs.Prelude.{ℕ, ◌≤◌, ◌≡◌}
 use Rattle.std.proofs.Common.{arith}
 use Rattle.prelude.specs.declared.Refusal.{Refusal}
-use Rattle.prelude.specs.declared.Refusal.TheVariants.{BadBook, ShortAnswer, BadRecord, OutOfRange, InUse, WrongPrice, FullBook, ShortPage, BadText, NoRoom, ShortNet, ShortList, BadName, NoMark, NoPlace}
+use Rattle.prelude.specs.declared.Refusal.TheVariants.{BadBook, ShortAnswer, BadRecord, OutOfRange, InUse, WrongPrice, FullBook, ShortPage, BadText, NoRoom, ShortNet, ShortList, BadName, NoMark, NoPlace, BadArchive, InArchive, FullArchive}
 use Rattle.prelude.specs.Refusal.{number_of}
 
 pub number_some : (r : Refusal) → 1 ≤ number_of r
@@ -21,6 +21,9 @@ number_some ShortList = omega arith
 number_some BadName = omega arith
 number_some NoMark = omega arith
 number_some NoPlace = omega arith
+number_some BadArchive = omega arith
+number_some InArchive = omega arith
+number_some FullArchive = omega arith
 
 pub number_not : (r : Refusal) (n : ℕ) → number_of r ≡ n → n ≡ 0 → ⊥
 number_not r n e z = absurd (omega (arith, number_some r, e, z))

@@ -3,7 +3,7 @@ use Rattle.std.specs.Prelude.{ℕ, ◌≡◌, refl, Bool, eqb, false}
 use Rattle.prelude.specs.Cases.{if◌then◌otherwise◌}
 use Rattle.prelude.specs.Laws.Cases.{split_if, split_maybe}
 use Rattle.prelude.specs.declared.Refusal.{Refusal}
-use Rattle.prelude.specs.declared.Refusal.TheVariants.{BadBook, ShortAnswer, BadRecord, OutOfRange, InUse, WrongPrice, FullBook, ShortPage, BadText, NoRoom, ShortNet, ShortList, BadName, NoMark, NoPlace}
+use Rattle.prelude.specs.declared.Refusal.TheVariants.{BadBook, ShortAnswer, BadRecord, OutOfRange, InUse, WrongPrice, FullBook, ShortPage, BadText, NoRoom, ShortNet, ShortList, BadName, NoMark, NoPlace, BadArchive, InArchive, FullArchive}
 use Rattle.prelude.specs.Refusal.{number_of}
 use Rattle.store.specs.declared.Order.{Order}
 use Rattle.store.specs.declared.Request.{Request}
@@ -36,6 +36,9 @@ numbered ShortList = refl
 numbered BadName = refl
 numbered NoMark = refl
 numbered NoPlace = refl
+numbered BadArchive = refl
+numbered InArchive = refl
+numbered FullArchive = refl
 
 abbrev Taken : Change → Type 0
 Taken c = c.refusal ≡ 0

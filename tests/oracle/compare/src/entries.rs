@@ -11,6 +11,7 @@ pub type SetMark = unsafe extern "C" fn(*const u8, usize, *const u8, usize, *mut
 pub type ReturnToMark = unsafe extern "C" fn(*mut u8, usize, *const u8, usize, *const u8, usize) -> u32;
 pub type ChainCall = unsafe extern "C" fn(*const u8, usize, u16, *const u8, usize, *mut u8, usize) -> Counted;
 pub type EventsCall = unsafe extern "C" fn(*mut u8, usize, *const u8, usize, *mut u8, usize) -> Ran;
+pub type RetireCall = unsafe extern "C" fn(*mut u8, usize, *mut u8, usize) -> Counted;
 pub type NeedsCall = unsafe extern "C" fn(*const u8, usize, *const u8, usize) -> Needs;
 
 /// A refusal, or 0 and the number that was asked for.
@@ -66,6 +67,7 @@ pub struct Entries {
     pub set_mark: SetMark,
     pub return_to_mark: ReturnToMark,
     pub chain: ChainCall,
+    pub retire: RetireCall,
 }
 
 // Each call lends whole slices for its time, which is all that an entry may touch.
@@ -138,6 +140,11 @@ impl Entries {
         let (at, length) = (list.as_mut_ptr(), list.len());
         unsafe { (self.chain)(book.as_ptr(), book.len(), client, name.as_mut_ptr(), name.len(), at, length) }
     }
+
+    pub fn retire(&self, book: &mut [u8], archive: &mut [u8]) -> Counted {
+        let (at, length) = (archive.as_mut_ptr(), archive.len());
+        unsafe { (self.retire)(book.as_mut_ptr(), book.len(), at, length) }
+    }
 }
 
 #[cfg(library)]
@@ -199,6 +206,7 @@ mod linked {
             list: *mut u8,
             list_len: usize,
         ) -> Counted;
+        pub fn retire(book: *mut u8, book_len: usize, archive: *mut u8, archive_len: usize) -> Counted;
     }
 }
 
@@ -217,6 +225,7 @@ pub fn library() -> Option<Entries> {
         set_mark: linked::set_mark,
         return_to_mark: linked::return_to_mark,
         chain: linked::chain,
+        retire: linked::retire,
     })
 }
 

@@ -19,6 +19,7 @@ use crate::layout::{self, Book, Header};
 use crate::marking::MarkFault;
 use crate::net::{self, Pair};
 use crate::page::LINE;
+use crate::retiring::RetireFault;
 use crate::running::ManyFault;
 use crate::stand_in::names;
 
@@ -228,6 +229,8 @@ pub enum Fault {
     Mark(MarkFault),
     /// A fault in many events in one call.
     Many(ManyFault),
+    /// A fault in a retirement.
+    Retire(RetireFault),
     /// A fault in what requests come to, or in their chains.
     Chain(ChainFault),
 }

@@ -22,6 +22,7 @@ use crate::mirror;
 use crate::needs;
 use crate::net::{self, LINES, SCRATCH};
 use crate::page;
+use crate::retiring::Retiring;
 use crate::running::Running;
 
 pub const STAND_IN: Entries = Entries {
@@ -36,6 +37,7 @@ pub const STAND_IN: Entries = Entries {
     set_mark,
     return_to_mark,
     chain,
+    retire,
 };
 
 thread_local! {
@@ -235,6 +237,16 @@ unsafe extern "C" fn chain(
         _ => None,
     };
     chaining::call(fault, book, || keeps(book).then(|| requests(&machine(book))), (client, name), list)
+}
+
+unsafe extern "C" fn retire(book: *mut u8, book_len: usize, archive: *mut u8, archive_len: usize) -> Counted {
+    // SAFETY: what the caller lends, twice.
+    let (book, archive) = unsafe { (lent(book, book_len), lent(archive, archive_len)) };
+    let fault = match FAULT.get() {
+        Some(Fault::Retire(fault)) => Some(fault),
+        _ => None,
+    };
+    Retiring { fault, keeps: &ask }.call(book, archive)
 }
 
 /// The requests of a machine, for chains.

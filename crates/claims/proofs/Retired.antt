@@ -1,0 +1,12 @@
+pub mod Orders
+pub mod Requests
+pub mod Words
+pub mod Links
+pub mod Moved
+pub mod Emptied
+pub mod Free
+pub mod Left
+pub mod Asked
+pub mod Stays
+pub mod Leaves
+pub mod Written

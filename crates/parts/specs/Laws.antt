@@ -1,0 +1,11 @@
+pub mod Ranks
+pub mod Passing
+pub mod Joined
+pub mod Linked
+pub mod Kept
+pub mod Rules
+pub mod Whole
+pub mod Sums
+pub mod Same
+pub mod Found
+pub mod Own

@@ -1,0 +1,3 @@
+pub mod Parts
+pub mod Alike
+pub mod Laws

@@ -1,0 +1,15 @@
+pub mod Parts
+pub mod Cancels
+pub mod Refusals
+pub mod Amends
+pub mod Reports
+pub mod Links
+pub mod Lookups
+pub mod Seen
+pub mod Fine
+pub mod Left
+pub mod Done
+pub mod Step
+pub mod Silent
+pub mod All
+pub mod Again

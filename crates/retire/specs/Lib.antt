@@ -1,0 +1,3 @@
+pub mod Retire
+pub mod Laws
+pub mod Sample
