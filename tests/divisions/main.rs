@@ -362,9 +362,14 @@ fn any(random: &mut Random) -> (u64, u64) {
 fn bench(rounds: usize) -> Result<(), String> {
     println!("bench: a million divisions, the same for each, in one thread; ms, best of {rounds} rounds");
     for (what, inputs) in [("common prices", million(common)), ("words of any length", million(any))] {
-        let by_plain = best(rounds, &inputs, |(n, d)| plain(n, d));
-        let by_long = best(rounds, &inputs, |(n, d)| long(n.into(), d) as u64);
-        let by_either = best(rounds, &inputs, |(n, d)| either(n.into(), d) as u64);
+        let [by_plain, by_long, by_either] = by_turns(
+            rounds,
+            [
+                &|| round(&inputs, |(n, d)| plain(n, d)),
+                &|| round(&inputs, |(n, d)| long(n.into(), d) as u64),
+                &|| round(&inputs, |(n, d)| either(n.into(), d) as u64),
+            ],
+        );
         let ratio = by_long / by_plain;
         println!(
             "  the {what}: single word {by_plain:.2}, two words {by_long:.2}, whichever {by_either:.2}; two words / single {ratio:.2}"
@@ -388,9 +393,14 @@ fn bench_price(rounds: usize) -> Result<(), String> {
         }
     }
     let divisions: Vec<(u64, u64)> = fills.iter().map(|fill| (fill.paid() as u64, fill.rise)).collect();
-    let by_price = best(rounds, &fills, |fill| price(&fill).0 as u64);
-    let by_plain = best(rounds, &divisions, |(n, d)| plain(n, d));
-    let by_long = best(rounds, &divisions, |(n, d)| long(n.into(), d) as u64);
+    let [by_price, by_plain, by_long] = by_turns(
+        rounds,
+        [
+            &|| round(&fills, |fill| price(&fill).0 as u64),
+            &|| round(&divisions, |(n, d)| plain(n, d)),
+            &|| round(&divisions, |(n, d)| long(n.into(), d) as u64),
+        ],
+    );
     println!(
         "  the implied prices of common fills: whole price {by_price:.2}, its division alone by the single word {by_plain:.2}, by two words {by_long:.2}"
     );
@@ -403,16 +413,24 @@ fn bench_price(rounds: usize) -> Result<(), String> {
     Ok(())
 }
 
-/// Milliseconds of the best round.
-fn best<T: Copy>(rounds: usize, inputs: &[T], divide: impl Fn(T) -> u64) -> f64 {
-    let times = (0..rounds).map(|_| {
-        let start = thread_seconds();
-        let sum = inputs.iter().fold(0_u64, |sum, &input| sum.wrapping_add(divide(input)));
-        let time = thread_seconds() - start;
-        black_box(sum);
-        time * 1e3
-    });
-    times.fold(f64::MAX, f64::min)
+/// Milliseconds of each one's best round. The rounds go by turns, so that a slow while of the machine meets all of them.
+fn by_turns<const N: usize>(rounds: usize, ones: [&dyn Fn() -> f64; N]) -> [f64; N] {
+    let mut best = [f64::MAX; N];
+    for _ in 0..rounds {
+        for (best, one) in best.iter_mut().zip(ones) {
+            *best = best.min(one());
+        }
+    }
+    best
+}
+
+/// Milliseconds of a round.
+fn round<T: Copy>(inputs: &[T], divide: impl Fn(T) -> u64) -> f64 {
+    let start = thread_seconds();
+    let sum = inputs.iter().fold(0_u64, |sum, &input| sum.wrapping_add(divide(input)));
+    let time = thread_seconds() - start;
+    black_box(sum);
+    time * 1e3
 }
 
 #[repr(C)]

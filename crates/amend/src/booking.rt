@@ -1,8 +1,8 @@
 // `book_order` of src/book.rs: a new order is booked. It equals `book_at` of specs/Booking.antt, and the
 // functions for its parts equal their definitions in machine's Machine. Rests on orders.
-ghost use Rattle.std.specs.Prelude.{◌-◌, ◌≡◌, IfOk};
-ghost use Rattle.machine.specs.Taken.{change_in};
-ghost use Rattle.machine.specs.Machine.{booked_order, first_request};
+ghost use Rattle.std.specs.Prelude.{◌-◌, ◌≡◌, IfOk, IfErr};
+ghost use Rattle.orders.specs.Left.{left_by};
+ghost use Rattle.machine.specs.Machine.{booked_order, first_request, nothing};
 ghost use Rattle.amend.specs.Booking.{book_at};
 
 use crate::priced_right;
@@ -14,8 +14,8 @@ use records::Record;
 use store::{Links, Names, Order, Request, State, kinds};
 
 #[tactic(auto, unfolding(machine::specs::Machine::booked_order))]
-fn booked_order(link: u16, e: Record) -> Order
-    ensures { result ≡ booked_order link e }
+fn booked_order(link: u16, e: &Record) -> Order
+    ensures { result ≡ booked_order link e.now }
 {
     Order {
         client: e.client,
@@ -45,8 +45,8 @@ fn booked_order(link: u16, e: Record) -> Order
 }
 
 #[tactic(auto, unfolding(machine::specs::Machine::first_request))]
-fn first_request(place: u16, e: Record) -> Request
-    ensures { result ≡ first_request (place - 1) e }
+fn first_request(place: u16, e: &Record) -> Request
+    ensures { result ≡ first_request (place - 1) e.now }
 {
     Request {
         order: place.saturating_sub(1),
@@ -62,16 +62,26 @@ fn first_request(place: u16, e: Record) -> Request
 // The order goes to `place` and its request gets `link`, each one past those in use. `fresh` says
 // that the name and the ClOrdID are unused.
 #[tactic(auto, unfolding(crate::specs::Booking::book_at), using(orders::specs::Laws::Choices::choices, orders::specs::Laws::Taken::taken))]
-pub fn book_order(place: u16, link: u16, fresh: bool, e: Record) -> Result<Change, Refusal>
-    ensures is { change_in result ≡ book_at place link fresh e }
-    ensures taken { IfOk result (λ c. c.refusal ≡ 0) }
+pub fn book_order(
+    place: u16,
+    link: u16,
+    fresh: bool,
+    e: &Record,
+    change: &mut Change,
+) -> Result<(), Refusal>
+    ensures is { left_by result change.new ≡ book_at place link fresh e.now }
+    ensures taken { IfOk result (λ done. change.new.refusal ≡ 0) }
+    ensures refused { IfErr result (λ r. change.new ≡ nothing) }
 {
     if !fresh {
+        change::nothing(change);
         return Err(Refusal::InUse);
     }
     if !priced_right(e.terms.ordtype, e) {
+        change::nothing(change);
         return Err(Refusal::WrongPrice);
     }
-    let booked = change::unchanged(place, booked_order(link, e));
-    Ok(change::adding(first_request(place, e), booked))
+    change::unchanged(place, &booked_order(link, e), change);
+    change::adding(&first_request(place, e), change);
+    Ok(())
 }

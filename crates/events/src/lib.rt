@@ -1,4 +1,4 @@
-// `event` takes an event: the questions in order, the change by value, then the change and its answer written.
+// `event` takes an event: the questions in order, the change, then the change and its answer written.
 // `events` takes many in one call, each as `event` does on the book that the one before it left: that the book
 // keeps its rules is asked once, since kept proves that an event leaves it so. Rests on step, index, rules,
 // records, orders and words.
@@ -12,8 +12,12 @@ ghost use Rattle.step.specs.Entries.{returned, event_of};
 ghost use Rattle.events.specs.Events.{many, events_of};
 ghost use Rattle.events.specs.Laws.Said.{Answered};
 
+use machine::Change;
+use orders::change::NOTHING;
 use orders::order;
 use prelude::Refusal;
+use records::Record;
+use records::zeros::NO_RECORD;
 use rules::Kept;
 use step::Asked;
 
@@ -42,9 +46,16 @@ fn keeps(book: &[u8]) -> bool
 }
 
 // Takes the event in `record` on a book that keeps its rules: the book changes, and the answer stands at the
-// start of `answer`; its length.
+// start of `answer`; its length. `event` and `change` are room for what the record reads as and what it comes
+// to: a list of events has one room for all, since both are large, and what stands in it before does not matter.
 #[tactic(auto, using(crate::specs::Laws::Entered::entered, orders::specs::Laws::Choices::choices))]
-fn take(book: &mut [u8], record: &[u8], answer: &mut [u8]) -> Result<u32, Refusal>
+fn take(
+    book: &mut [u8],
+    record: &[u8],
+    answer: &mut [u8],
+    event: &mut Record,
+    change: &mut Change,
+) -> Result<u32, Refusal>
     requires keeps { keeps_of book.old ≡ true }
     requires bytes { Bytes book.old }
     ensures is { returned (counted_of result).refusal book.new answer.new ≡ event_of book.old «record».now answer.old }
@@ -53,16 +64,18 @@ fn take(book: &mut [u8], record: &[u8], answer: &mut [u8]) -> Result<u32, Refusa
     ensures fits { Bytes book.new }
 {
     let kept = Kept { bytes: book };
-    let asked = Asked::new(&kept, record, answer.len())?;
-    let c = asked.change()?;
+    step::read(record, answer.len(), event)?;
+    let asked = Asked::new(&kept, event);
+    asked.change(change)?;
     let k = store::request_count(book);
     let origin = asked.origin;
-    let leaves = order::leaves_qty(c.order);
-    let opening = index::opening(book, c.place, c.order.client, leaves);
-    write::place_order(book, c.place, c.order);
-    write::place_requests(book, c.requests);
-    write::place_index(book, c.requests.added, k, origin, c.place, opening);
-    let out = &c.output;
+    let place = change.place;
+    let leaves = order::leaves_qty(&change.order);
+    let opening = index::opening(book, place, change.order.client, leaves);
+    write::place_order(book, place, &change.order);
+    write::place_requests(book, &change.requests);
+    write::place_index(book, change.requests.added, k, origin, place, opening);
+    let out = &change.output;
     Ok(records::write_answer(
         answer,
         out.alarm,
@@ -81,7 +94,9 @@ pub fn event(book: &mut [u8], record: &[u8], answer: &mut [u8]) -> u32
     if !keeps(book) {
         return Refusal::BadBook.number();
     }
-    match take(book, record, answer) {
+    let mut event = NO_RECORD;
+    let mut change = NOTHING;
+    match take(book, record, answer, &mut event, &mut change) {
         Ok(_) => 0,
         Err(refusal) => refusal.number(),
     }

@@ -8,8 +8,11 @@ ghost use Rattle.events.specs.Events.{has_whole, records_in, most_said, run, beg
 ghost use Rattle.events.specs.Laws.Said.{Says};
 
 use crate::{Ran, take};
+use machine::Change;
+use orders::change::NOTHING;
 use prelude::Refusal;
-use records::SHORTEST_ANSWER;
+use records::zeros::NO_RECORD;
+use records::{Record, SHORTEST_ANSWER};
 use words::get16;
 
 // What is said of an event at most: a byte for its refusal, and its answer.
@@ -44,13 +47,19 @@ fn whole(records: &[u8]) -> Option<usize>
 
 // Takes the event in `record`, and says so at the front of `answers`: a byte for its refusal and, if that is 0,
 // its answer. How many bytes that is.
-fn say(book: &mut [u8], record: &[u8], answers: &mut [u8]) -> usize
+fn say(
+    book: &mut [u8],
+    record: &[u8],
+    answers: &mut [u8],
+    event: &mut Record,
+    change: &mut Change,
+) -> usize
     requires keeps { keeps_of book.old ≡ true }
     requires bytes { Bytes book.old }
     requires room { most_said ≤ length answers.old }
     ensures { Says book.old «record».now answers.old result book.new answers.new }
 {
-    match take(book, record, &mut answers[1..]) {
+    match take(book, record, &mut answers[1..], event, change) {
         Ok(length) => {
             answers[0] = 0;
             1 + length as usize
@@ -69,6 +78,8 @@ pub(crate) fn run(book: &mut [u8], records: &[u8], answers: &mut [u8]) -> Ran
     requires bytes { Bytes book.old }
     ensures { many result book.new answers.new ≡ ran answers.old (run answers.old (begun book.old) (records_in «records».now)) }
 {
+    let mut event = NO_RECORD;
+    let mut change = NOTHING;
     let mut events = 0;
     let mut read = 0;
     let mut written = 0;
@@ -77,7 +88,13 @@ pub(crate) fn run(book: &mut [u8], records: &[u8], answers: &mut [u8]) -> Ran
             break;
         };
         let record = &records[read + 2..read + 2 + length];
-        written += say(book, record, &mut answers[written..]);
+        written += say(
+            book,
+            record,
+            &mut answers[written..],
+            &mut event,
+            &mut change,
+        );
         read += 2 + length;
         events += 1;
     }

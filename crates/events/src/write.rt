@@ -11,17 +11,17 @@ use store::Order;
 
 // The order goes to the record of its link, `place`: 0 is none, one past those in use is a new order.
 #[tactic(auto, unfolding(step::specs::Entries::place_order), using(orders::specs::Laws::Choices::choices))]
-pub(crate) fn place_order(book: &mut [u8], place: u16, o: Order)
-    ensures { book.new ≡ place_order book.old place o }
+pub(crate) fn place_order(book: &mut [u8], place: u16, o: &Order)
+    ensures { book.new ≡ place_order book.old place o.now }
 {
     if place == 0 {
         return;
     }
     if usize::from(place) <= store::order_count(book) {
-        store::store_order(book, usize::from(place - 1), o);
+        store::store_order(book, usize::from(place - 1), *o);
         return;
     }
-    store::add_order(book, o);
+    store::add_order(book, *o);
 }
 
 // The request of this link is marked as answered, with this outcome if it was not answered before; 0 is none.
@@ -37,8 +37,8 @@ fn mark_link(book: &mut [u8], link: u16, outcome: u8)
 
 // The requests settled have the change's outcome, and one may be added.
 #[tactic(auto, unfolding(step::specs::Entries::place_requests), using(orders::specs::Laws::Choices::choices))]
-pub(crate) fn place_requests(book: &mut [u8], r: Requests)
-    ensures { book.new ≡ place_requests book.old r }
+pub(crate) fn place_requests(book: &mut [u8], r: &Requests)
+    ensures { book.new ≡ place_requests book.old r.now }
 {
     mark_link(book, r.answered, r.outcome);
     mark_link(book, r.superseded, r.outcome);

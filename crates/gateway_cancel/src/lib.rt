@@ -1,5 +1,5 @@
-// src/book/gateway_cancel.rs: the gateway cancelling an order itself, as functions over structs by
-// value. Each equals its definition in machine's GatewayCancel. Rests on orders.
+// src/book/gateway_cancel.rs: the gateway cancelling an order itself, as functions over structs, which
+// are lent. Each equals its definition in machine's GatewayCancel. Rests on orders.
 #![tactic(auto)]
 
 ghost use Rattle.std.specs.Prelude.{◌≡◌};
@@ -14,23 +14,23 @@ pub mod tries;
 
 // The order's latest cancel is not answered.
 #[tactic(auto, unfolding(machine::specs::GatewayCancel::outstanding_cancel))]
-fn outstanding_cancel(findings: Findings, o: Order) -> bool
-    ensures { result ≡ outstanding_cancel findings o }
+fn outstanding_cancel(findings: &Findings, o: &Order) -> bool
+    ensures { result ≡ outstanding_cancel findings.now o.now }
 {
-    o.links.cancel != 0 && !change::is_answered(findings.cancel)
+    o.links.cancel != 0 && !change::is_answered(&findings.cancel)
 }
 
 #[tactic(auto, unfolding(machine::specs::GatewayCancel::gateway_cancel_in_flight))]
-pub fn gateway_cancel_in_flight(findings: Findings, o: Order) -> bool
-    ensures { result ≡ gateway_cancel_in_flight findings o }
+pub fn gateway_cancel_in_flight(findings: &Findings, o: &Order) -> bool
+    ensures { result ≡ gateway_cancel_in_flight findings.now o.now }
 {
-    outstanding_cancel(findings, o) && change::is_gateway(findings.cancel)
+    outstanding_cancel(findings, o) && change::is_gateway(&findings.cancel)
 }
 
 // The gateway's cancel as it begins: not yet sent.
 #[tactic(auto, unfolding(machine::specs::GatewayCancel::begun))]
-fn begun(o: Order) -> GatewayCancel
-    ensures { result ≡ begun o }
+fn begun(o: &Order) -> GatewayCancel
+    ensures { result ≡ begun o.now }
 {
     GatewayCancel {
         unsent: true,
@@ -41,16 +41,16 @@ fn begun(o: Order) -> GatewayCancel
 
 // The gateway's cancel once it is sent one time more.
 #[tactic(auto, using(crate::specs::Laws::Tries::sent_is_try))]
-fn try_sent(o: Order) -> GatewayCancel
-    ensures { result ≡ try_sent o }
+fn try_sent(o: &Order) -> GatewayCancel
+    ensures { result ≡ try_sent o.now }
 {
     tries::sent(o.gateway, o.links.current)
 }
 
 // The gateway's cancel once the gateway gives it up.
 #[tactic(auto, unfolding(machine::specs::GatewayCancel::given_up))]
-fn given_up(o: Order) -> GatewayCancel
-    ensures { result ≡ given_up o }
+fn given_up(o: &Order) -> GatewayCancel
+    ensures { result ≡ given_up o.now }
 {
     GatewayCancel {
         stuck: true,
@@ -59,42 +59,42 @@ fn given_up(o: Order) -> GatewayCancel
 }
 
 #[tactic(auto, unfolding(machine::specs::GatewayCancel::send_gateway_cancel))]
-fn send_gateway_cancel(findings: Findings, change: Change) -> Change
-    ensures { result ≡ send_gateway_cancel findings change }
+fn send_gateway_cancel(findings: &Findings, change: &mut Change)
+    ensures { change.new ≡ send_gateway_cancel findings.now change.old }
 {
     let o = change.order;
-    let mut order = change::numbered_order(findings, true, o);
-    order.gateway = try_sent(o);
-    let m = message::cancel_request(order, change::next_downstream(o));
+    let mut order = o;
+    change::numbered_order(findings, true, &mut order);
+    order.gateway = try_sent(&o);
+    let m = message::cancel_request(&order, &change::next_downstream(&o));
     let none = text::no_text();
-    let request = change::next_request(findings, o, kinds::GATEWAY, none, none);
-    change::sending_on(m, request, order, change)
+    let request = change::next_request(findings, &o, kinds::GATEWAY, &none, &none);
+    change::sending_on(&m, &request, &order, change);
 }
 
 // `start_gateway_cancel` and `cancel_order`: nothing for a done order or one whose gateway cancel
 // is in flight; behind the client's cancel it waits.
-#[tactic(auto, unfolding(machine::specs::GatewayCancel::cancel_order), using(orders::specs::Laws::Choices::choices))]
-pub fn cancel_order(findings: Findings, o: Order) -> Change
-    ensures { result ≡ cancel_order findings o }
+#[tactic(auto, unfolding(machine::specs::GatewayCancel::cancel_order, machine::specs::Changes::unchanged), using(orders::specs::Laws::Choices::choices))]
+pub fn cancel_order(findings: &Findings, o: &Order, change: &mut Change)
+    ensures { change.new ≡ cancel_order findings.now o.now }
 {
+    change::unchanged(findings.place, o, change);
     if order::is_done(o.state.status) || gateway_cancel_in_flight(findings, o) {
-        return change::unchanged(findings.place, o);
+        return;
     }
-    let mut started = o;
-    started.gateway = begun(o);
-    let c = change::unchanged(findings.place, started);
+    change.order.gateway = begun(o);
     if outstanding_cancel(findings, o) {
-        return c;
+        return;
     }
-    send_gateway_cancel(findings, c)
+    send_gateway_cancel(findings, change);
 }
 
 // A gateway cancel waits, and nothing stands in its way once the change has answered its request.
 #[tactic(auto, unfolding(machine::specs::GatewayCancel::gateway_cancel_waiting))]
-fn gateway_cancel_waiting(findings: Findings, change: Change) -> bool
-    ensures { result ≡ gateway_cancel_waiting findings change }
+fn gateway_cancel_waiting(findings: &Findings, change: &Change) -> bool
+    ensures { result ≡ gateway_cancel_waiting findings.now change.now }
 {
-    let o = change.order;
+    let o = &change.order;
     let answered = change.requests.answered;
     let blocked = outstanding_cancel(findings, o) && o.links.cancel != answered;
     order::has_gateway(o) && o.gateway.unsent && !blocked
@@ -102,54 +102,53 @@ fn gateway_cancel_waiting(findings: Findings, change: Change) -> bool
 
 // A gateway cancel that waited goes now.
 #[tactic(auto, unfolding(machine::specs::GatewayCancel::resume_gateway_cancel), using(orders::specs::Laws::Choices::choices))]
-pub fn resume_gateway_cancel(findings: Findings, change: Change) -> Change
-    ensures { result ≡ resume_gateway_cancel findings change }
+pub fn resume_gateway_cancel(findings: &Findings, change: &mut Change)
+    ensures { change.new ≡ resume_gateway_cancel findings.now change.old }
 {
     if gateway_cancel_waiting(findings, change) {
-        send_gateway_cancel(findings, change)
-    } else {
-        change
+        send_gateway_cancel(findings, change);
     }
 }
 
 #[tactic(auto, unfolding(machine::specs::GatewayCancel::stuck))]
-fn stuck(change: Change) -> Change
-    ensures { result ≡ stuck change }
+fn stuck(change: &mut Change)
+    ensures { change.new ≡ stuck change.old }
 {
-    let mut out = change;
-    out.order.gateway = given_up(change.order);
-    change::alarming(Alarm::StuckCancel.number(), out)
+    change.order.gateway = given_up(&change.order);
+    change::alarming(Alarm::StuckCancel.number(), change);
 }
 
 #[tactic(auto, unfolding(machine::specs::GatewayCancel::retry_gateway_cancel), using(orders::specs::Laws::Choices::choices))]
-fn retry_gateway_cancel(findings: Findings, change: Change) -> Change
-    ensures { result ≡ retry_gateway_cancel findings change }
+fn retry_gateway_cancel(findings: &Findings, change: &mut Change)
+    ensures { change.new ≡ retry_gateway_cancel findings.now change.old }
 {
     if MAX_GATEWAY_CANCEL_TRIES <= change.order.gateway.tries {
-        return stuck(change);
+        stuck(change);
+    } else {
+        send_gateway_cancel(findings, change);
     }
-    send_gateway_cancel(findings, change)
 }
 
 // The venue says that it is too late, or that it does not know the order.
 #[tactic(auto, unfolding(machine::specs::GatewayCancel::says_gone))]
-fn says_gone(note: Note) -> bool
-    ensures { result ≡ says_gone note }
+fn says_gone(note: &Note) -> bool
+    ensures { result ≡ says_gone note.now }
 {
     note.origin == reasons::VENUES && matches!(note.reason, reasons::TOO_LATE | reasons::UNKNOWN)
 }
 
 // A refusal's status may have made the order done, which ends the gateway cancel.
 #[tactic(auto, unfolding(machine::specs::GatewayCancel::gateway_cancel_refused), using(orders::specs::Laws::Choices::choices))]
-pub fn gateway_cancel_refused(findings: Findings, note: Note, change: Change) -> Change
-    ensures { result ≡ gateway_cancel_refused findings note change }
+pub fn gateway_cancel_refused(findings: &Findings, note: &Note, change: &mut Change)
+    ensures { change.new ≡ gateway_cancel_refused findings.now note.now change.old }
 {
-    let o = change.order;
+    let o = &change.order;
     if !order::has_gateway(o) {
-        return change;
+        return;
     }
     if says_gone(note) && o.links.current == o.gateway.origdownstream {
-        return stuck(change);
+        stuck(change);
+    } else {
+        retry_gateway_cancel(findings, change);
     }
-    retry_gateway_cancel(findings, change)
 }

@@ -75,9 +75,9 @@ pub struct Output {
 
 // What an event does. The order as it is left goes to the place that the link names: 0 is none,
 // and one past those in use is a new order. If the refusal is not 0 the event is not taken: a number,
-// since the definitions and their theorems name the field. In code a `Result` stands around the change,
-// and the number is 0. A struct with a ghost field would say so once in place of seven clauses, but each of
-// the forty functions and more that make a change on the way would wrap and unwrap it.
+// since the definitions and their theorems name the field. In code a change is lent to be written, since it is
+// large; a `Result` stands beside it, and the number is 0. A struct with a ghost field would say so once in place of
+// seven clauses, but the forty functions and more that make a change on the way would each have to prove it.
 #[derive(Clone, Copy)]
 pub struct Change {
     pub refusal: u8,

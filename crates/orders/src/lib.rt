@@ -19,8 +19,8 @@ pub const MAX_GATEWAY_CANCEL_TRIES: u8 = 3;
 
 // A request that the book knows: its link, the request, its order, and what the handling needs
 // beside them. Contracts name each part, as `known.now.link`: machine's definitions take them one by one, and
-// the theorems name those parameters. It is lent, and an event's record beside it comes by value: both can be
-// copied, and behind a reference each contract would say `e.now`.
+// the theorems name those parameters. It is lent, and so are an event's record beside it and the change that is
+// written: each is large, and what is passed by value is copied.
 #[derive(Clone, Copy)]
 pub struct Known {
     pub findings: Findings,
@@ -31,9 +31,9 @@ pub struct Known {
 
 impl Known {
     // The order as it is left, at its place, and nothing else.
-    pub fn leaving(&self, left: Order) -> Change
-        ensures { result ≡ unchanged self.now.findings.place left }
+    pub fn leaving(&self, left: &Order, change: &mut Change)
+        ensures { change.new ≡ unchanged self.now.findings.place left.now }
     {
-        change::unchanged(self.findings.place, left)
+        change::unchanged(self.findings.place, left, change);
     }
 }

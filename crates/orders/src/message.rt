@@ -11,16 +11,10 @@ use crate::order::{is_empty, leaves_qty};
 use format::{bit, codes};
 use machine::Note;
 use prelude::{Terms, Text};
-use records::{Exec, Ids, LongText, Record, Told};
+use records::zeros::{NO_EXEC, NO_IDS, NO_LONG_TEXT, NO_RECORD, NO_TOLD};
+use records::{Exec, Ids, Record, Told};
 use store::Order;
 use wide::Priced;
-
-// The zeros, as constants: a message names what it has, and takes the rest by `..`. Not derived, as in store,
-// where the reason stands.
-const NO_LONG_TEXT: LongText = LongText {
-    bytes: [0u8; 64],
-    len: 0,
-};
 
 // No price, and no rule that set one.
 pub const NO_PRICE: Priced = Priced {
@@ -35,67 +29,11 @@ pub const NO_NOTE: Note = Note {
     origin: 0,
 };
 
-const NO_TEXT: Text = Text {
-    bytes: [0; 32],
-    len: 0,
-};
-
-const NO_IDS: Ids = Ids {
-    name: NO_TEXT,
-    clordid: NO_TEXT,
-    origclordid: NO_TEXT,
-    downstream: NO_TEXT,
-    symbol: NO_TEXT,
-    venueorderid: NO_TEXT,
-    origdownstream: NO_TEXT,
-};
-
-const NO_TERMS: Terms = Terms {
-    side: 0,
-    ordtype: 0,
-    timeinforce: 0,
-    qty: 0,
-    price: 0,
-};
-
-const NO_EXEC: Exec = Exec {
-    exectype: 0,
-    status: 0,
-    lastqty: 0,
-    lastpx: 0,
-    cumqty: 0,
-    avgpx: 0,
-};
-
-const NO_TOLD: Told = Told {
-    leavesqty: 0,
-    execseq: 0,
-    fillprice: [0, 0],
-    fixedtext: 0,
-    origin: 0,
-    responseto: 0,
-    source: 0,
-};
-
-const NO_MESSAGE: Record = Record {
-    kind: 0,
-    map: 0,
-    client: 0,
-    venue: 0,
-    reason: 0,
-    verdict: 0,
-    ids: NO_IDS,
-    terms: NO_TERMS,
-    exec: NO_EXEC,
-    told: NO_TOLD,
-    text: NO_LONG_TEXT,
-};
-
 // A message with nothing in it.
 pub fn no_message() -> Record
     ensures { result ≡ no_message }
 {
-    NO_MESSAGE
+    NO_RECORD
 }
 
 // A map with one more bit if the test holds.
@@ -108,16 +46,16 @@ fn with_bit_if(map: u32, test: bool, k: u32) -> u32
 
 // Price and time in force are there if the terms have them.
 #[tactic(auto, unfolding(crate::specs::Laws::Maps::with_terms))]
-fn with_terms(map: u32, terms: Terms) -> u32
-    ensures { result ≡ with_terms map terms }
+fn with_terms(map: u32, terms: &Terms) -> u32
+    ensures { result ≡ with_terms map terms.now }
 {
     let priced = with_bit_if(map, terms.ordtype == codes::LIMIT, bit::PRICE);
     with_bit_if(priced, terms.timeinforce != 0, bit::TIMEINFORCE)
 }
 
 #[tactic(auto, unfolding(crate::specs::Laws::Maps::with_note))]
-fn with_note(map: u32, note: Note) -> u32
-    ensures { result ≡ with_note map note }
+fn with_note(map: u32, note: &Note) -> u32
+    ensures { result ≡ with_note map note.now }
 {
     let given = note.origin != 0;
     let said = with_bit_if(map, note.text.len != 0, bit::TEXT);
@@ -127,8 +65,8 @@ fn with_note(map: u32, note: Note) -> u32
 }
 
 #[tactic(auto, unfolding(crate::specs::Laws::Maps::report_map))]
-fn report_map(origclordid: Text, terms: Terms, note: Note) -> u32
-    ensures { result ≡ report_map (not (is_empty origclordid)) terms note }
+fn report_map(origclordid: &Text, terms: &Terms, note: &Note) -> u32
+    ensures { result ≡ report_map (not (is_empty origclordid.now)) terms.now note.now }
 {
     let map = format::required_of(codes::REPORT);
     let named = with_bit_if(map, !is_empty(origclordid), bit::ORIGCLORDID);
@@ -138,8 +76,8 @@ fn report_map(origclordid: Text, terms: Terms, note: Note) -> u32
 
 // A cancel reject's reason comes with its note.
 #[tactic(auto, unfolding(crate::specs::Laws::Maps::reject_map))]
-fn reject_map(name: Text, note: Note) -> u32
-    ensures { result ≡ reject_map (not (is_empty name)) note }
+fn reject_map(name: &Text, note: &Note) -> u32
+    ensures { result ≡ reject_map (not (is_empty name.now)) note.now }
 {
     let map = bits::with_bit(bits::with_bit(0, bit::CLIENT), bit::CLORDID);
     let told = bits::with_bit(bits::with_bit(map, bit::ORIGCLORDID), bit::STATUS);
@@ -150,8 +88,8 @@ fn reject_map(name: Text, note: Note) -> u32
 
 // The venue's OrderID is there if the order has one.
 #[tactic(auto, unfolding(crate::specs::Laws::Maps::venue_map))]
-fn venue_map(kind: u8, venueorderid: Text, terms: Terms) -> u32
-    ensures { result ≡ venue_map kind (not (is_empty venueorderid)) terms }
+fn venue_map(kind: u8, venueorderid: &Text, terms: &Terms) -> u32
+    ensures { result ≡ venue_map kind (not (is_empty venueorderid.now)) terms.now }
 {
     let map = format::required_of(kind);
     let named = with_bit_if(map, !is_empty(venueorderid), bit::VENUEORDERID);
@@ -159,8 +97,8 @@ fn venue_map(kind: u8, venueorderid: Text, terms: Terms) -> u32
 }
 
 // What a report says that no event does.
-fn told_of(o: Order, price: Priced, note: Note) -> Told
-    ensures { result ≡ told_of o price note }
+fn told_of(o: &Order, price: &Priced, note: &Note) -> Told
+    ensures { result ≡ told_of o.now price.now note.now }
 {
     let fillprice = price.price;
     Told {
@@ -179,25 +117,25 @@ fn told_of(o: Order, price: Priced, note: Note) -> Told
 // field at each call.
 #[tactic(auto, unfolding(machine::specs::Messages::report), using(crate::specs::Laws::Maps::report_map_lem))]
 pub fn report(
-    o: Order,
-    clordid: Text,
-    origclordid: Text,
+    o: &Order,
+    clordid: &Text,
+    origclordid: &Text,
     exectype: u8,
     lastqty: u64,
-    price: Priced,
-    note: Note,
+    price: &Priced,
+    note: &Note,
 ) -> Record
-    ensures { result ≡ report o clordid origclordid exectype lastqty price note }
+    ensures { result ≡ report o.now clordid.now origclordid.now exectype lastqty price.now note.now }
 {
     Record {
         kind: codes::REPORT,
-        map: report_map(origclordid, o.terms, note),
+        map: report_map(origclordid, &o.terms, note),
         client: o.client,
         reason: note.reason,
         ids: Ids {
             name: o.names.name,
-            clordid,
-            origclordid,
+            clordid: *clordid,
+            origclordid: *origclordid,
             symbol: o.names.symbol,
             ..NO_IDS
         },
@@ -212,7 +150,7 @@ pub fn report(
         },
         told: told_of(o, price, note),
         text: note.text,
-        ..NO_MESSAGE
+        ..NO_RECORD
     }
 }
 
@@ -221,14 +159,14 @@ pub fn report(
 #[tactic(auto, unfolding(machine::specs::Messages::cancel_reject), using(crate::specs::Laws::Maps::reject_map_lem))]
 pub fn cancel_reject(
     client: u16,
-    name: Text,
+    name: &Text,
     status: u8,
-    clordid: Text,
-    origclordid: Text,
+    clordid: &Text,
+    origclordid: &Text,
     responseto: u8,
-    note: Note,
+    note: &Note,
 ) -> Record
-    ensures { result ≡ cancel_reject client name status clordid origclordid responseto note }
+    ensures { result ≡ cancel_reject client name.now status clordid.now origclordid.now responseto note.now }
 {
     Record {
         kind: codes::CANCEL_REJECT,
@@ -236,9 +174,9 @@ pub fn cancel_reject(
         client,
         reason: note.reason,
         ids: Ids {
-            name,
-            clordid,
-            origclordid,
+            name: *name,
+            clordid: *clordid,
+            origclordid: *origclordid,
             ..NO_IDS
         },
         exec: Exec { status, ..NO_EXEC },
@@ -249,7 +187,7 @@ pub fn cancel_reject(
             ..NO_TOLD
         },
         text: note.text,
-        ..NO_MESSAGE
+        ..NO_RECORD
     }
 }
 
@@ -259,63 +197,63 @@ pub fn cancel_reject(
 #[tactic(auto, unfolding(machine::specs::Messages::to_venue), using(crate::specs::Laws::Maps::venue_map_lem))]
 fn to_venue(
     kind: u8,
-    o: Order,
-    downstream: Text,
-    venueorderid: Text,
-    origdownstream: Text,
-    terms: Terms,
+    o: &Order,
+    downstream: &Text,
+    venueorderid: &Text,
+    origdownstream: &Text,
+    terms: &Terms,
 ) -> Record
     requires { ToVenue kind }
-    ensures { result ≡ to_venue kind (extra_bits kind (not (is_empty venueorderid))) o downstream venueorderid origdownstream terms }
+    ensures { result ≡ to_venue kind (extra_bits kind (not (is_empty venueorderid.now))) o.now downstream.now venueorderid.now origdownstream.now terms.now }
 {
     Record {
         kind,
         map: venue_map(kind, venueorderid, terms),
         venue: o.venue,
         ids: Ids {
-            downstream,
+            downstream: *downstream,
             symbol: o.names.symbol,
-            venueorderid,
-            origdownstream,
+            venueorderid: *venueorderid,
+            origdownstream: *origdownstream,
             ..NO_IDS
         },
-        terms,
-        ..NO_MESSAGE
+        terms: *terms,
+        ..NO_RECORD
     }
 }
 
 #[tactic(auto, unfolding(machine::specs::Messages::new_order, crate::specs::Laws::Maps::extra_bits, format::specs::Format::required, format::specs::Format::required_bits, machine::specs::Messages::bit_if), using(crate::specs::Laws::Choices::choices))]
-pub fn new_order(o: Order, downstream: Text) -> Record
-    ensures { result ≡ new_order o downstream }
+pub fn new_order(o: &Order, downstream: &Text) -> Record
+    ensures { result ≡ new_order o.now downstream.now }
 {
     let none = text::no_text();
-    to_venue(codes::NEW_ORDER, o, downstream, none, none, o.terms)
+    to_venue(codes::NEW_ORDER, o, downstream, &none, &none, &o.terms)
 }
 
 #[tactic(auto, unfolding(machine::specs::Messages::cancel_request, crate::specs::Laws::Maps::extra_bits, format::specs::Format::required, format::specs::Format::required_bits, machine::specs::Messages::bit_if))]
-pub fn cancel_request(o: Order, downstream: Text) -> Record
-    ensures { result ≡ cancel_request o downstream }
+pub fn cancel_request(o: &Order, downstream: &Text) -> Record
+    ensures { result ≡ cancel_request o.now downstream.now }
 {
     to_venue(
         codes::CANCEL_REQUEST,
         o,
         downstream,
-        o.names.venueorderid,
-        o.names.downstream,
-        o.terms,
+        &o.names.venueorderid,
+        &o.names.downstream,
+        &o.terms,
     )
 }
 
 #[tactic(auto, unfolding(machine::specs::Messages::replace_request, crate::specs::Laws::Maps::extra_bits, format::specs::Format::required, format::specs::Format::required_bits, machine::specs::Messages::bit_if))]
-pub fn replace_request(o: Order, downstream: Text, terms: Terms) -> Record
-    ensures { result ≡ replace_request o downstream terms }
+pub fn replace_request(o: &Order, downstream: &Text, terms: &Terms) -> Record
+    ensures { result ≡ replace_request o.now downstream.now terms.now }
 {
     to_venue(
         codes::REPLACE_REQUEST,
         o,
         downstream,
-        o.names.venueorderid,
-        o.names.downstream,
+        &o.names.venueorderid,
+        &o.names.downstream,
         terms,
     )
 }

@@ -9,22 +9,22 @@ use format::codes;
 use prelude::{Terms, Text};
 use store::{Order, Request};
 
-pub fn is_empty(t: Text) -> bool
-    ensures { result ≡ is_empty t }
+pub fn is_empty(t: &Text) -> bool
+    ensures { result ≡ is_empty t.now }
 {
     t.len == 0
 }
 
 #[tactic(auto, unfolding(machine::specs::Orders::has_pending))]
-pub fn has_pending(o: Order) -> bool
-    ensures { result ≡ has_pending o }
+pub fn has_pending(o: &Order) -> bool
+    ensures { result ≡ has_pending o.now }
 {
     o.pending.request != 0
 }
 
 #[tactic(auto, unfolding(machine::specs::Orders::has_gateway))]
-pub fn has_gateway(o: Order) -> bool
-    ensures { result ≡ has_gateway o }
+pub fn has_gateway(o: &Order) -> bool
+    ensures { result ≡ has_gateway o.now }
 {
     o.gateway.origdownstream != 0
 }
@@ -53,8 +53,8 @@ pub fn leaves_of(status: u8, qty: u64, cumqty: u64) -> u64
 }
 
 #[tactic(auto, unfolding(machine::specs::Orders::leaves_qty))]
-pub fn leaves_qty(o: Order) -> u64
-    ensures { result ≡ leaves_qty o }
+pub fn leaves_qty(o: &Order) -> u64
+    ensures { result ≡ leaves_qty o.now }
 {
     leaves_of(o.state.status, o.terms.qty, o.state.cumqty)
 }
@@ -115,18 +115,16 @@ pub fn short_alarm(qty: u64, cumqty: u64, status: u8) -> Option<Alarm>
 
 // A done order has nothing pending and no gateway cancel.
 #[tactic(auto, unfolding(machine::specs::Orders::set_status), using(crate::specs::Laws::Choices::choices))]
-pub fn set_status(status: u8, o: Order) -> Order
-    ensures { result ≡ set_status status o }
+pub fn set_status(status: u8, o: &mut Order)
+    ensures { o.new ≡ set_status status o.old }
 {
     let cumqty = o.state.cumqty;
     let set = status_at(cumqty, unless_short(o.terms.qty, cumqty, status));
-    let mut out = o;
-    out.state.status = set;
+    o.state.status = set;
     if is_done(set) {
-        out.pending = store::no_pending();
-        out.gateway = store::no_gateway();
+        o.pending = store::no_pending();
+        o.gateway = store::no_gateway();
     }
-    out
 }
 
 // FIX's placeholder for no OrderID. A text to compare with, all its bytes, as the definition has it: format's
@@ -142,10 +140,10 @@ pub fn text_none() -> Text
 
 // The venue's OrderID that is kept: the first, or the one of the report that accepts a replace.
 #[tactic(auto, unfolding(machine::specs::Orders::kept_order_id), using(crate::specs::Laws::Choices::choices))]
-pub fn kept_order_id(kept: Text, given: Text, replaced: bool) -> Text
-    ensures { result ≡ kept_order_id kept given replaced }
+pub fn kept_order_id<'a>(kept: &'a Text, given: &'a Text, replaced: bool) -> &'a Text
+    ensures { result.now ≡ kept_order_id kept.now given.now replaced }
 {
-    if is_empty(given) || text::same_text(given, text_none()) {
+    if is_empty(given) || text::same_text(*given, text_none()) {
         return kept;
     }
     if is_empty(kept) || replaced {
@@ -155,19 +153,17 @@ pub fn kept_order_id(kept: Text, given: Text, replaced: bool) -> Text
 }
 
 #[tactic(auto, unfolding(machine::specs::Orders::record_venue_order_id))]
-pub fn record_venue_order_id(given: Text, replaced: bool, o: Order) -> Order
-    ensures { result ≡ record_venue_order_id given replaced o }
+pub fn record_venue_order_id(given: &Text, replaced: bool, o: &mut Order)
+    ensures { o.new ≡ record_venue_order_id given.now replaced o.old }
 {
-    let mut out = o;
-    out.names.venueorderid = kept_order_id(o.names.venueorderid, given, replaced);
-    out
+    o.names.venueorderid = *kept_order_id(&o.names.venueorderid, given, replaced);
 }
 
 // The terms of the pending replace. Field by field, here and back in amend's `new_pending`: the two are
 // records of the book without a part in common, and the definitions and theorems name their fields.
 #[tactic(auto, unfolding(machine::specs::Orders::pending_terms))]
-pub fn pending_terms(o: Order) -> Terms
-    ensures { result ≡ pending_terms o }
+pub fn pending_terms(o: &Order) -> Terms
+    ensures { result ≡ pending_terms o.now }
 {
     Terms {
         side: o.terms.side,
@@ -180,16 +176,14 @@ pub fn pending_terms(o: Order) -> Terms
 
 // The order takes the pending terms and the names of the replace's request.
 #[tactic(auto, unfolding(machine::specs::Orders::apply_replace))]
-pub fn apply_replace(request: Request, o: Order) -> Order
-    ensures { result ≡ apply_replace request o }
+pub fn apply_replace(request: &Request, o: &mut Order)
+    ensures { o.new ≡ apply_replace request.now o.old }
 {
-    let mut out = o;
-    out.names.clordid = request.clordid;
-    out.names.downstream = request.downstream;
-    out.terms = pending_terms(o);
-    out.links.current = o.pending.request;
-    out.pending = store::no_pending();
-    out
+    o.terms = pending_terms(o);
+    o.names.clordid = request.clordid;
+    o.names.downstream = request.downstream;
+    o.links.current = o.pending.request;
+    o.pending = store::no_pending();
 }
 
 // `exec_seq` goes on at 0 after its last number.
@@ -201,10 +195,8 @@ pub fn next_sequence(n: u64) -> u64
 }
 
 #[tactic(auto, unfolding(machine::specs::Orders::next_exec))]
-pub fn next_exec(o: Order) -> Order
-    ensures { result ≡ next_exec o }
+pub fn next_exec(o: &mut Order)
+    ensures { o.new ≡ next_exec o.old }
 {
-    let mut out = o;
-    out.state.execseq = next_sequence(o.state.execseq);
-    out
+    o.state.execseq = next_sequence(o.state.execseq);
 }

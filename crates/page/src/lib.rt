@@ -64,7 +64,7 @@ fn put_line(s: &mut [u8], o: Order)
     s[36] = o.state.status;
     put_quantity(s, 37, o.terms.qty);
     put_quantity(s, 51, o.state.cumqty);
-    let leaves = orders::order::leaves_qty(o);
+    let leaves = orders::order::leaves_qty(&o);
     put_quantity(s, 65, leaves);
     s[79] = b' ';
     s[80] = b'\n';

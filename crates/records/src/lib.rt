@@ -23,8 +23,10 @@ mod put;
 mod scan;
 mod shape;
 mod take;
+pub mod zeros;
 
 use shape::Shape;
+use zeros::NO_RECORD;
 
 // The head of an answer: its length in 2 bytes, how many messages, the alarm, the second alarm.
 pub const HEAD: usize = 5;
@@ -138,17 +140,28 @@ fn name_in_map(map: u32, name: Text) -> bool
 }
 
 // The numbers in the fields of a record, if each field is in its range.
-fn numbers_in(shape: &Shape<'_>) -> Result<[u64; 32], Refusal>
-    ensures ok { IfOk result (Numbered shape.now.bytes.now shape.now.start) }
+fn numbers_in(shape: &Shape<'_>, numbers: &mut [u64; 32]) -> Result<(), Refusal>
+    ensures ok { IfOk result (λ done. Numbered shape.now.bytes.now shape.now.start numbers.new) }
     ensures err { IfErr result (λ r. (ranged shape.now.bytes.now shape.now.start ≡ false) × (r ≡ OutOfRange)) }
 {
-    let numbers = scan::values(shape)?;
+    scan::values(shape, numbers)?;
     let name = take::text_in(shape.field(bit::NAME));
     if name_in_map(shape.map, name) {
-        Ok(numbers)
+        Ok(())
     } else {
         Err(Refusal::OutOfRange)
     }
+}
+
+// Puts the record that has this shape where it is lent, if each of its fields is in its range.
+fn put_record_in(shape: &Shape<'_>, record: &mut Record) -> Result<(), Refusal>
+    ensures ok { IfOk result (λ done. (ranged shape.now.bytes.now shape.now.start ≡ true) × («record».new ≡ record_at shape.now.bytes.now shape.now.start)) }
+    ensures err { IfErr result (λ r. (ranged shape.now.bytes.now shape.now.start ≡ false) × (r ≡ OutOfRange) × («record».new ≡ «record».old)) }
+{
+    let mut numbers = [0u64; 32];
+    numbers_in(shape, &mut numbers)?;
+    take::put_built(shape, &numbers, record);
+    Ok(())
 }
 
 // The record that has this shape, if each of its fields is in its range.
@@ -156,20 +169,22 @@ fn record_in(shape: &Shape<'_>) -> Result<Record, Refusal>
     ensures ok { IfOk result (λ r. (ranged shape.now.bytes.now shape.now.start ≡ true) × (r ≡ record_at shape.now.bytes.now shape.now.start)) }
     ensures err { IfErr result (λ r. (ranged shape.now.bytes.now shape.now.start ≡ false) × (r ≡ OutOfRange)) }
 {
-    let numbers = numbers_in(shape)?;
-    Ok(take::built(shape, &numbers))
+    let mut record = NO_RECORD;
+    put_record_in(shape, &mut record)?;
+    Ok(record)
 }
 
-// An event, from a slice that is one whole record.
-pub fn read_event(s: &[u8]) -> Result<Record, Refusal>
-    ensures ok { IfOk result (λ e. (event_refusal s.now ≡ 0) × (e ≡ event_in s.now)) }
-    ensures err { IfErr result (λ r. number_of r ≡ event_refusal s.now) }
+// An event, from a slice that is one whole record, to where it is lent: a record is large, and the next thing is
+// to handle it.
+pub fn read_event(s: &[u8], event: &mut Record) -> Result<(), Refusal>
+    ensures ok { IfOk result (λ done. (event_refusal s.now ≡ 0) × (event.new ≡ event_in s.now)) }
+    ensures err { IfErr result (λ r. (number_of r ≡ event_refusal s.now) × (event.new ≡ event.old)) }
 {
     let shape = Shape::new(s, 0)?;
     if codes::EVENT_GATEWAY_CANCEL < shape.kind() || shape.end() != s.len() {
         return Err(Refusal::BadRecord);
     }
-    record_in(&shape)
+    put_record_in(&shape, event)
 }
 
 // Writes a record at o, and returns the position after it.

@@ -30,7 +30,8 @@ pub fn message_parts(s: &[u8]) -> Result<Parts, Refusal>
     if shape.end() != s.len() {
         return Err(Refusal::BadRecord);
     }
-    let numbers = crate::numbers_in(&shape)?;
+    let mut numbers = [0u64; 32];
+    crate::numbers_in(&shape, &mut numbers)?;
     let high = take::high_in(shape.field(bit::FILLPRICE));
     Ok(Parts {
         map: shape.map,

@@ -41,13 +41,13 @@ fn checked(map: u32, b: u8, field: &[u8]) -> Result<u64, Refusal>
 // The numbers of all fields, of a text its length, if all are in range. By a bit's number as
 // a u8: std has `From` of it for the u32 that bits takes and for a size, and of the index of `enumerate` none for
 // u32.
-pub(crate) fn values(shape: &Shape<'_>) -> Result<[u64; 32], Refusal>
-    ensures ok { IfOk result (Scanned shape.now.bytes.now shape.now.map shape.now.at) }
+pub(crate) fn values(shape: &Shape<'_>, numbers: &mut [u64; 32]) -> Result<(), Refusal>
+    ensures ok { IfOk result (λ done. Scanned shape.now.bytes.now shape.now.map shape.now.at numbers.new) }
     ensures err { IfErr result (λ r. (all_below (right_in shape.now.bytes.now shape.now.map shape.now.at) 32 ≡ false) × (r ≡ OutOfRange)) }
 {
-    let mut numbers = [0u64; 32];
+    *numbers = [0u64; 32];
     for b in 0..32u8 {
         numbers[usize::from(b)] = checked(shape.map, b, shape.field(u32::from(b)))?;
     }
-    Ok(numbers)
+    Ok(())
 }

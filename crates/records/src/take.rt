@@ -49,70 +49,64 @@ pub(crate) fn high_in(field: &[u8]) -> u64
     words::get64(&field[field.len().min(8)..])
 }
 
-fn ids_in(shape: &Shape<'_>) -> Ids
+fn put_ids(shape: &Shape<'_>, ids: &mut Ids)
     requires { Short shape.now.at }
-    ensures { result ≡ ids_of (tail_at shape.now.bytes.now shape.now.at) }
+    ensures { ids.new ≡ ids_of (tail_at shape.now.bytes.now shape.now.at) }
 {
-    Ids {
-        name: text_in(shape.field(bit::NAME)),
-        clordid: text_in(shape.field(bit::CLORDID)),
-        origclordid: text_in(shape.field(bit::ORIGCLORDID)),
-        downstream: text_in(shape.field(bit::DOWNSTREAM)),
-        symbol: text_in(shape.field(bit::SYMBOL)),
-        venueorderid: text_in(shape.field(bit::VENUEORDERID)),
-        origdownstream: text_in(shape.field(bit::ORIGDOWNSTREAM)),
-    }
+    ids.name = text_in(shape.field(bit::NAME));
+    ids.clordid = text_in(shape.field(bit::CLORDID));
+    ids.origclordid = text_in(shape.field(bit::ORIGCLORDID));
+    ids.downstream = text_in(shape.field(bit::DOWNSTREAM));
+    ids.symbol = text_in(shape.field(bit::SYMBOL));
+    ids.venueorderid = text_in(shape.field(bit::VENUEORDERID));
+    ids.origdownstream = text_in(shape.field(bit::ORIGDOWNSTREAM));
 }
 
-// The numbers by index, as the definition of this name has them: field by field, since bits have no order that
+// The numbers by index, as the definition `record_from` has them: field by field, since bits have no order that
 // a derive follows.
-fn record_from(kind: u8, map: u32, n: &[u64; 32], high: u64, ids: Ids, text: LongText) -> Record
+fn put_numbers(kind: u8, map: u32, n: &[u64; 32], high: u64, record: &mut Record)
     requires { Narrow n.now }
-    ensures { result ≡ record_from kind map n.now high ids text }
+    ensures { «record».new ≡ record_from kind map n.now high «record».old.ids «record».old.text }
 {
-    Record {
-        kind,
-        map,
-        client: n[0] as u16,
-        venue: n[1] as u16,
-        reason: n[19] as u32,
-        verdict: n[23] as u8,
-        ids,
-        terms: Terms {
-            side: n[7] as u8,
-            ordtype: n[8] as u8,
-            timeinforce: n[11] as u8,
-            qty: n[9],
-            price: n[10],
-        },
-        exec: Exec {
-            exectype: n[12] as u8,
-            status: n[13] as u8,
-            lastqty: n[14],
-            lastpx: n[15],
-            cumqty: n[16],
-            avgpx: n[17],
-        },
-        told: Told {
-            leavesqty: n[24],
-            execseq: n[25],
-            fillprice: [n[26], high],
-            fixedtext: n[27] as u8,
-            origin: n[28] as u8,
-            responseto: n[29] as u8,
-            source: n[31] as u8,
-        },
-        text,
-    }
+    record.kind = kind;
+    record.map = map;
+    record.client = n[0] as u16;
+    record.venue = n[1] as u16;
+    record.reason = n[19] as u32;
+    record.verdict = n[23] as u8;
+    record.terms = Terms {
+        side: n[7] as u8,
+        ordtype: n[8] as u8,
+        timeinforce: n[11] as u8,
+        qty: n[9],
+        price: n[10],
+    };
+    record.exec = Exec {
+        exectype: n[12] as u8,
+        status: n[13] as u8,
+        lastqty: n[14],
+        lastpx: n[15],
+        cumqty: n[16],
+        avgpx: n[17],
+    };
+    record.told = Told {
+        leavesqty: n[24],
+        execseq: n[25],
+        fillprice: [n[26], high],
+        fixedtext: n[27] as u8,
+        origin: n[28] as u8,
+        responseto: n[29] as u8,
+        source: n[31] as u8,
+    };
 }
 
-// The record that has this shape and these numbers.
-pub(crate) fn built(shape: &Shape<'_>, n: &[u64; 32]) -> Record
+// Puts the record that has this shape and these numbers where it is lent: field by field, since a record is large.
+pub(crate) fn put_built(shape: &Shape<'_>, n: &[u64; 32], record: &mut Record)
     requires { Short shape.now.at × Narrow n.now }
-    ensures { result ≡ built_from shape.now.bytes.now (kind_at shape.now.bytes.now shape.now.start) shape.now.map shape.now.at n.now }
+    ensures { «record».new ≡ built_from shape.now.bytes.now (kind_at shape.now.bytes.now shape.now.start) shape.now.map shape.now.at n.now }
 {
-    let ids = ids_in(shape);
-    let text = long_in(shape.field(bit::TEXT));
+    put_ids(shape, &mut record.ids);
+    record.text = long_in(shape.field(bit::TEXT));
     let high = high_in(shape.field(bit::FILLPRICE));
-    record_from(shape.kind(), shape.map, n, high, ids, text)
+    put_numbers(shape.kind(), shape.map, n, high, record);
 }

@@ -2,9 +2,12 @@
 pub mod Places
 pub mod Beside
 pub mod Here
+pub mod Letters
 pub mod Origin
+pub mod Kinds
 pub mod Spread
 pub mod Suffix
+pub mod Gathered
 pub mod Things
 pub mod Ruled
 pub mod Keeps

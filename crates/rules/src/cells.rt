@@ -6,7 +6,8 @@ ghost use Rattle.prelude.specs.Below.{all_below};
 ghost use Rattle.prelude.specs.Number.{word16, word32, word64};
 ghost use Rattle.prelude.specs.Texts.{text_at, same_text, is_text};
 ghost use Rattle.store.specs.Layout.{book_size};
-ghost use Rattle.rules.specs.Laws.Places.{pair_agrees, cell, zero_at};
+ghost use Rattle.machine.specs.Ranges.{text_within};
+ghost use Rattle.rules.specs.Laws.Places.{cell, zero_at};
 
 use store::layout::{Bytes, TEXT_LEN};
 
@@ -48,27 +49,45 @@ pub(crate) fn same_word(book: &Bytes, x: usize, y: usize) -> bool
     u64_at(book, x) == u64_at(book, y)
 }
 
-// Whether two words stand at x and at y.
-fn same_words(book: &Bytes, x: usize, y: usize) -> bool
-    requires { (x + 16 ≤ book_size) × (y + 16 ≤ book_size) }
-    ensures { result ≡ pair_agrees book.now x y }
+// In which bits the words at x and at y differ. Differences are gathered by OR, so that there is one branch for
+// many parts (docs/SPEED.md, step 10).
+#[tactic(auto, using(crate::specs::Laws::Gathered::xor_clear))]
+pub(crate) fn word_diff(book: &Bytes, x: usize, y: usize) -> u64
+    requires { (x + 8 ≤ book_size) × (y + 8 ≤ book_size) }
+    ensures { (result == 0) ≡ (word64 book.now x == word64 book.now y) }
 {
-    same_word(book, x, y) && same_word(book, x + 8, y + 8)
+    u64_at(book, x) ^ u64_at(book, y)
 }
 
-// Whether the texts at x and y are the same: the first word that differs ends it. text's `text_is` takes a Text,
-// which would be copied out of the book for each comparison.
-#[tactic(auto, using(crate::specs::Laws::Places::words_pairs, crate::specs::Laws::Places::other_word, crate::specs::Laws::Places::all_words))]
+// Something else than 0 exactly if the texts at x and y differ. text's `text_is` takes a Text, which would be
+// copied out of the book for each comparison.
+pub(crate) fn text_diff(book: &Bytes, x: usize, y: usize) -> u64
+    requires { (x + 33 ≤ book_size) × (y + 33 ≤ book_size) }
+    ensures { (result == 0) ≡ same_text (text_at book.now x) (text_at book.now y) }
+{
+    let start = word_diff(book, x, y) | word_diff(book, x + 8, y + 8);
+    let end = word_diff(book, x + 16, y + 16) | word_diff(book, x + 24, y + 24);
+    u64::from(book[x + TEXT_LEN] ^ book[y + TEXT_LEN]) | (start | end)
+}
+
+// Whether the texts at x and y are the same.
 pub(crate) fn same_at(book: &Bytes, x: usize, y: usize) -> bool
     requires { (x + 33 ≤ book_size) × (y + 33 ≤ book_size) }
     ensures { result ≡ same_text (text_at book.now x) (text_at book.now y) }
 {
-    same_words(book, x, y)
-        && same_words(book, x + 16, y + 16)
-        && book[x + TEXT_LEN] == book[y + TEXT_LEN]
+    text_diff(book, x, y) == 0
 }
 
-// Whether the 16 bytes from an index are zeros.
+// 0 exactly if the 16 bytes from an index are zeros.
+#[tactic(auto, using(crate::specs::Laws::Places::zero_words, crate::specs::Laws::Gathered::or_clear))]
+fn rest(book: &Bytes, at: usize) -> u64
+    requires { at + 16 ≤ book_size }
+    ensures { (result == 0) ≡ all_below (zero_at book.now at) 16 }
+{
+    u64_at(book, at) | u64_at(book, at + 8)
+}
+
+// Whether they are: a test of its own, which is one instruction where it stands alone.
 #[tactic(auto, using(crate::specs::Laws::Places::zero_words))]
 fn zeros(book: &Bytes, at: usize) -> bool
     requires { at + 16 ≤ book_size }
@@ -77,8 +96,39 @@ fn zeros(book: &Bytes, at: usize) -> bool
     (u64_at(book, at) == 0) & (u64_at(book, at + 8) == 0)
 }
 
-// Whether a text as it is stored stands at an index: zeros after it, up to 16 bytes by two parts
-// that overlap. text's `text_fine` is a call; this is compiled into its callers (docs/SPEED.md, step 7).
+// Whether an empty text stands at an index.
+#[tactic(auto, using(crate::specs::Laws::Kinds::zero_text))]
+pub(crate) fn empty(book: &Bytes, at: usize) -> bool
+    requires { at + 33 ≤ book_size }
+    ensures { result ≡ text_within 0 0 (text_at book.now at) }
+{
+    (book[at + TEXT_LEN] == 0) & zeros(book, at) & zeros(book, at + 16)
+}
+
+// 0 exactly if a text of at most 16 bytes as it is stored stands at an index: zeros after it, by two parts
+// that overlap.
+#[tactic(auto, using(crate::specs::Laws::Places::filled_parts, crate::specs::Laws::Gathered::or_clear))]
+pub(crate) fn short_diff(book: &Bytes, at: usize) -> u64
+    requires { (at + 33 ≤ book_size) × ((text_at book.now at).len ≤ 16) }
+    ensures { (result == 0) ≡ is_text (text_at book.now at) }
+{
+    rest(book, at + usize::from(book[at + TEXT_LEN])) | rest(book, at + 16)
+}
+
+// 0 exactly if a text as it is stored stands at an index. text's `text_fine` is a call; the rest is compiled into
+// its callers (docs/SPEED.md, step 7).
+#[tactic(auto, using(text::specs::Laws::InPlace::text_fine_here, crate::specs::Laws::Gathered::fault_clear))]
+pub(crate) fn filled_diff(book: &Bytes, at: usize) -> u64
+    requires { at + 33 ≤ book_size }
+    ensures { (result == 0) ≡ is_text (text_at book.now at) }
+{
+    if book[at + TEXT_LEN] > 16 {
+        return u64::from(!text::text_fine(book, at));
+    }
+    short_diff(book, at)
+}
+
+// Whether a text as it is stored stands at an index.
 #[tactic(auto, using(text::specs::Laws::InPlace::text_fine_here, crate::specs::Laws::Places::filled_parts))]
 pub(crate) fn filled(book: &Bytes, at: usize) -> bool
     requires { at + 33 ≤ book_size }
@@ -89,6 +139,14 @@ pub(crate) fn filled(book: &Bytes, at: usize) -> bool
         return text::text_fine(book, at);
     }
     zeros(book, at + n) & zeros(book, at + 16)
+}
+
+// Whether a text of 1 to 32 bytes as it is stored stands at an index.
+pub(crate) fn present(book: &Bytes, at: usize) -> bool
+    requires { at + 33 ≤ book_size }
+    ensures { result ≡ text_within 1 32 (text_at book.now at) }
+{
+    book[at + TEXT_LEN] != 0 && filled(book, at)
 }
 
 // The cell of the text at an index and a client.

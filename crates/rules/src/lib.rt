@@ -1,9 +1,10 @@
 // The rules of the book that a buffer is, decided in place: `keeps`, and a book that is known to keep
 // them, `Kept`. Rests on machine's definitions of the rules, on index's of what is stored to be found
-// quickly, on store's layout, and on orders, text, words, bits and format. Its cost grows with the records in use. A
-// test of a few fields joins its parts by `&` and `|`, which need no branch; `&&` and `||` stand where a
-// part costs more than a branch. That an index is of a record, or a number below 1,000, stands in the
-// contracts: a type for it would be made at each turn of a loop and taken apart for each byte.
+// quickly, on store's layout, and on orders, text, words, bits and format. Its cost grows with the records in use.
+// Tests of numbers are joined by `&&`, so that the first that fails ends the check; what texts differ in is
+// gathered by OR, so that one branch decides many parts (docs/SPEED.md, step 10). That an index is of a
+// record, or a number below 1,000, stands in the contracts: a type for it would be made at each turn of a
+// loop and taken apart for each byte.
 #![tactic(auto)]
 
 ghost use Rattle.std.specs.Prelude.{◌≡◌, ◌&&◌};

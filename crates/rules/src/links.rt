@@ -49,7 +49,7 @@ fn current_ok(book: &Book<'_>, i: usize, link: u16) -> bool
         let at = layout::REQUESTS + j * layout::REQUEST;
         let kind = bytes[at + layout::REQUEST_KIND];
         ((kind == kinds::FIRST) | (kind == kinds::REPLACE))
-            & same_at(
+            && same_at(
                 bytes,
                 layout::ORDERS + i * layout::ORDER + layout::DOWNSTREAM,
                 at + layout::REQUEST_DOWNSTREAM,
@@ -67,7 +67,7 @@ fn cancel_ok(book: &Book<'_>, i: usize, link: u16) -> bool
     link == 0
         || own(book, i, link).is_some_and(move |j| {
             let kind = bytes[layout::REQUESTS + j * layout::REQUEST + layout::REQUEST_KIND];
-            (kind != kinds::FIRST) & (kind != kinds::REPLACE)
+            (kind != kinds::FIRST) && (kind != kinds::REPLACE)
         })
 }
 
@@ -82,7 +82,7 @@ fn pending_ok(book: &Book<'_>, i: usize, link: u16) -> bool
         || own(book, i, link).is_some_and(move |j| {
             let at = layout::REQUESTS + j * layout::REQUEST;
             (bytes[at + layout::REQUEST_KIND] == kinds::REPLACE)
-                & (bytes[at + layout::REQUEST_ANSWERED] == 0)
+                && (bytes[at + layout::REQUEST_ANSWERED] == 0)
         })
 }
 
@@ -140,9 +140,9 @@ fn links_at(book: &Book<'_>, count: u16, i: usize) -> bool
     let bytes = book.bytes;
     let at = layout::ORDERS + i * layout::ORDER;
     current_ok(book, i, u16_at(bytes, at + layout::CURRENT))
-        & cancel_ok(book, i, u16_at(bytes, at + layout::CANCEL))
-        & pending_ok(book, i, u16_at(bytes, at + layout::PENDING_REQUEST))
-        & counts_ok(bytes, count, i)
+        && cancel_ok(book, i, u16_at(bytes, at + layout::CANCEL))
+        && pending_ok(book, i, u16_at(bytes, at + layout::PENDING_REQUEST))
+        && counts_ok(bytes, count, i)
 }
 
 // The orders in use; next has how many requests each has.

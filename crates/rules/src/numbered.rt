@@ -1,6 +1,6 @@
 // Whether a text is a name with a number, in place: the name by words that overlap, the dash and the
 // digits as one word, and zeros after them. Rests on cells.
-ghost use Rattle.std.specs.Prelude.{◌≡◌, ◌+◌, ◌<◌, ◌≤◌, true};
+ghost use Rattle.std.specs.Prelude.{◌≡◌, ◌+◌, ◌<◌, ◌≤◌, ◌==◌, true};
 ghost use Rattle.prelude.specs.Below.{all_below};
 ghost use Rattle.prelude.specs.Texts.{text_at, same_text};
 ghost use Rattle.store.specs.Layout.{book_size};
@@ -8,7 +8,7 @@ ghost use Rattle.text.specs.Numbered.{numbered_text};
 ghost use Rattle.machine.specs.Ranges.{name_range};
 ghost use Rattle.rules.specs.Laws.Suffix.{IsSuffix, alike_at};
 
-use crate::cells::{filled, same_word, u64_at};
+use crate::cells::{filled_diff, u32_at, u64_at, word_diff};
 use store::layout::{Bytes, TEXT_LEN};
 
 // The dash and the digits as a word, and how many they are: a word and no buffer, since they are compared by
@@ -55,18 +55,23 @@ fn same_few(book: &Bytes, x: usize, y: usize, n: usize) -> bool
     (0..n).all(|p| book[x + p] == book[y + p])
 }
 
-// The same, from 8 bytes on by three places that overlap.
-#[tactic(auto, using(crate::specs::Laws::Suffix::start_words))]
-fn same_start(book: &Bytes, x: usize, y: usize, n: usize) -> bool
+// 0 exactly if they are: from 8 bytes on by three words that overlap, from 4 by two halves.
+#[tactic(auto, using(crate::specs::Laws::Suffix::start_words, crate::specs::Laws::Gathered::start_halves, crate::specs::Laws::Gathered::or_clear, crate::specs::Laws::Gathered::xor_clear, crate::specs::Laws::Gathered::fault_clear))]
+fn start_diff(book: &Bytes, x: usize, y: usize, n: usize) -> u64
     requires { (x + 33 ≤ book_size) × (y + 33 ≤ book_size) × (n ≤ 20) }
-    ensures { result ≡ all_below (alike_at book.now x y) n }
+    ensures { (result == 0) ≡ all_below (alike_at book.now x y) n }
 {
+    if n < 4 {
+        return u64::from(!same_few(book, x, y, n));
+    }
     if n < 8 {
-        return same_few(book, x, y, n);
+        let last = n - 4;
+        let first = u32_at(book, x) ^ u32_at(book, y);
+        return u64::from(first | (u32_at(book, x + last) ^ u32_at(book, y + last)));
     }
     let last = n - 8;
     let mid = last / 2;
-    same_word(book, x, y) & same_word(book, x + mid, y + mid) & same_word(book, x + last, y + last)
+    word_diff(book, x, y) | word_diff(book, x + mid, y + mid) | word_diff(book, x + last, y + last)
 }
 
 // Whether the text at an index is the name at another, a dash and k.
@@ -79,5 +84,7 @@ pub(crate) fn numbered(book: &Bytes, at: usize, from: usize, k: u16) -> bool
     if usize::from(book[at + TEXT_LEN]) != n + tail.len {
         return false;
     }
-    same_start(book, at, from, n) && u64_at(book, at + n) == tail.word && filled(book, at)
+    let start = start_diff(book, at, from, n);
+    let end = u64_at(book, at + n) ^ tail.word;
+    (start | end | filled_diff(book, at)) == 0
 }

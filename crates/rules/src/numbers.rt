@@ -1,81 +1,30 @@
 // One request: its fields' ranges, its outcome, its order, its number among its order's, a gateway cancel
 // in flight, and its OrigClOrdID's link. Rests on store's flags, orders, beside, numbered and cells.
 // A struct of book, request, order and number would be made and taken apart again for each request.
-ghost use Rattle.std.specs.Prelude.{◌≡◌, ℕ, ◌+◌, ◌<◌, ◌≤◌, true, false, ◌&&◌, MatchOption};
+ghost use Rattle.std.specs.Prelude.{◌≡◌, ◌≢◌, ℕ, ◌+◌, ◌<◌, ◌≤◌, true, false, ◌&&◌, MatchOption};
 ghost use Rattle.prelude.specs.Below.{all_below};
-ghost use Rattle.prelude.specs.Cases.{if◌then◌otherwise◌};
-ghost use Rattle.prelude.specs.Texts.{text_at, is_text, same_text};
-ghost use Rattle.store.specs.Layout.{book_size, most_orders, most_requests};
+ghost use Rattle.prelude.specs.Texts.{is_text, same_text};
+ghost use Rattle.store.specs.Layout.{most_orders, most_requests};
 ghost use Rattle.store.specs.Book.{order_at, request_at};
 ghost use Rattle.machine.specs.Ranges.{text_within, name_range};
-ghost use Rattle.machine.specs.Rules.{outcome_rule, name_number, number_rule, in_flight_rule};
+ghost use Rattle.machine.specs.Rules.{in_flight_rule};
 ghost use Rattle.rules.specs.Laws.Beside.{beside_at};
 ghost use Rattle.rules.specs.Laws.Here.{range_at, sent_rule, request_here, pass_at, IsPass};
-ghost use Rattle.rules.specs.Laws.Origin.{fields_range};
+ghost use Rattle.rules.specs.Laws.Kinds.{marks_right, kind_here, amend_here};
 
 use crate::beside::origin_ok;
 use crate::book::Book;
-use crate::cells::{filled, same_at, u16_at};
+use crate::cells::{empty, present, same_at, u16_at};
 use crate::numbered::numbered;
 use orders::order::is_done;
 use store::layout::{self, Bytes};
-use store::{kinds, outcomes, stuck_of, unsent_of};
+use store::{kinds, stuck_of, unsent_of};
 
-// A text, zeros after it, that is empty exactly if it is to be absent.
-fn optional(book: &Bytes, at: usize, absent: bool) -> bool
-    requires { at + 33 ≤ book_size }
-    ensures { result ≡ (if absent then text_within 0 0 (text_at book.now at) otherwise text_within 1 32 (text_at book.now at)) }
+// Whether a request is answered is 0 or 1, and its outcome goes with it: 0 if it is not, else 1 to 3.
+fn marks_ok(answered: u8, outcome: u8) -> bool
+    ensures { result ≡ marks_right answered outcome }
 {
-    filled(book, at) && (book[at + layout::TEXT_LEN] == 0) == absent
-}
-
-// Every field is in its range but the OrigClOrdID, which goes with its link, and the outcome.
-#[tactic(auto, using(crate::proofs::Fields::request_fields), unfolding(machine::specs::Changes::is_gateway, crate::specs::Laws::Origin::fields_range))]
-fn fields_ok(book: &Bytes, j: usize) -> bool
-    requires { j < most_requests }
-    ensures { result ≡ fields_range (request_at book.now j) }
-{
-    let at = layout::REQUESTS + j * layout::REQUEST;
-    let kind = book[at + layout::REQUEST_KIND];
-    (kind <= kinds::GATEWAY)
-        & (book[at + layout::REQUEST_ANSWERED] <= 1)
-        & optional(book, at + layout::REQUEST_CLORDID, kind == kinds::GATEWAY)
-}
-
-// The outcome is at most 3, and 0 exactly if request j is unanswered.
-#[tactic(auto, using(crate::proofs::Fields::request_fields, crate::specs::Laws::Here::outcome_mark), unfolding(machine::specs::Changes::is_answered, machine::specs::Rules::outcome_rule))]
-fn outcome_ok(book: &Bytes, j: usize) -> bool
-    requires { j < most_requests }
-    ensures { result ≡ outcome_rule (request_at book.now j) }
-{
-    let at = layout::REQUESTS + j * layout::REQUEST;
-    let outcome = book[at + layout::REQUEST_OUTCOME];
-    let open = book[at + layout::REQUEST_ANSWERED] == 0;
-    ((outcome == 0) == open) & (outcome <= outcomes::FAILED_TO_SEND)
-}
-
-// Whether the downstream ClOrdID is the name with the number k.
-fn named(book: &Bytes, j: usize, o: usize, k: u16) -> bool
-    requires { (j < most_requests) × (o < most_orders) × (k < 1000) × (name_range (order_at book.now o).names.name ≡ true) }
-    ensures { result ≡ same_text (request_at book.now j).downstream (name_number (order_at book.now o).names.name k) }
-{
-    let at = layout::REQUESTS + j * layout::REQUEST + layout::REQUEST_DOWNSTREAM;
-    let from = layout::ORDERS + o * layout::ORDER + layout::NAME;
-    if k == 0 {
-        same_at(book, at, from)
-    } else {
-        numbered(book, at, from, k)
-    }
-}
-
-// Number 0 of an order, and no other, is a first request.
-#[tactic(auto, using(std::proofs::lemmas::Bool::and_right, crate::proofs::Fields::request_fields, crate::specs::Laws::Here::number_kind), unfolding(machine::specs::Changes::is_first, machine::specs::Rules::number_rule))]
-fn number_ok(book: &Bytes, j: usize, o: usize, k: u16) -> bool
-    requires { (j < most_requests) × (o < most_orders) × (k < 1000) × (name_range (order_at book.now o).names.name ≡ true) }
-    ensures { result ≡ number_rule (order_at book.now o).names.name k (request_at book.now j) }
-{
-    let first = book[layout::REQUESTS + j * layout::REQUEST + layout::REQUEST_KIND] == kinds::FIRST;
-    first == (k == 0) && named(book, j, o, k)
+    answered <= 1 && outcome.wrapping_sub(answered) <= 2 * answered
 }
 
 // Whether order o is done, or request j is its latest cancel, with tries, sent and not stuck.
@@ -107,17 +56,73 @@ fn flight_ok(book: &Bytes, j: usize, o: usize) -> bool
         || sent_ok(book, j, o)
 }
 
+// Request j of order o, if it is a first one.
+#[tactic(auto, using(crate::proofs::Fields::request_fields, crate::proofs::Fields::order_fields))]
+fn first_ok(book: &Bytes, j: usize, o: usize) -> bool
+    requires { (j < most_requests) × (o < most_orders) }
+    ensures { result ≡ text_within 1 32 (request_at book.now j).clordid && same_text (request_at book.now j).downstream (order_at book.now o).names.name && text_within 0 0 (request_at book.now j).origclordid }
+{
+    let at = layout::REQUESTS + j * layout::REQUEST;
+    let name = layout::ORDERS + o * layout::ORDER + layout::NAME;
+    present(book, at + layout::REQUEST_CLORDID)
+        && same_at(book, at + layout::REQUEST_DOWNSTREAM, name)
+        && empty(book, at + layout::REQUEST_ORIGCLORDID)
+}
+
+// The gateway's own request j of order o, but for its name.
+#[tactic(auto, using(crate::proofs::Fields::request_fields))]
+fn gateway_ok(book: &Bytes, j: usize, o: usize) -> bool
+    requires { (j < most_requests) × (o < most_orders) }
+    ensures { result ≡ text_within 0 0 (request_at book.now j).clordid && text_within 0 0 (request_at book.now j).origclordid && in_flight_rule (j + 1) (request_at book.now j) (order_at book.now o) }
+{
+    let at = layout::REQUESTS + j * layout::REQUEST;
+    empty(book, at + layout::REQUEST_CLORDID)
+        && empty(book, at + layout::REQUEST_ORIGCLORDID)
+        && flight_ok(book, j, o)
+}
+
+// A later request j of order o, but for its name. The ClOrdIDs before it are in range.
+#[tactic(auto, using(crate::proofs::Fields::request_fields, crate::specs::Laws::Kinds::amend_gateway, crate::specs::Laws::Kinds::amend_client))]
+fn amend_ok(book: &Bytes, j: usize, o: usize) -> bool
+    requires { (j < most_requests) × (o < most_orders) × ((request_at book.now j).order ≡ o) × ((i : ℕ) → i < j → is_text (request_at book.now i).clordid ≡ true) × ((request_at book.now j).kind ≢ 0) }
+    ensures { result ≡ amend_here book.now j o }
+{
+    let at = layout::REQUESTS + j * layout::REQUEST;
+    if book[at + layout::REQUEST_KIND] == kinds::GATEWAY {
+        return gateway_ok(book, j, o);
+    }
+    present(book, at + layout::REQUEST_CLORDID) && origin_ok(book, j, o)
+}
+
+// Request j, the k-th of order o, but for its marks.
+#[tactic(auto, using(crate::proofs::Fields::request_fields, crate::proofs::Fields::order_fields, crate::specs::Laws::Kinds::kind_first, crate::specs::Laws::Kinds::kind_later))]
+fn kind_ok(book: &Bytes, j: usize, o: usize, k: u16) -> bool
+    requires { (j < most_requests) × (o < most_orders) × (k < 1000) × (name_range (order_at book.now o).names.name ≡ true) × ((request_at book.now j).order ≡ o) × ((i : ℕ) → i < j → is_text (request_at book.now i).clordid ≡ true) }
+    ensures { result ≡ kind_here book.now j o k }
+{
+    let at = layout::REQUESTS + j * layout::REQUEST;
+    let kind = book[at + layout::REQUEST_KIND];
+    if kind == kinds::FIRST {
+        return k == 0 && first_ok(book, j, o);
+    }
+    let name = layout::ORDERS + o * layout::ORDER + layout::NAME;
+    0 < k
+        && kind <= kinds::GATEWAY
+        && numbered(book, at + layout::REQUEST_DOWNSTREAM, name, k)
+        && amend_ok(book, j, o)
+}
+
 // Request j, the k-th of order o, and its OrigClOrdID's link. The ClOrdIDs before it are in range.
-#[tactic(auto, using(crate::specs::Laws::Origin::request_parts))]
+#[tactic(auto, using(crate::proofs::Fields::request_fields, crate::specs::Laws::Kinds::by_marks))]
 fn request_ok(book: &Bytes, j: usize, o: usize, k: u16) -> bool
     requires { (j < most_requests) × (o < most_orders) × (k < 1000) × (name_range (order_at book.now o).names.name ≡ true) × ((request_at book.now j).order ≡ o) × ((i : ℕ) → i < j → is_text (request_at book.now i).clordid ≡ true) }
     ensures { result ≡ request_here book.now j o k && beside_at book.now j }
 {
-    fields_ok(book, j)
-        && outcome_ok(book, j)
-        && number_ok(book, j, o, k)
-        && flight_ok(book, j, o)
-        && origin_ok(book, j, o)
+    let at = layout::REQUESTS + j * layout::REQUEST;
+    marks_ok(
+        book[at + layout::REQUEST_ANSWERED],
+        book[at + layout::REQUEST_OUTCOME],
+    ) && kind_ok(book, j, o, k)
 }
 
 // How many requests each order has, if each request in use keeps its rules and is of an order in use.

@@ -1,10 +1,10 @@
-// An event's whole effect, by value, on a book that keeps its rules: what the event finds in the book, the
+// An event's whole effect, as a change, on a book that keeps its rules: what the event finds in the book, the
 // handling of its kind, and question 7. It writes nothing. A change of `Ok` says in each contract that its field
 // `refusal` is 0: machine's definitions keep the reason there, which is an `Err` here. Rests on rules, report
 // and loads.
-ghost use Rattle.std.specs.Prelude.{◌≡◌, ◌<◌, IfOk};
+ghost use Rattle.std.specs.Prelude.{◌≡◌, ◌<◌, IfOk, IfErr};
 ghost use Rattle.store.specs.Book.{book_of};
-ghost use Rattle.machine.specs.Taken.{change_in};
+ghost use Rattle.orders.specs.Left.{left_by};
 ghost use Rattle.machine.specs.Machine.{order_of, unused, book_order, nothing, unknown_report, text_note, on_request, on_name, change_of, step_of};
 ghost use Rattle.step.specs.Steps.{origin_asked, amended, handled, unknown_of, has_room_for};
 
@@ -43,30 +43,32 @@ fn is_unused(book: &Kept<'_>, e: &Record) -> bool
 
 // Event 1.
 #[tactic(auto, using(store::specs::Laws::Stored::count_most, store::specs::Laws::Stored::length_orders, store::specs::Laws::Stored::length_requests))]
-fn book_order(book: &Kept<'_>, e: &Record) -> Result<Change, Refusal>
-    ensures is { change_in result ≡ book_order (book_of book.now.bytes.now) e.now }
-    ensures taken { IfOk result (λ c. c.refusal ≡ 0) }
+fn book_order(book: &Kept<'_>, e: &Record, change: &mut Change) -> Result<(), Refusal>
+    ensures is { left_by result change.new ≡ book_order (book_of book.now.bytes.now) e.now }
+    ensures taken { IfOk result (λ done. change.new.refusal ≡ 0) }
+    ensures refused { IfErr result (λ r. change.new ≡ nothing) }
 {
     let place = loads::link_of(store::order_count(book.bytes));
     let link = loads::link_of(store::request_count(book.bytes));
     let fresh = is_unused(book, e);
-    booking::book_order(place, link, fresh, *e)
+    booking::book_order(place, link, fresh, e, change)
 }
 
 // Events 2 and 3.
 #[tactic(auto, unfolding(crate::specs::Steps::amended), using(orders::specs::Laws::Choices::choices, crate::specs::Laws::Steps::amends, crate::specs::Laws::Steps::order_found, crate::specs::Laws::Taken::cancel_taken))]
-fn amend(asked: &Asked<'_>) -> Result<Change, Refusal>
-    requires low { 1 < asked.now.event.kind }
-    requires high { asked.now.event.kind < 4 }
-    ensures is { change_in result ≡ amended (book_of asked.now.book.bytes.now) asked.now.event }
-    ensures taken { IfOk result (λ c. c.refusal ≡ 0) }
+fn amend(asked: &Asked<'_, '_>, change: &mut Change) -> Result<(), Refusal>
+    requires low { 1 < asked.now.event.now.kind }
+    requires high { asked.now.event.now.kind < 4 }
+    ensures is { left_by result change.new ≡ amended (book_of asked.now.book.bytes.now) asked.now.event.now }
+    ensures taken { IfOk result (λ done. change.new.refusal ≡ 0) }
+    ensures refused { IfErr result (λ r. change.new ≡ nothing) }
 {
-    let book = asked.book;
+    let book = &asked.book;
     let e = asked.event;
-    let place = loads::order_of_link(&book, asked.origin);
+    let place = loads::order_of_link(book, asked.origin);
     let order = loads::order_at_link(book.bytes, place);
-    let findings = loads::findings_at(book.bytes, place, order);
-    let used = loads::order_of(&book, e.client, e.ids.clordid);
+    let findings = loads::findings_at(book.bytes, place, &order);
+    let used = loads::order_of(book, e.client, e.ids.clordid);
     let full = loads::is_full(book.bytes, e.client);
     let target = Target {
         findings,
@@ -75,27 +77,21 @@ fn amend(asked: &Asked<'_>) -> Result<Change, Refusal>
         full,
     };
     if e.kind == codes::EVENT_CANCEL {
-        Ok(amend::cancel(&target, e))
+        amend::cancel(&target, e, change);
+        Ok(())
     } else {
-        amend::replace(&target, e)
+        amend::replace(&target, e, change)
     }
-}
-
-fn nothing() -> Change
-    ensures { result ≡ nothing }
-{
-    change::unchanged(0, store::no_order())
 }
 
 // Events 4 to 8 if the venue's ClOrdID is no request's.
 #[tactic(auto, unfolding(crate::specs::Steps::unknown_of), using(orders::specs::Laws::Choices::choices))]
-fn unknown(e: &Record) -> Change
-    ensures { result ≡ unknown_of e.now }
+fn unknown(e: &Record, change: &mut Change)
+    ensures { change.new ≡ unknown_of e.now }
 {
+    change::nothing(change);
     if e.kind <= codes::EVENT_CANCEL_REJECT {
-        change::alarming(Alarm::UnknownOrder.number(), nothing())
-    } else {
-        nothing()
+        change::alarming(Alarm::UnknownOrder.number(), change);
     }
 }
 
@@ -110,30 +106,36 @@ fn text_note(e: &Record) -> Note
 
 // Events 4 to 8 on the request that they name.
 #[tactic(auto, unfolding(crate::specs::Steps::handled), using(orders::specs::Laws::Choices::choices))]
-fn handle(known: &Known, e: &Record) -> Change
-    ensures { result ≡ handled e.now known.now.findings known.now.link known.now.request known.now.order }
+fn handle(known: &Known, e: &Record, change: &mut Change)
+    ensures { change.new ≡ handled e.now known.now.findings known.now.link known.now.request known.now.order }
 {
     match e.kind {
-        codes::EVENT_REPORT => report::on_report(known, *e),
-        codes::EVENT_UNKNOWN => report::unknown_at_venue(known, *e),
-        codes::EVENT_CANCEL_REJECT => rejects::venue_cancel_reject(known, *e),
+        codes::EVENT_REPORT => report::on_report(known, e, change),
+        codes::EVENT_UNKNOWN => report::unknown_at_venue(known, e, change),
+        codes::EVENT_CANCEL_REJECT => rejects::venue_cancel_reject(known, e, change),
         codes::EVENT_SEND_FAILED => {
-            rejects::send_failed(known, e.venue, outcomes::FAILED_TO_SEND, text_note(e))
+            rejects::send_failed(
+                known,
+                e.venue,
+                outcomes::FAILED_TO_SEND,
+                &text_note(e),
+                change,
+            );
         }
-        _ => rejects::unsent(known, e.venue),
+        _ => rejects::unsent(known, e.venue, change),
     }
 }
 
 // Events 4 to 8.
 #[tactic(auto, unfolding(machine::specs::Machine::on_request), using(crate::specs::Laws::Found::order_few, prelude::specs::Laws::Cases::maybe_some, prelude::specs::Laws::Cases::maybe_none))]
-fn on_request(book: &Kept<'_>, e: &Record) -> Change
-    ensures { result ≡ on_request (unknown_of e.now) (handled e.now) (book_of book.now.bytes.now) e.now }
+fn on_request(book: &Kept<'_>, e: &Record, change: &mut Change)
+    ensures { change.new ≡ on_request (unknown_of e.now) (handled e.now) (book_of book.now.bytes.now) e.now }
 {
     match store::find_downstream(book.bytes, e.ids.downstream) {
         Some(k) => {
             let request = loads::request_in(book.bytes, k);
             let order = loads::order_in(book.bytes, usize::from(request.order));
-            let findings = loads::findings_at(book.bytes, request.order + 1, order);
+            let findings = loads::findings_at(book.bytes, request.order + 1, &order);
             let link = loads::link_of(k);
             let known = Known {
                 findings,
@@ -141,40 +143,42 @@ fn on_request(book: &Kept<'_>, e: &Record) -> Change
                 request,
                 order,
             };
-            handle(&known, e)
+            handle(&known, e, change);
         }
-        None => unknown(e),
+        None => unknown(e, change),
     }
 }
 
 // Event 9.
 #[tactic(auto, unfolding(machine::specs::Machine::on_name), using(crate::specs::Laws::Found::name_few, prelude::specs::Laws::Cases::maybe_some, prelude::specs::Laws::Cases::maybe_none))]
-fn on_name(book: &Kept<'_>, e: &Record) -> Change
-    ensures { result ≡ on_name (book_of book.now.bytes.now) e.now }
+fn on_name(book: &Kept<'_>, e: &Record, change: &mut Change)
+    ensures { change.new ≡ on_name (book_of book.now.bytes.now) e.now }
 {
     match store::find_name(book.bytes, e.ids.name) {
         Some(i) => {
             let o = loads::order_in(book.bytes, i);
-            let f = loads::findings_at(book.bytes, loads::link_of(i), o);
-            gateway_cancel::cancel_order(f, o)
+            let f = loads::findings_at(book.bytes, loads::link_of(i), &o);
+            gateway_cancel::cancel_order(&f, &o, change);
         }
-        None => nothing(),
+        None => change::nothing(change),
     }
 }
 
 #[tactic(auto, using(crate::specs::Laws::Steps::kinds, crate::specs::Laws::Taken::request_taken, crate::specs::Laws::Taken::name_taken))]
-fn change_of(asked: &Asked<'_>) -> Result<Change, Refusal>
-    ensures is { change_in result ≡ change_of (book_of asked.now.book.bytes.now) asked.now.event }
-    ensures taken { IfOk result (λ c. c.refusal ≡ 0) }
+fn change_of(asked: &Asked<'_, '_>, change: &mut Change) -> Result<(), Refusal>
+    ensures is { left_by result change.new ≡ change_of (book_of asked.now.book.bytes.now) asked.now.event.now }
+    ensures taken { IfOk result (λ done. change.new.refusal ≡ 0) }
+    ensures refused { IfErr result (λ r. change.new ≡ nothing) }
 {
     let book = &asked.book;
-    let e = &asked.event;
+    let e = asked.event;
     match e.kind {
-        codes::EVENT_BOOK => book_order(book, e),
-        codes::EVENT_CANCEL | codes::EVENT_REPLACE => amend(asked),
-        codes::EVENT_REPORT..=codes::EVENT_SEND_AGAIN => Ok(on_request(book, e)),
-        _ => Ok(on_name(book, e)),
+        codes::EVENT_BOOK => return book_order(book, e, change),
+        codes::EVENT_CANCEL | codes::EVENT_REPLACE => return amend(asked, change),
+        codes::EVENT_REPORT..=codes::EVENT_SEND_AGAIN => on_request(book, e, change),
+        _ => on_name(book, e, change),
     }
+    Ok(())
 }
 
 // Question 7: whether the order of link `place` and an added request have records.
@@ -190,13 +194,15 @@ fn has_room(book: &[u8], place: u16, added: u8) -> bool
 
 // The event's change, or why it is refused.
 #[tactic(auto, using(crate::specs::Laws::Steps::stepped))]
-pub(crate) fn step_of(asked: &Asked<'_>) -> Result<Change, Refusal>
-    ensures is { change_in result ≡ step_of (book_of asked.now.book.bytes.now) asked.now.event }
-    ensures taken { IfOk result (λ c. c.refusal ≡ 0) }
+pub(crate) fn step_of(asked: &Asked<'_, '_>, change: &mut Change) -> Result<(), Refusal>
+    ensures is { left_by result change.new ≡ step_of (book_of asked.now.book.bytes.now) asked.now.event.now }
+    ensures taken { IfOk result (λ done. change.new.refusal ≡ 0) }
+    ensures refused { IfErr result (λ r. change.new ≡ nothing) }
 {
-    let c = change_of(asked)?;
-    if !has_room(asked.book.bytes, c.place, c.requests.added) {
+    change_of(asked, change)?;
+    if !has_room(asked.book.bytes, change.place, change.requests.added) {
+        change::nothing(change);
         return Err(Refusal::FullBook);
     }
-    Ok(c)
+    Ok(())
 }

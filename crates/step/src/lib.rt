@@ -1,63 +1,73 @@
-// What a call of `event` comes to, by value: every question that is asked before an event is taken, in
+// What a call of `event` comes to: every question that is asked before an event is taken, in
 // order, and then the event's change. It writes nothing. Rests on rules, records and the handling.
 #![tactic(auto)]
 
-ghost use Rattle.std.specs.Prelude.{◌≡◌, ◌≤◌, IfOk, IfErr};
+ghost use Rattle.std.specs.Prelude.{ℕ, List, true, ◌≡◌, ◌≤◌, IfOk, IfErr};
 ghost use Rattle.prelude.specs.Refusal.{number_of};
 ghost use Rattle.format.specs.Refusal.{event_refusal};
 ghost use Rattle.records.specs.Record.{event_in};
 ghost use Rattle.records.specs.Answer.{shortest_answer};
 ghost use Rattle.store.specs.Book.{book_of};
+ghost use Rattle.rules.specs.Keeps.{keeps_of};
 ghost use Rattle.machine.specs.Changes.{refusing};
-ghost use Rattle.machine.specs.Machine.{step_of};
+ghost use Rattle.machine.specs.Machine.{nothing, step_of};
+ghost use Rattle.orders.specs.Left.{left_by};
 ghost use Rattle.machine.specs.Taken.{change_in};
 ghost use Rattle.step.specs.Entries.{call_of};
 ghost use Rattle.step.specs.Steps.{origin_asked};
 
 use machine::Change;
+use orders::change::NOTHING;
 use prelude::Refusal;
+use records::zeros::NO_RECORD;
 use records::{Record, SHORTEST_ANSWER};
 use rules::Kept;
 
 mod events; // an event's whole effect, on a book that keeps its rules
 mod loads; // records in use, and what an event's handling needs of the book
 
+// Reads the event in `record` to where it is lent, if questions 2, 3 and 4 are answered with yes: `room` is the length
+// of the answer buffer. Apart from `Asked`, which lends the event: a record is large, and is not to be copied.
+pub fn read(record: &[u8], room: usize, event: &mut Record) -> Result<(), Refusal>
+    ensures ok { IfOk result (λ done. (event.new ≡ event_in «record».now) × (0 ≡ event_refusal «record».now) × (shortest_answer ≤ room)) }
+    ensures err { IfErr result (λ refusal. ((book : List ℕ) → keeps_of book ≡ true → refusing (number_of refusal) ≡ call_of book «record».now room) × (event.new ≡ event.old)) }
+{
+    if room < SHORTEST_ANSWER {
+        return Err(Refusal::ShortAnswer);
+    }
+    records::read_event(record, event)
+}
+
 // An event that is asked of a book that keeps its rules: its record as it reads, and the link of the request
 // that the OrigClOrdID of a cancel or replace names, 0 for none. That request is looked up once: for the order,
 // and for what is stored beside the request that is added.
 #[derive(Clone, Copy)]
-pub struct Asked<'a> {
+pub struct Asked<'a, 'e> {
     pub book: Kept<'a>,
-    pub event: Record,
+    pub event: &'e Record,
     pub origin: u16,
-    pub ghost found: { origin ≡ origin_asked (book_of book.bytes.now) event },
+    pub ghost found: { origin ≡ origin_asked (book_of book.bytes.now) event.now },
 }
 
-impl<'a> Asked<'a> {
-    // Questions 2, 3 and 4: `room` is the length of the answer buffer.
-    #[tactic(auto, using(crate::specs::Laws::Asked::questions))]
-    pub fn new(book: &Kept<'a>, record: &[u8], room: usize) -> Result<Asked<'a>, Refusal>
-        ensures ok { IfOk result (λ asked. (asked.book.bytes.now ≡ book.now.bytes.now) × (asked.event ≡ event_in «record».now) × (0 ≡ event_refusal «record».now) × (shortest_answer ≤ room)) }
-        ensures err { IfErr result (λ refusal. refusing (number_of refusal) ≡ call_of book.now.bytes.now «record».now room) }
+impl<'a, 'e> Asked<'a, 'e> {
+    pub fn new(book: &Kept<'a>, event: &'e Record) -> Asked<'a, 'e>
+        ensures { (result.book.bytes.now ≡ book.now.bytes.now) × (result.event.now ≡ event.now) }
     {
-        if room < SHORTEST_ANSWER {
-            return Err(Refusal::ShortAnswer);
-        }
-        let event = records::read_event(record)?;
-        let origin = events::origin_asked(book, &event);
-        Ok(Asked {
+        let origin = events::origin_asked(book, event);
+        Asked {
             book: *book,
             event,
             origin,
-        })
+        }
     }
 
     // Questions 5, 6 and 7, and the change that the event makes of the book.
-    pub fn change(&self) -> Result<Change, Refusal>
-        ensures is { change_in result ≡ step_of (book_of self.now.book.bytes.now) self.now.event }
-        ensures taken { IfOk result (λ c. c.refusal ≡ 0) }
+    pub fn change(&self, change: &mut Change) -> Result<(), Refusal>
+        ensures is { left_by result change.new ≡ step_of (book_of self.now.book.bytes.now) self.now.event.now }
+        ensures taken { IfOk result (λ done. change.new.refusal ≡ 0) }
+        ensures refused { IfErr result (λ r. change.new ≡ nothing) }
     {
-        events::step_of(self)
+        events::step_of(self, change)
     }
 }
 
@@ -69,6 +79,10 @@ pub fn call_of(book: &[u8], record: &[u8], room: usize) -> Result<Change, Refusa
     ensures taken { IfOk result (λ c. c.refusal ≡ 0) }
 {
     let book = Kept::new(book)?;
-    let asked = Asked::new(&book, record, room)?;
-    asked.change()
+    let mut event = NO_RECORD;
+    read(record, room, &mut event)?;
+    let asked = Asked::new(&book, &event);
+    let mut change = NOTHING;
+    asked.change(&mut change)?;
+    Ok(change)
 }

@@ -70,8 +70,8 @@ fn request_at_link(book: &[u8], link: u16) -> Request
 
 // What the handling of an event needs beside the order o of link `place`.
 #[tactic(auto, unfolding(crate::specs::Steps::findings_at), using(store::specs::Laws::Stored::count_most, store::specs::Laws::Stored::length_requests))]
-pub(crate) fn findings_at(book: &[u8], place: u16, o: Order) -> Findings
-    ensures { result ≡ findings_at (book_of book.now) place o }
+pub(crate) fn findings_at(book: &[u8], place: u16, o: &Order) -> Findings
+    ensures { result ≡ findings_at (book_of book.now) place o.now }
 {
     Findings {
         place,

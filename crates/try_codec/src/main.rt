@@ -5,6 +5,7 @@
 #![tactic(auto)]
 
 use records::Answer;
+use records::zeros::NO_RECORD;
 use std::io::Read;
 use std::{fmt, io};
 
@@ -85,8 +86,9 @@ fn written_again(s: &[u8], answer: &Answer) -> bool {
 }
 
 fn right_event(s: &[u8], expected: u32) -> bool {
-    match records::read_event(s) {
-        Ok(_) => expected == 0,
+    let mut event = NO_RECORD;
+    match records::read_event(s, &mut event) {
+        Ok(()) => expected == 0,
         Err(refusal) => refusal.number() == expected,
     }
 }

@@ -4,4 +4,4 @@ use Rattle.amend.proofs.redelivered_report.Goals as goal
 
 pub returns : goal.returns
 unfolding redelivered_report
-returns c = rw (← c.next_exec-order.ensures, ← c.report-m.ensures, ← c.saying.ensures)
+returns c = rw (← c.next_exec.ensures, ← c.report-m.ensures, ← c.saying.ensures)

@@ -147,35 +147,6 @@ optional_text t absent = go (nat_le t.len 32) (all_below (filled_at t) 32) (t.le
         let z : 1 ≤ t.len = let n : t.len ≡ 0 → ⊥ = eqb-false _ _ f in omega arith in
         rw (d, e, f, le-leb 1 t.len z)
 
--- number 0 of an order, and no other, is a first request, as it is decided
-pub number_kind : (first : Bool) (n : ℕ) → (if first then (n == 0) otherwise nat_lt 0 n) ≡ beq first (n == 0)
-unfolding if◌then◌otherwise◌
-number_kind first n = go first (n == 0) refl
-  where
-    go : (f v : Bool) → (n == 0) ≡ v → (if f then v otherwise nat_lt 0 n) ≡ beq f v
-    go true true e = refl
-    go true false e = refl
-    go false true e = let z : n ≤ 0 = omega (arith, eqb-true n 0 e) in le-ltb 0 n z
-    go false false e =
-        let m : n ≡ 0 → ⊥ = eqb-false n 0 e in
-        let z : 0 < n = omega arith in
-        lt-ltb 0 n z
-
--- an outcome by its mark, as it is decided
-pub outcome_mark : (answered outcome : ℕ)
-    → beq (outcome == 0) (answered == 0) && nat_le outcome 3 ≡ (if not (answered == 0) then nat_lt 0 outcome && nat_le outcome 3 otherwise (outcome == 0))
-unfolding if◌then◌otherwise◌
-outcome_mark a n = go (a == 0) (n == 0) refl
-  where
-    go : (u v : Bool) → (n == 0) ≡ v → beq v u && nat_le n 3 ≡ (if not u then nat_lt 0 n && nat_le n 3 otherwise v)
-    go true true e = le-leb n 3 (omega (arith, eqb-true n 0 e))
-    go true false e = refl
-    go false true e = let z : n ≤ 0 = omega (arith, eqb-true n 0 e) in rw (le-ltb 0 n z)
-    go false false e =
-        let m : n ≡ 0 → ⊥ = eqb-false n 0 e in
-        let z : 0 < n = omega arith in
-        rw (lt-ltb 0 n z)
-
 -- ---- they are the rules of the book
 
 module _ (b : List ℕ) where

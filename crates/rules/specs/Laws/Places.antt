@@ -1,7 +1,7 @@
 -- Texts in a buffer, by words and parts: two of them compared, the zeros behind one, and its cell. Rests on text's ByWords.
 use Rattle.std.specs.Prelude.{◌≡◌, ℕ, zero, suc, ◌+◌, ◌-◌, ◌%◌, ◌^◌, ◌<◌, ◌≤◌, Bool, true, false, ◌&&◌, List, [], ◌∷◌, length, ◌==◌, nat_eq, nat_le, slice_index, slice_index_or, refl}
 use Rattle.std.proofs.Common.{sym, ap, ap₂, ◌∙◌, eqb-true, eq-eqb, lt-ltb, le-ltb, le-leb, arith}
-use Rattle.std.proofs.Math.Bool.{and-true, and-false, and_assoc}
+use Rattle.std.proofs.Math.Bool.{and-false, and_assoc}
 use Rattle.std.proofs.Math.Decide.{dec_lt}
 use Rattle.std.proofs.lemmas.Bool.{and_parts, and_from}
 use Rattle.std.specs.Cmp.{both_ways}
@@ -22,16 +22,6 @@ words_agree s x y =
     (word64 s x == word64 s y) && word64 s (x + 8) == word64 s (y + 8) && word64 s (x + 16) == word64 s (y + 16)
     && word64 s (x + 24) == word64 s (y + 24)
 
--- two words agree, as the code compares them
-abbrev pub pair_agrees : List ℕ → ℕ → ℕ → Bool
-pair_agrees s x y = (word64 s x == word64 s y) && word64 s (x + 8) == word64 s (y + 8)
-
-pub words_pairs : (s : List ℕ) (x y : ℕ) → words_agree s x y ≡ pair_agrees s x y && pair_agrees s (x + 16) (y + 16)
-words_pairs s x y =
-    let p : x + 16 + 8 ≡ x + 24 = omega arith in
-    let q : y + 16 + 8 ≡ y + 24 = omega arith in
-    rw (p, q) (and_assoc (pair_agrees s x y) (word64 s (x + 16) == word64 s (y + 16)) (word64 s (x + 24) == word64 s (y + 24)))
-
 module _ (s : List ℕ) (bytes : Bytes s) (x y : ℕ) (hx : x + 33 ≤ length s) (hy : y + 33 ≤ length s) where
   -- THE LAW of two texts compared by words
   pub same_here : nat_eq (slice_index s (x + 32)) (slice_index s (y + 32)) && words_agree s x y ≡ same_text (text_at s x) (text_at s y)
@@ -39,12 +29,18 @@ module _ (s : List ℕ) (bytes : Bytes s) (x y : ℕ) (hx : x + 33 ≤ length s)
       rw (sym (word_first s y), sym (word_in s y 8 (omega arith)), sym (word_in s y 16 (omega arith)), sym (word_in s y 24 (omega arith)))
       (same_words s x (text_at s y) bytes hx (length_span s y 32 (omega arith)) (bytes_span s y 32 bytes))
 
-  -- the words one by one: one that differs, or all the same
+  -- a word that differs
   pub other_word : words_agree s x y ≡ false → same_text (text_at s x) (text_at s y) ≡ false
   other_word e = sym same_here ∙ ap (λ (v : Bool). (slice_index s (x + 32) == slice_index s (y + 32)) && v) e ∙ and-false (slice_index s (x + 32) == slice_index s (y + 32))
 
-  pub all_words : words_agree s x y ≡ true → (slice_index s (x + 32) == slice_index s (y + 32)) ≡ same_text (text_at s x) (text_at s y)
-  all_words e = sym (and-true (slice_index s (x + 32) == slice_index s (y + 32))) ∙ ap (λ (v : Bool). (slice_index s (x + 32) == slice_index s (y + 32)) && v) (sym e) ∙ same_here
+  -- the same, the words in pairs
+  pub words_paired : (slice_index s (x + 32) == slice_index s (y + 32))
+      && ((word64 s x == word64 s y && word64 s (x + 8) == word64 s (y + 8)) && (word64 s (x + 16) == word64 s (y + 16) && word64 s (x + 24) == word64 s (y + 24)))
+      ≡ same_text (text_at s x) (text_at s y)
+  words_paired =
+      ap (λ (v : Bool). (slice_index s (x + 32) == slice_index s (y + 32)) && v)
+      (sym (and_assoc (word64 s x == word64 s y && word64 s (x + 8) == word64 s (y + 8)) (word64 s (x + 16) == word64 s (y + 16)) (word64 s (x + 24) == word64 s (y + 24))))
+      ∙ same_here
 
 -- ---- zeros behind a text
 

@@ -27,23 +27,23 @@ returns-then-end-s-clause-err c =
     let n = ends (goal.at.returns-then-end-s-clause-err c).After-end in
     sym (refusal_3 c.args.s.now (message_over c.args.s.now c.in_ok-shape.ensures.ok.2 (λ z. c.if-end-s.true (n ∙ z))))
 
-pub returns-in_err-numbers-clause-err : goal.returns-in_err-numbers-clause-err
-returns-in_err-numbers-clause-err c =
+pub returns-in_err-numbers_in-clause-err : goal.returns-in_err-numbers_in-clause-err
+returns-in_err-numbers_in-clause-err c =
     let o = c.in_ok-shape.ensures.ok in
-    let e = c.in_err-numbers.ensures.err in
-    let p = err_from_is_err_and c.from_residual-in_err-numbers.result c.from_residual-in_err-numbers.ensures.1 in
-    rw (p.1, p.2, e.1) (sym (refusal_4 c.args.s.now (message (goal.at.returns-in_err-numbers-clause-err c).Else-end-s) (rw (o.0, o.1) at e.0)))
+    let e = c.in_err-numbers_in.ensures.err in
+    let p = err_from_is_err_and c.from_residual-in_err-numbers_in.result c.from_residual-in_err-numbers_in.ensures.1 in
+    rw (p.1, p.2, e.1) (sym (refusal_4 c.args.s.now (message (goal.at.returns-in_err-numbers_in-clause-err c).Else-end-s) (rw (o.0, o.1) at e.0)))
 
 pub high_in-high-requires : goal.high_in-high-requires
 high_in-high-requires c =
     let h = c.in_ok-shape.shape.stands in
-    rw c.field.ensures (long_between (rising_shape h) 26 16 (lit< tt) (short_numbered h c.in_ok-numbers.numbers c.in_ok-numbers.ensures.ok).fillprice)
+    rw c.field.ensures (long_between (rising_shape h) 26 16 (lit< tt) (short_numbered h c.numbers_in.new.numbers c.in_ok-numbers_in.ensures.ok).fillprice)
 
 pub returns-clause-ok : goal.returns-clause-ok
 returns-clause-ok c =
     let e = c.in_ok-shape.ensures.ok in
     let x = c.in_ok-shape.shape.stands in
-    let n = c.in_ok-numbers.ensures.ok in
+    let n = c.in_ok-numbers_in.ensures.ok in
     let high : number (drop 8 c.field.result.now) ≡ _ = ap (λ (l : List ℕ). number (drop 8 l)) (c.field.ensures ∙ high_shape x) in
     let h = c.high_in-high.ensures ∙ high in
     let places = x.places in

@@ -1,10 +1,10 @@
 -- `numbered` meets its contract: the length, then the start, the end and the zeros after them. Rests on Suffix.
 use Rattle.std.proofs.Common.{◌≡◌, ◌+◌, ◌&&◌, ◌==◌, sym, ◌∙◌, arith}
-use Rattle.std.proofs.lemmas.Grind.{common_steps}
 use Rattle.prelude.specs.Below.{all_below}
 use Rattle.prelude.specs.Number.{word64}
 use Rattle.prelude.specs.Texts.{text_at, same_text, is_text}
 use Rattle.text.specs.Numbered.{numbered_text}
+use Rattle.rules.specs.Laws.Gathered.{or_clear, xor_clear}
 use Rattle.rules.specs.Laws.Suffix.{alike_at, name_short, numbered_other, numbered_here}
 use Rattle.rules.proofs.numbered.numbered.Goals as goal
 use Rattle.rules.proofs.numbered.numbered.Goals.{Else-from-n}
@@ -14,8 +14,8 @@ returns-then-from-n c =
     sym (numbered_other c.args.book.now c.fits-book c.args.at c.args.from c.args.k c.suffix_of-tail.result.word c.suffix_of-tail.result.len
     (omega arith) (omega arith) c.requires.2 c.requires.3 c.suffix_of-tail.ensures (rw (c.from.ensures, c.from-n.ensures) at c.if-from-n.true))
 
-pub same_start-requires : goal.same_start-requires
-same_start-requires c = (c.requires.0, c.requires.1, omega (arith, name_short (text_at c.args.book.now c.args.from) c.requires.2))
+pub start_diff-start-requires : goal.start_diff-start-requires
+start_diff-start-requires c = (c.requires.0, c.requires.1, omega (arith, name_short (text_at c.args.book.now c.args.from) c.requires.2))
 
 pub u64_at-requires : goal.u64_at-requires
 u64_at-requires c = omega (arith, name_short (text_at c.args.book.now c.args.from) c.requires.2)
@@ -26,8 +26,7 @@ here c =
     numbered_here c.args.book.now c.fits-book c.args.at c.args.from c.args.k c.suffix_of-tail.result.word c.suffix_of-tail.result.len
     (omega arith) (omega arith) c.requires.2 c.requires.3 c.suffix_of-tail.ensures c.from-n.result c.from-n.ensures (sym c.from.ensures ∙ c.if-from-n.false)
 
-pub returns-then-u64_at-tail : goal.returns-then-u64_at-tail
-returns-then-u64_at-tail c = let h = here (goal.at.returns-then-u64_at-tail c).Else-from-n in grind (arith, common_steps, h)
-
-pub returns-else-u64_at-tail : goal.returns-else-u64_at-tail
-returns-else-u64_at-tail c = let h = here (goal.at.returns-else-u64_at-tail c).Else-from-n in grind (arith, common_steps, h)
+pub returns : goal.returns
+returns c =
+    simp (or_clear, xor_clear)
+    (rw (c.start_diff-start.ensures, c.u64_at.ensures, c.filled_diff.ensures) (here (goal.at.returns c).Else-from-n))
