@@ -212,8 +212,9 @@ pub fn send_failed(known: &Known, venue: u16, outcome: u8, note: &Note, change: 
             known.link, outcome, place, o, change,
         ),
         kinds::GATEWAY => {
-            let gateway = tries::failed(o.gateway);
-            change::settled(known.link, outcome, place, &Order { gateway, ..*o }, change);
+            let mut order = *o;
+            tries::fail(&mut order.gateway);
+            change::settled(known.link, outcome, place, &order, change);
         }
         kinds::FIRST if answered || o.state.status != codes::PENDING_NEW => known.leaving(
             o, change,

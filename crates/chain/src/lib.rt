@@ -69,22 +69,6 @@ impl Used<'_> {
         Some(link - 1)
     }
 
-    // How many entries its chain has. Each step goes to a request numbered lower. The walk is a recursion here
-    // and in `put`, as docs/SCOPE.md asks: `successors` says nothing of how long it runs, so a `count` of it
-    // is not proved.
-    #[tactic(auto, using(store::specs::Laws::Stored::count_most, crate::specs::Laws::Walk::walked))]
-    fn count(&self) -> usize
-        ensures { result ≡ length (walk self.now.book.bytes.now self.now.k) }
-    {
-        match self.earlier() {
-            Some(k) => {
-                let rest = Used { book: self.book, k }.count();
-                rest + 1
-            }
-            None => 1,
-        }
-    }
-
     // Its entry as it is stored, from index at.
     #[tactic(auto, using(store::specs::Laws::Stored::count_most, crate::specs::Laws::Walk::kept_long))]
     fn put_entry(&self, list: &mut [u8], at: usize)
@@ -98,17 +82,37 @@ impl Used<'_> {
         list[at + 1..at + 1 + NAME].copy_from_slice(&book[name..name + NAME]);
         list[at + 1 + NAME] = book[from + layout::REQUEST_OUTCOME];
     }
+}
 
-    // The entries of its chain, from index at.
-    #[tactic(auto, using(crate::specs::Laws::Walk::step_back, crate::specs::Laws::Entries::put))]
-    fn put(&self, list: &mut [u8], at: usize)
-        requires { at + entry_size * length (walk self.now.book.bytes.now self.now.k) ≤ length list.old }
-        ensures { list.new ≡ splice list.old at (entries_of self.now.book.bytes.now (walk self.now.book.bytes.now self.now.k)) }
-    {
-        self.put_entry(list, at);
-        if let Some(k) = self.earlier() {
-            Used { book: self.book, k }.put(list, at + ENTRY);
+// How many entries the chain of request k has. Each step goes to a request numbered lower. The walk is a recursion
+// here and in `put`, as docs/SCOPE.md asks: `successors` says nothing of how long it runs, so a `count` of it is not
+// proved. The number comes by itself, and not in a `Used` that is lent: the compiler then makes a loop of it, which takes no
+// more stack for a longer chain.
+#[tactic(auto, using(store::specs::Laws::Stored::count_most, crate::specs::Laws::Walk::walked))]
+fn count(book: &Kept<'_>, k: usize) -> usize
+    requires { k < request_count book.now.bytes.now }
+    ensures { result ≡ length (walk book.now.bytes.now k) }
+{
+    match (Used { book: *book, k }).earlier() {
+        Some(next) => {
+            let rest = count(book, next);
+            rest + 1
         }
+        None => 1,
+    }
+}
+
+// The entries of the chain of request k, from index at.
+#[tactic(auto, using(crate::specs::Laws::Walk::step_back, crate::specs::Laws::Entries::put))]
+fn put(book: &Kept<'_>, k: usize, list: &mut [u8], at: usize)
+    requires used { k < request_count book.now.bytes.now }
+    requires room { at + entry_size * length (walk book.now.bytes.now k) ≤ length list.old }
+    ensures { list.new ≡ splice list.old at (entries_of book.now.bytes.now (walk book.now.bytes.now k)) }
+{
+    let used = Used { book: *book, k };
+    used.put_entry(list, at);
+    if let Some(next) = used.earlier() {
+        put(book, next, list, at + ENTRY);
     }
 }
 
@@ -123,12 +127,11 @@ pub fn chain(book: &[u8], client: u16, name: &[u8], list: &mut [u8]) -> Result<u
     let Some(k) = called_by(book.bytes, client, name) else {
         return Ok(0);
     };
-    let first = Used { book, k };
-    let n = first.count();
+    let n = count(&book, k);
     if list.len() < ENTRY * n {
         return Err(Refusal::ShortList);
     }
-    first.put(list, 0);
+    put(&book, k, list, 0);
     // The cast by `as` is proved to lose nothing.
     Ok(n as u32)
 }

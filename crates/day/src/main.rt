@@ -78,6 +78,34 @@ fn told(answers: &[u8], at: usize, event: u64) -> (Line, usize) {
     }
 }
 
+// Whether a whole record, its length and its bytes, is at the front.
+fn has_whole(records: &[u8]) -> bool {
+    match records {
+        [low, high, rest @ ..] => usize::from(u16::from_le_bytes([*low, *high])) <= rest.len(),
+        _ => false,
+    }
+}
+
+// A line for each of so many events, from what a call has said of them; the event before them has this number.
+fn print(
+    rt: &HostRuntime,
+    answers: &[u8],
+    events: u64,
+    before: u64,
+    refused: &mut Refused,
+) -> io::Result<()> {
+    let mut event = before;
+    let mut at = 0;
+    for _ in 0..events {
+        event = event.saturating_add(1);
+        let (line, next) = told(answers, at, event);
+        refused.count(line.refusal);
+        rt.println(line)?;
+        at = next;
+    }
+    Ok(())
+}
+
 fn main(rt: HostRuntime) -> io::Result<()> {
     let mut input = rt.reader();
     let mut space = [0u8; RECORDS];
@@ -88,22 +116,20 @@ fn main(rt: HostRuntime) -> io::Result<()> {
     let mut filled = 0;
     let mut event = 0u64;
     let mut refused = Refused::default();
-    // A proved loop ends: this one after more calls than an input can have.
+    // A proved loop ends: this one after more calls than an input can have. More is read only once every whole record is
+    // run and has its line, so that an input that fails loses no line.
     for _ in 0..u64::MAX {
-        let before = filled;
-        filled = input::read_more(&mut input, &mut space, before)?;
+        if !has_whole(&space[..filled]) {
+            let before = filled;
+            filled = input::read_more(&mut input, &mut space, before)?;
+            if filled == before {
+                break;
+            }
+            continue;
+        }
         let ran = gateway::events(&mut book, &space[..filled], &mut answers);
-        let mut at = 0;
-        for _ in 0..ran.events {
-            event = event.saturating_add(1);
-            let (line, next) = told(&answers, at, event);
-            refused.count(line.refusal);
-            rt.println(line)?;
-            at = next;
-        }
-        if filled == before && ran.events == 0 {
-            break;
-        }
+        print(&rt, &answers, ran.events, event, &mut refused)?;
+        event = event.saturating_add(ran.events);
         // By `as`, which is proved to lose nothing: std has no `From<u64>` for usize. What is left is moved to the front.
         let read = (ran.read as usize).min(filled);
         space.copy_within(read..filled, 0);
@@ -113,5 +139,7 @@ fn main(rt: HostRuntime) -> io::Result<()> {
         refused.cut = true;
         rt.println(Line::refused(event.saturating_add(1), Refusal::BadRecord.number()))?;
     }
-    refused.tell(&rt)
+    // The lines are out: a standard error that takes nothing changes nothing of that.
+    let _ = refused.tell(&rt);
+    Ok(())
 }

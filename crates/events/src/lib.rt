@@ -19,7 +19,6 @@ use prelude::Refusal;
 use records::Record;
 use records::zeros::NO_RECORD;
 use rules::Kept;
-use step::Asked;
 
 mod list; // a list of events, run one after the other
 mod write; // a change written into the book
@@ -64,11 +63,8 @@ fn take(
     ensures fits { Bytes book.new }
 {
     let kept = Kept { bytes: book };
-    step::read(record, answer.len(), event)?;
-    let asked = Asked::new(&kept, event);
-    asked.change(change)?;
+    let origin = step::ask(&kept, record, answer.len(), event, change)?;
     let k = store::request_count(book);
-    let origin = asked.origin;
     let place = change.place;
     let leaves = order::leaves_qty(&change.order);
     let opening = index::opening(book, place, change.order.client, leaves);

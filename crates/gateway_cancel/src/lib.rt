@@ -3,7 +3,7 @@
 #![tactic(auto)]
 
 ghost use Rattle.std.specs.Prelude.{◌≡◌};
-ghost use Rattle.machine.specs.GatewayCancel.{outstanding_cancel, gateway_cancel_in_flight, begun, try_sent, given_up, send_gateway_cancel, cancel_order, gateway_cancel_waiting, resume_gateway_cancel, stuck, retry_gateway_cancel, says_gone, gateway_cancel_refused};
+ghost use Rattle.machine.specs.GatewayCancel.{outstanding_cancel, gateway_cancel_in_flight, begun, given_up, send_gateway_cancel, cancel_order, gateway_cancel_waiting, resume_gateway_cancel, stuck, retry_gateway_cancel, says_gone, gateway_cancel_refused};
 
 use machine::{Change, Findings, Note};
 use orders::alarm::Alarm;
@@ -39,14 +39,6 @@ fn begun(o: &Order) -> GatewayCancel
     }
 }
 
-// The gateway's cancel once it is sent one time more.
-#[tactic(auto, using(crate::specs::Laws::Tries::sent_is_try))]
-fn try_sent(o: &Order) -> GatewayCancel
-    ensures { result ≡ try_sent o.now }
-{
-    tries::sent(o.gateway, o.links.current)
-}
-
 // The gateway's cancel once the gateway gives it up.
 #[tactic(auto, unfolding(machine::specs::GatewayCancel::given_up))]
 fn given_up(o: &Order) -> GatewayCancel
@@ -58,14 +50,14 @@ fn given_up(o: &Order) -> GatewayCancel
     }
 }
 
-#[tactic(auto, unfolding(machine::specs::GatewayCancel::send_gateway_cancel))]
+#[tactic(auto, unfolding(machine::specs::GatewayCancel::send_gateway_cancel, machine::specs::Changes::numbered_order), using(crate::specs::Laws::Tries::sent_is_try))]
 fn send_gateway_cancel(findings: &Findings, change: &mut Change)
     ensures { change.new ≡ send_gateway_cancel findings.now change.old }
 {
     let o = change.order;
     let mut order = o;
     change::numbered_order(findings, true, &mut order);
-    order.gateway = try_sent(&o);
+    tries::send(&mut order.gateway, o.links.current);
     let m = message::cancel_request(&order, &change::next_downstream(&o));
     let none = text::no_text();
     let request = change::next_request(findings, &o, kinds::GATEWAY, &none, &none);

@@ -1,5 +1,5 @@
-// The tries of a gateway cancel, by value: a try goes out (`sent`), and its send has failed (`failed`).
-// Rests on orders.
+// The tries of a gateway cancel: a try goes out (`sent`), and its send has failed (`failed`), by value;
+// `send` and `fail` are the same steps on a record that is lent. Rests on orders.
 ghost use Rattle.std.specs.Prelude.{◌≡◌};
 ghost use Rattle.machine.specs.Amend.{send_refused};
 ghost use Rattle.gateway_cancel.specs.Tries.{sent_once};
@@ -19,6 +19,13 @@ pub(crate) fn sent(gateway: GatewayCancel, current: u16) -> GatewayCancel
     }
 }
 
+// The try goes out, on the record where it stands.
+pub(crate) fn send(gateway: &mut GatewayCancel, current: u16)
+    ensures { gateway.new ≡ sent_once gateway.old current }
+{
+    *gateway = sent(*gateway, current);
+}
+
 // One try is taken back, and the cancel waits.
 #[tactic(auto, unfolding(machine::specs::Amend::send_refused), using(orders::specs::Laws::Counts::one_more_lem))]
 pub fn failed(gateway: GatewayCancel) -> GatewayCancel
@@ -30,4 +37,11 @@ pub fn failed(gateway: GatewayCancel) -> GatewayCancel
         refusedsends: gateway.refusedsends.saturating_add(1),
         ..gateway
     }
+}
+
+// The send has failed, on the record where it stands.
+pub fn fail(gateway: &mut GatewayCancel)
+    ensures { gateway.new ≡ send_refused gateway.old }
+{
+    *gateway = failed(*gateway);
 }

@@ -1,15 +1,14 @@
 // Each client's leaves summed up over its orders, and compared with the word of its first order. That
 // order i is in the table stands in two contracts: a type for it would be made at each turn of a loop.
 // Rests on store, words and orders.
-ghost use Rattle.std.specs.Prelude.{◌≡◌, ◌<◌, true, Some};
+ghost use Rattle.std.specs.Prelude.{◌≡◌, ◌+◌, ◌<◌, true};
 ghost use Rattle.store.specs.Layout.{most_orders};
 ghost use Rattle.store.specs.Book.{book_of, order_at, order_count};
-ghost use Rattle.store.specs.Finds.{find_client};
 ghost use Rattle.machine.specs.Orders.{leaves_qty};
 ghost use Rattle.machine.specs.Exchange.{open_of};
 ghost use Rattle.machine.specs.Rules.{rules};
 ghost use Rattle.index.specs.Index.{opens_right};
-ghost use Rattle.index.specs.Laws.Left.{right_first};
+ghost use Rattle.index.specs.Laws.Left.{left_to, right_first};
 
 use orders::order;
 use store::layout::{self, Bytes};
@@ -45,12 +44,12 @@ pub struct Ruled<'a> {
 }
 
 impl Ruled<'_> {
-    // What the orders of a client have left together; its first is order i. It is a loop, since `sum` of a
-    // chain asks beforehand that all of it fits, which here each step shows.
+    // What the orders of a client from order i on have left together: all of them, if order i is its first. It is a
+    // loop, since `sum` of a chain asks beforehand that all of it fits, which here each step shows.
     #[tactic(auto, using(store::specs::Laws::Stored::count_most, crate::specs::Laws::Left::summed))]
     fn leaves_from(&self, i: usize, client: u16) -> u64
-        requires { find_client (book_of self.now.bytes.now) client ≡ Some i }
-        ensures { result ≡ open_of (book_of self.now.bytes.now) client }
+        requires { i < order_count self.now.bytes.now }
+        ensures { result + left_to self.now.bytes.now client i ≡ open_of (book_of self.now.bytes.now) client }
     {
         let book = self.bytes;
         let mut sum = 0;
@@ -62,7 +61,9 @@ impl Ruled<'_> {
         sum
     }
 
-    // Whether order i is not its client's first, or what is stored there is the client's open quantity.
+    // Whether order i is not its client's first, or what is stored there is the client's open quantity. A number that
+    // is what the client has left from order i on is right either way, and is mostly a first order's: so it is asked
+    // before the first order is looked for.
     #[tactic(auto, using(store::specs::Laws::Stored::count_most, crate::specs::Laws::Left::asked))]
     fn is_right(&self, i: usize) -> bool
         requires { i < order_count self.now.bytes.now }
@@ -70,10 +71,12 @@ impl Ruled<'_> {
     {
         let book = self.bytes;
         let client = client_of(book, i);
+        let stored = store::load_open(book, i);
+        if stored != 0 && stored == self.leaves_from(i, client) {
+            return true;
+        }
         match store::find_client(book, client) {
-            Some(first) if first == i => {
-                store::load_open(book, i) == self.leaves_from(i, client)
-            }
+            Some(first) if first == i => stored == self.leaves_from(i, client),
             _ => true,
         }
     }

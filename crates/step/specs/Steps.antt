@@ -1,6 +1,10 @@
 -- The parts of a step as the code takes them. Rests on machine's Machine; that together they are machine's is in Laws.Steps.
-use Rattle.std.specs.Prelude.{ℕ, ◌-◌, Bool, ◌&&◌, ◌||◌, eqb, leb, ltb, length}
+use Rattle.std.specs.Prelude.{ℕ, ◌-◌, Bool, ◌&&◌, ◌||◌, List, Result, Ok, Err, eqb, leb, ltb, length}
 use Rattle.prelude.specs.Cases.{if◌then◌otherwise◌}
+use Rattle.prelude.specs.declared.Refusal.{Refusal}
+use Rattle.prelude.specs.Refusal.{number_of}
+use Rattle.format.specs.Refusal.{event_refusal}
+use Rattle.records.specs.Answer.{shortest_answer}
 use Rattle.store.specs.declared.Order.{Order}
 use Rattle.store.specs.declared.Request.{Request}
 use Rattle.store.specs.Book.{Book, request_in}
@@ -9,11 +13,22 @@ use Rattle.store.specs.Requests.{no_request}
 use Rattle.machine.specs.declared.Findings.{Findings}
 use Rattle.machine.specs.declared.Change.{Change}
 use Rattle.machine.specs.Constants.{failed_to_send, event_cancel, event_report, event_unknown, event_cancel_reject, event_send_failed}
-use Rattle.machine.specs.Changes.{Event}
+use Rattle.machine.specs.Changes.{Event, refusing}
 use Rattle.machine.specs.Amend.{cancel, replace, venue_cancel_reject, send_failed, unsent}
 use Rattle.machine.specs.Report.{unknown_at_venue}
 use Rattle.index.specs.Index.{origin_of}
 use Rattle.machine.specs.Machine.{order_link, amending, on_report, nothing, unknown_report, text_note}
+
+-- ---- how a call ends
+
+-- questions 2, 3 and 4 are answered with yes
+unfoldable pub reads : (event : List ℕ) → (room : ℕ) → Bool
+reads r room = leb shortest_answer room && eqb (event_refusal r) 0
+
+-- a call that gives a link: what it leaves in the change that it is lent
+abbrev pub asked_by : Result ℕ Refusal → Change → Change
+asked_by (Ok origin) c = c
+asked_by (Err r) c = refusing (number_of r)
 
 -- ---- what an event finds
 

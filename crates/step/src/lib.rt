@@ -2,7 +2,8 @@
 // order, and then the event's change. It writes nothing. Rests on rules, records and the handling.
 #![tactic(auto)]
 
-ghost use Rattle.std.specs.Prelude.{ℕ, List, true, ◌≡◌, ◌≤◌, IfOk, IfErr};
+ghost use Rattle.std.specs.Prelude.{ℕ, List, true, false, ◌≡◌, ◌≤◌, IfOk, IfErr};
+ghost use Rattle.prelude.specs.Cases.{if◌then◌otherwise◌};
 ghost use Rattle.prelude.specs.Refusal.{number_of};
 ghost use Rattle.format.specs.Refusal.{event_refusal};
 ghost use Rattle.records.specs.Record.{event_in};
@@ -14,7 +15,7 @@ ghost use Rattle.machine.specs.Machine.{nothing, step_of};
 ghost use Rattle.orders.specs.Left.{left_by};
 ghost use Rattle.machine.specs.Taken.{change_in};
 ghost use Rattle.step.specs.Entries.{call_of};
-ghost use Rattle.step.specs.Steps.{origin_asked};
+ghost use Rattle.step.specs.Steps.{reads, asked_by, origin_asked};
 
 use machine::Change;
 use orders::change::NOTHING;
@@ -31,6 +32,7 @@ mod loads; // records in use, and what an event's handling needs of the book
 pub fn read(record: &[u8], room: usize, event: &mut Record) -> Result<(), Refusal>
     ensures ok { IfOk result (λ done. (event.new ≡ event_in «record».now) × (0 ≡ event_refusal «record».now) × (shortest_answer ≤ room)) }
     ensures err { IfErr result (λ refusal. ((book : List ℕ) → keeps_of book ≡ true → refusing (number_of refusal) ≡ call_of book «record».now room) × (event.new ≡ event.old)) }
+    ensures unread { IfErr result (λ refusal. reads «record».now room ≡ false) }
 {
     if room < SHORTEST_ANSWER {
         return Err(Refusal::ShortAnswer);
@@ -71,6 +73,28 @@ impl<'a, 'e> Asked<'a, 'e> {
     }
 }
 
+// Questions 2 to 7 of the event in `record`, in their order, on a book that keeps its rules, and the change that the
+// event makes of it: what `event`, `events` and `needs` come to if question 1 is answered with yes. `room` is the
+// length of the answer buffer. `event` and `change` are room for what the record reads as and what it comes to. The
+// number is the link of the request that the OrigClOrdID of a cancel or replace names, 0 for none.
+pub fn ask(
+    book: &Kept<'_>,
+    record: &[u8],
+    room: usize,
+    event: &mut Record,
+    change: &mut Change,
+) -> Result<u16, Refusal>
+    ensures is { asked_by result change.new ≡ call_of book.now.bytes.now «record».now room }
+    ensures taken { IfOk result (λ origin. (change.new.refusal ≡ 0) × (origin ≡ origin_asked (book_of book.now.bytes.now) (event_in «record».now))) }
+    ensures refused { IfErr result (λ refusal. change.new ≡ (if reads «record».now room then nothing otherwise change.old)) }
+    ensures read { event.new ≡ (if reads «record».now room then event_in «record».now otherwise event.old) }
+{
+    read(record, room, event)?;
+    let asked = Asked::new(book, event);
+    asked.change(change)?;
+    Ok(asked.origin)
+}
+
 // The change that the event in `record` makes of the book, or the first question that is answered
 // with no; `room` is the length of the answer buffer.
 #[tactic(auto, using(crate::specs::Laws::Asked::questions))]
@@ -80,9 +104,7 @@ pub fn call_of(book: &[u8], record: &[u8], room: usize) -> Result<Change, Refusa
 {
     let book = Kept::new(book)?;
     let mut event = NO_RECORD;
-    read(record, room, &mut event)?;
-    let asked = Asked::new(&book, &event);
     let mut change = NOTHING;
-    asked.change(&mut change)?;
+    ask(&book, record, room, &mut event, &mut change)?;
     Ok(change)
 }

@@ -9,6 +9,12 @@ use records::zeros::NO_RECORD;
 use std::io::Read;
 use std::{fmt, io};
 
+// As much as a length of two bytes can say, and a byte more.
+const SPACE: usize = 65536;
+
+// The most items of an input: what stands behind them is not read.
+const MOST_ITEMS: u64 = 1_000_000;
+
 // What an item is, by its tag.
 #[derive(Clone, Copy)]
 enum Kind {
@@ -100,28 +106,28 @@ fn right_answer(s: &[u8], expected: u32) -> bool {
     }
 }
 
-// Counts the next item; false if the input ends.
-fn item<R: Read>(input: &mut R, tally: &mut Tally) -> io::Result<bool> {
+// Counts the next item; false if the input ends. `space` is room for it, and what stands there before does not matter.
+fn item<R: Read>(input: &mut R, space: &mut [u8; SPACE], tally: &mut Tally) -> io::Result<bool> {
     let Some(head) = input::read_array::<_, 3>(input)? else {
         return Ok(false);
     };
     let [tag, low, high] = head;
     let size = usize::from(u16::from_le_bytes([low, high]));
-    // As much as a length of two bytes can say, and a byte more. No `read_record`: the tag stands before the length,
-    // and an item that the input's end cuts is judged at the length that it says.
-    let mut space = [0u8; 65536];
-    input::read_full(input, &mut space[..size])?;
+    // No `read_record`: the tag stands before the length, and an item that the input's end cuts is judged at the
+    // length that it says, with zeros behind what came.
+    let got = input::read_full(input, &mut space[..size])?;
+    space[got..size].fill(0);
     let [expected] = input::read_padded::<_, 1>(input)?;
     tally.count(tag, &space[..size], u32::from(expected));
     Ok(true)
 }
 
-// Nothing says that the input ends, and a proved loop has to: it does after u64::MAX turns, more than any
-// input takes.
 fn all<R: Read>(input: &mut R) -> io::Result<Tally> {
+    // One room for all: an array of this length is cleared where it is made.
+    let mut space = [0u8; SPACE];
     let mut tally = Tally::default();
-    for _ in 0..u64::MAX {
-        if !item(input, &mut tally)? {
+    for _ in 0..MOST_ITEMS {
+        if !item(input, &mut space, &mut tally)? {
             break;
         }
     }

@@ -188,13 +188,14 @@ fn start<R: Read>(
     Ok(())
 }
 
-// Nothing says that the input ends, and a proved loop has to: it does after u64::MAX turns, more than any
-// input takes.
+// The most days and events of an input, counted together: what stands behind them is not read.
+const MOST_ITEMS: u64 = 1_000_000;
+
 fn all<R: Read>(input: &mut R) -> io::Result<Tally> {
     let mut book = [0u8; layout::BOOK];
     let mut many = Many::new();
     let mut tally = Tally::default();
-    for _ in 0..u64::MAX {
+    for _ in 0..MOST_ITEMS {
         let Some(tag) = input::read_array::<_, 1>(input)? else {
             break;
         };

@@ -126,14 +126,15 @@ pub struct Tenth {
     pub digit: u64,
 }
 
-// `n / 10` and `n % 10`: the digits of two words, the lowest first.
+// `n / 10` and `n % 10`: the digits of two words, the lowest first. Not by `/` of u128: for that the compiler calls
+// a function from outside (`__udivti3`), which an archive would ask of its host.
 pub fn by_ten(n: [u64; 2]) -> Tenth
     ensures { (result.quotient ≡ words (value n / 10)) × (result.digit ≡ value n % 10) }
 {
-    let n = joined(n);
+    let low = divide(n[1] % 10, n[0], 10);
     Tenth {
-        quotient: split(n / 10),
-        digit: (n % 10) as u64, // a digit, which loses nothing
+        quotient: [low.quotient, n[1] / 10],
+        digit: low.rest,
     }
 }
 

@@ -1,6 +1,6 @@
 -- `event` case by case, as the code comes to it. Rests on step's Entries, Asked and Linked.
 use Rattle.std.specs.Prelude.{ℕ, ◌≡◌, ◌≤◌, Bool, leb, length, refl, true, false, List, eqb}
-use Rattle.std.proofs.Common.{sym, ap, ap₂, subst, ◌∙◌, eqb-true, eq-eqb}
+use Rattle.std.proofs.Common.{sym, ap, ap₂, subst, ◌∙◌, eqb-true, eq-eqb, leb-true}
 use Rattle.std.proofs.lemmas.Bool.{eqb-false}
 use Rattle.prelude.specs.Cases.{if◌then◌otherwise◌}
 use Rattle.prelude.specs.Laws.Cases.{if_true, if_false}
@@ -8,12 +8,11 @@ use Rattle.prelude.specs.Span.{splice}
 use Rattle.prelude.specs.declared.Refusal.{Refusal}
 use Rattle.prelude.specs.Refusal.{number_of}
 use Rattle.records.specs.Record.{event_in}
-use Rattle.format.specs.Refusal.{event_refusal}
 use Rattle.records.specs.Answer.{answer_bytes, chosen}
 use Rattle.store.specs.Book.{book_of, request_count, store_open}
 use Rattle.store.specs.Laws.Stored.{length_requests}
 use Rattle.machine.specs.declared.Change.{Change}
-use Rattle.machine.specs.Changes.{Event, refusing}
+use Rattle.machine.specs.Changes.{refusing}
 use Rattle.machine.specs.Orders.{leaves_qty}
 use Rattle.machine.specs.Machine.{after, step_of}
 use Rattle.machine.specs.History.{messages_of}
@@ -25,7 +24,7 @@ use Rattle.rules.specs.Laws.Keeps.{keeps_held, keeps_opens}
 use Rattle.index.specs.Laws.Moved.{SameClients, step_clients, opening_is}
 use Rattle.step.specs.Entries.{place_order, place_requests, tables_with, place_origin, place_open, place_index, book_with, call_of, returned, event_of}
 use Rattle.step.specs.Steps.{origin_asked}
-use Rattle.step.specs.Laws.Asked.{room_enough, taken_step, call_1, call_read}
+use Rattle.step.specs.Laws.Asked.{room_enough, taken_step, call_1}
 use Rattle.step.specs.Laws.Linked.{placed_linked}
 use Rattle.step.specs.Laws.Taken.{numbered}
 
@@ -91,7 +90,7 @@ module _ (b r a : List ℕ) where
         let whole : book ≡ place_open (place_origin tables c.requests.added k from) (after (book_of b) c) c.place c.order.client = o ∙ opened_is e w is (place_origin tables c.requests.added k from) in
         ap₂ (returned 0) (whole ∙ ap (λ (y : List ℕ). place_open y (after (book_of b) c) c.place c.order.client) linked) (u ∙ if_true _ _ _ (long e)) ∙ left_taken e
 
-  left_err : (q : Refusal) → refusing (number_of q) ≡ call_of b r (length a) → Leaves (number_of q) b a
+  pub left_err : (q : Refusal) → refusing (number_of q) ≡ call_of b r (length a) → Leaves (number_of q) b a
   unfolding refusing
   left_err q h = left_refused (refusing (number_of q)) h (numbered q)
 
@@ -101,35 +100,27 @@ module _ (b r a : List ℕ) where
   unfolding refusing
   left_broken k = left_refused (refusing 1) (call_1 b r (length a) k) refl
 
-  -- ---- the others, on the book that is known to keep its rules
+  -- ---- an event that is taken
 
-  module _ (k : List ℕ) (same : k ≡ b) (kept : keeps_of k ≡ true) where
-    -- the event did not read
-    pub left_unread : (q : Refusal) → refusing (number_of q) ≡ call_of k r (length a) → Leaves (number_of q) b a
-    left_unread q h = left_err q (rw same at h)
+  pub room_taken : (c : Change) → c ≡ call_of b r (length a) → c.refusal ≡ 0 → 1024 ≤ length a
+  room_taken c h z = leb-true 1024 (length a) (long c h (eq-eqb c.refusal 0 z))
 
-    module _ (v : Event) (is : v ≡ event_in r) (reads : 0 ≡ event_refusal r) (room : 1024 ≤ length a) where
-      called : (c : Change) → c ≡ step_of (book_of k) v → c ≡ call_of b r (length a)
-      called c s = call_read b r (length a) k same kept room reads v is c s
+  module _ (c : Change) (h : c ≡ call_of b r (length a)) (z : c.refusal ≡ 0) where
+    -- the request that an OrigClOrdID names was looked up on the book as it was
+    linked : (origin : ℕ) → origin ≡ origin_asked (book_of b) (event_in r)
+        → (t : List ℕ) (m : ℕ) → place_origin t c.requests.added m origin ≡ place_origin t c.requests.added m (origin_of (book_of b) c.order.client c.requests.request.origclordid)
+    linked origin f t m =
+        ap (place_origin t c.requests.added m) f
+        ∙ placed_linked (book_of b) (event_in r) c (h ∙ (taken_step b r (length a) (ap (λ (d : Change). eqb d.refusal 0) (sym h) ∙ eq-eqb c.refusal 0 z)).1) z t m
 
-      pub left_no : (q : Refusal) → refusing (number_of q) ≡ step_of (book_of k) v → Leaves (number_of q) b a
-      left_no q h = left_err q (called (refusing (number_of q)) h)
-
-      linked : (origin : ℕ) → origin ≡ origin_asked (book_of k) v → (c : Change) → c ≡ step_of (book_of k) v → c.refusal ≡ 0
-          → (t : List ℕ) (m : ℕ) → place_origin t c.requests.added m origin ≡ place_origin t c.requests.added m (origin_of (book_of b) c.order.client c.requests.request.origclordid)
-      linked origin f c s z t m =
-          ap (place_origin t c.requests.added m) f
-          ∙ placed_linked (book_of k) v c s z t m
-          ∙ ap (λ (x : List ℕ). place_origin t c.requests.added m (origin_of (book_of x) c.order.client c.requests.request.origclordid)) same
-
-      pub left_taken_lem : (origin : ℕ) → origin ≡ origin_asked (book_of k) v → (c : Change) → c ≡ step_of (book_of k) v → c.refusal ≡ 0
-          → (m leaves : ℕ) (w : Word) (placed tables book answer : List ℕ) → m ≡ request_count b → leaves ≡ leaves_qty c.order → w ≡ opening_of b c.place c.order.client leaves
-          → placed ≡ place_order b c.place c.order → tables ≡ place_requests placed c.requests
-          → book ≡ (if eqb c.place 0 then place_origin tables c.requests.added m origin otherwise store_open (place_origin tables c.requests.added m origin) w.at w.quantity)
-          → answer ≡ (if leb 1024 (length a) then said c otherwise a) → Leaves 0 book answer
-      left_taken_lem origin f c s z m leaves w placed tables book answer y n x p q o u =
-          left_0 c (called c s) (eq-eqb c.refusal 0 z) origin m leaves w placed tables book answer
-          (linked origin f c s z) y n x p q o u
+    pub left_taken_lem : (origin : ℕ) → origin ≡ origin_asked (book_of b) (event_in r)
+        → (m leaves : ℕ) (w : Word) (placed tables book answer : List ℕ) → m ≡ request_count b → leaves ≡ leaves_qty c.order → w ≡ opening_of b c.place c.order.client leaves
+        → placed ≡ place_order b c.place c.order → tables ≡ place_requests placed c.requests
+        → book ≡ (if eqb c.place 0 then place_origin tables c.requests.added m origin otherwise store_open (place_origin tables c.requests.added m origin) w.at w.quantity)
+        → answer ≡ (if leb 1024 (length a) then said c otherwise a) → Leaves 0 book answer
+    left_taken_lem origin f m leaves w placed tables book answer y n x p q o u =
+        left_0 c h (eq-eqb c.refusal 0 z) origin m leaves w placed tables book answer
+        (linked origin f) y n x p q o u
 
 -- how a call ends, for the tactics of the functions that take it
-pub ruleset entered = (left_broken, left_unread, left_no, left_taken_lem)
+pub ruleset entered = (left_broken, left_err, left_taken_lem)

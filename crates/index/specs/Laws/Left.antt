@@ -2,6 +2,7 @@
 -- Rests on Sums.
 use Rattle.std.specs.Prelude.{◌≡◌, ℕ, zero, suc, ◌+◌, ◌*◌, ◌<◌, ◌≤◌, Bool, true, false, List, ◌==◌, nat_eq, Option, None, Some, refl}
 use Rattle.std.proofs.Common.{arith, ◌∙◌, sym, ap, ap₂, eqb-true, eq-eqb, ne_eqb}
+use Rattle.std.proofs.Math.Decide.{ℕ_discrete}
 use Rattle.std.specs.Cmp.{both_ways}
 use Rattle.prelude.specs.Below.{all_below}
 use Rattle.prelude.specs.Laws.Below.{First, all_elim, all_intro, all_miss, first_elim, first_some}
@@ -102,6 +103,11 @@ module _ (b : List ℕ) where
       ∙ sym (open_here i i h e)
       ∙ sym (maybe_some (find_client (book_of b) (order_at b i).client) i true (λ j. if j == i then open_right b i otherwise true) e ∙ if_true _ _ _ (eq-eqb i i refl))
 
+  -- the same of what is left from it on, which is all
+  pub first_sum : (i w s : ℕ) → i < order_count b → find_client (book_of b) (order_at b i).client ≡ Some i → w ≡ load_open b i
+      → s + left_to b (order_at b i).client i ≡ open_of (book_of b) (order_at b i).client → (w == s) ≡ right_first i
+  first_sum i w s h e u v = first_word i w s h e u (omega (arith, v, left_start (order_at b i).client i e))
+
   pub not_first : (i j : ℕ) → find_client (book_of b) (order_at b i).client ≡ Some j → (j ≡ i → ⊥) → true ≡ right_first i
   unfolding right_first
   not_first i j e n =
@@ -110,6 +116,19 @@ module _ (b : List ℕ) where
   pub no_first : (i : ℕ) → find_client (book_of b) (order_at b i).client ≡ None → true ≡ right_first i
   unfolding right_first
   no_first i e = sym (maybe_none (find_client (book_of b) (order_at b i).client) true (λ j. if j == i then open_right b i otherwise true) e)
+
+  -- a word that is what is left from order i on is right, whether the order is a first one or not
+  pub sum_right : (i w s : ℕ) → i < order_count b → w ≡ load_open b i → s + left_to b (order_at b i).client i ≡ open_of (book_of b) (order_at b i).client
+      → w ≡ s → true ≡ right_first i
+  sum_right i w s h u v q = go (find_client (book_of b) (order_at b i).client) refl
+    where
+      at : (j : ℕ) → find_client (book_of b) (order_at b i).client ≡ Some j → Dec (j ≡ i) → true ≡ right_first i
+      at j e (yes f) = sym (eq-eqb w s q) ∙ first_sum i w s h (e ∙ ap (λ (n : ℕ). Some n) f) u v
+      at j e (no f) = not_first i j e f
+
+      go : (x : Option ℕ) → find_client (book_of b) (order_at b i).client ≡ x → true ≡ right_first i
+      go None e = no_first i e
+      go (Some j) e = at j e (ℕ_discrete j i)
 
   pick : (t r : Bool) → (if t then r otherwise true) ≡ false → r ≡ false
   unfolding if◌then◌otherwise◌
@@ -152,4 +171,4 @@ module _ (b : List ℕ) where
 -- ---- for the tactics of functions: the sum with one order more, and one order asked
 pub ruleset summed = (leaves_small, left_own, left_other, left_most)
 
-pub ruleset asked = (first_word, not_first, no_first)
+pub ruleset asked = (first_sum, not_first, no_first, sum_right)

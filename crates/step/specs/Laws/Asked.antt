@@ -1,8 +1,8 @@
 -- The questions as the code comes to them: what a call is once some are asked. Rests on Entries.
-use Rattle.std.specs.Prelude.{ℕ, ◌≤◌, ◌<◌, ◌≡◌, ◌≢◌, Bool, not, List, leb, ltb, refl, true, false, eqb}
+use Rattle.std.specs.Prelude.{ℕ, ◌≤◌, ◌<◌, ◌≡◌, ◌≢◌, Bool, not, ◌&&◌, List, leb, ltb, refl, true, false, eqb}
 use Rattle.std.proofs.Common.{sym, subst, arith, le-leb, le-ltb, lt-ltb}
 use Rattle.std.proofs.Math.Decide.{dec_lt}
-use Rattle.std.proofs.lemmas.Bool.{not-true, not-false}
+use Rattle.std.proofs.lemmas.Bool.{not-true, not-false, lt-leb}
 use Rattle.prelude.specs.Cases.{if◌then◌otherwise◌}
 use Rattle.prelude.specs.Laws.Cases.{split_if, clash}
 use Rattle.prelude.specs.declared.Refusal.{Refusal}
@@ -17,6 +17,7 @@ use Rattle.machine.specs.Changes.{Event, refusing}
 use Rattle.machine.specs.Machine.{step_of}
 use Rattle.rules.specs.Keeps.{keeps_of}
 use Rattle.step.specs.Entries.{call_of}
+use Rattle.step.specs.Steps.{reads}
 use Rattle.step.specs.Laws.Taken.{numbered}
 
 -- a test that the code has negated
@@ -48,6 +49,24 @@ four r = split_if ThreeFour _ (λ t. split_if ThreeFour _ (λ u z h. absurd (z r
 
 pub read_four : (r : List ℕ) (n : ℕ) → n ≡ event_refusal r → ThreeFour n
 read_four r n e = rw e (four r)
+
+-- ---- whether the record is read
+
+pub unread_short : (r : List ℕ) (room : ℕ) → room < shortest_answer → reads r room ≡ false
+unfolding reads
+unread_short r room l = rw (lt-leb shortest_answer room l) refl
+
+pub unread_refused : (r : List ℕ) (room : ℕ) (q : Refusal) → number_of q ≡ event_refusal r → reads r room ≡ false
+unfolding reads
+unread_refused r room q e = rw (← e, numbered q) (and_false (leb shortest_answer room))
+  where
+    and_false : (x : Bool) → x && false ≡ false
+    and_false true = refl
+    and_false false = refl
+
+pub read_both : (r : List ℕ) (room : ℕ) → shortest_answer ≤ room → 0 ≡ event_refusal r → reads r room ≡ true
+unfolding reads
+read_both r room l e = rw (le-leb shortest_answer room l, ← e) refl
 
 module _ (b r : List ℕ) (room : ℕ) where
   -- ---- question 1

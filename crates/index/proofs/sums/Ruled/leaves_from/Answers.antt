@@ -1,14 +1,8 @@
--- `Ruled::leaves_from` meets its contract: before the first order the sum is 0, behind the last it is whole. Rests on Left.
-use Rattle.std.proofs.Common.{◌≡◌, sym, ◌∙◌, arith}
+-- `Ruled::leaves_from` meets its contract: at order i the sum is 0, behind the last order it is whole. Rests on Left.
+use Rattle.std.proofs.Common.{◌≡◌, ◌∙◌, arith}
 use Rattle.store.specs.Book.{order_count}
-use Rattle.index.specs.Laws.Sums.{client_at}
-use Rattle.index.specs.Laws.Left.{left_start, left_all}
+use Rattle.index.specs.Laws.Left.{left_all}
 use Rattle.index.proofs.sums.Ruled.leaves_from.Goals as goal
-
-pub loop-k-init : goal.loop-k-init
-loop-k-init c =
-    let b = c.args.self.now.bytes.now in
-    (omega (arith, (client_at b c.args.client c.args.i c.requires).0), sym (left_start b c.args.client c.args.i c.requires))
 
 pub returns : goal.returns
 returns c =

@@ -1,5 +1,0 @@
--- The measure of `Used::count` is k: each step goes to a request numbered lower.
-use Rattle.chain.proofs.Used.+count.Given as goal
-
-abbrev pub decreases-count : goal.decreases-count
-decreases-count l = l.self.now.k
