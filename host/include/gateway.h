@@ -3,8 +3,7 @@
  *
  * Each pointer must be valid for its length, and the slices of one call must not overlap. Any bytes may be passed. A call
  * that returns a refusal other than 0 has written nothing. The library keeps nothing between calls and allocates nothing, so
- * that books may be used side by side, each by one thread at a time. It is for x86-64 Linux and needs memcpy, memmove and
- * memset. */
+ * that books may be used side by side, each by one thread at a time. It is for x86-64 Linux and needs memcpy and memset. */
 #ifndef JUBAFIYE_GATEWAY_H
 #define JUBAFIYE_GATEWAY_H
 

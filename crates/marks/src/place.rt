@@ -58,6 +58,18 @@ pub(crate) fn return_place(places: &[u8], name: &Name<'_>) -> Option<usize>
     (0..places.len() / PLACE).find(|i| is_mark(places, *i, &bytes))
 }
 
+// Writes bytes at an index, one by one: for `copy_from_slice` of two slices the compiler calls `memmove`, which the
+// archive would ask of its host.
+#[tactic(auto, using(prelude::specs::Laws::Span::copy_all))]
+fn put(s: &mut [u8], at: usize, bytes: &[u8])
+    requires { at + length bytes.now ≤ length s.old }
+    ensures { s.new ≡ splice s.old at bytes.now }
+{
+    for (i, byte) in bytes.iter().enumerate() {
+        s[at + i] = *byte;
+    }
+}
+
 // Name and book over all of place i.
 #[tactic(auto, using(crate::proofs::Laws::Stands::book_long))]
 pub(crate) fn put_place(places: &mut [u8], i: usize, name: &Name<'_>, book: &Kept<'_>)
@@ -65,16 +77,16 @@ pub(crate) fn put_place(places: &mut [u8], i: usize, name: &Name<'_>, book: &Kep
     ensures { places.new ≡ splice places.old (place_base i) (name_bytes name.now.letters.now ++ book.now.bytes.now) }
 {
     let at = i * PLACE;
-    places[at..at + NAME].copy_from_slice(&name.bytes());
-    places[at + NAME..at + NAME + layout::BOOK].copy_from_slice(book.bytes);
+    put(places, at, &name.bytes());
+    put(places, at + NAME, book.bytes);
 }
 
 // The image of place i over all of the book.
-#[tactic(auto, using(prelude::specs::Laws::Span::part_span), unfolding(crate::specs::Marks::image_at))]
+#[tactic(auto, using(prelude::specs::Laws::Span::part_span, prelude::specs::Laws::Span::splice_whole), unfolding(crate::specs::Marks::image_at))]
 pub(crate) fn take_image(book: &mut [u8], places: &[u8], i: usize)
     requires { (i < place_count places.now) × (length book.old ≡ book_size) }
     ensures { book.new ≡ image_at places.now i }
 {
     let at = i * PLACE + NAME;
-    book.copy_from_slice(&places[at..at + layout::BOOK]);
+    put(book, 0, &places[at..at + layout::BOOK]);
 }

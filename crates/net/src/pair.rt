@@ -32,9 +32,9 @@ impl Pair {
     // Whether order k is that client's in that symbol. Both are read in the book's bytes, by the layout:
     // `load_order` would read a whole record for two of its fields, for each pair of orders.
     #[tactic(auto, using(store::specs::Laws::Stored::count_most, crate::specs::Laws::Pair::used_long))]
-    fn has(self, book: &[u8], k: usize) -> bool
+    fn has(&self, book: &[u8], k: usize) -> bool
         requires { k < order_count book.now }
-        ensures { result ≡ of_pair self.client self.symbol (order_in (book_of book.now) k) }
+        ensures { result ≡ of_pair self.now.client self.now.symbol (order_in (book_of book.now) k) }
     {
         let base = layout::ORDERS + k * layout::ORDER;
         let at = base + layout::CLIENT;
@@ -43,17 +43,17 @@ impl Pair {
     }
 
     // Whether none of the first n orders is that client's in that symbol.
-    pub(crate) fn unseen(self, book: &[u8], n: usize) -> bool
+    pub(crate) fn unseen(&self, book: &[u8], n: usize) -> bool
         requires { n ≤ order_count book.now }
-        ensures { result ≡ unseen (book_of book.now) self.client self.symbol n }
+        ensures { result ≡ unseen (book_of book.now) self.now.client self.now.symbol n }
     {
         (0..n).all(|k| !self.has(book, k))
     }
 
     // The amounts with what order k bought or sold of it: two fields more, read as above.
-    fn with(self, book: &Kept<'_>, k: usize, a: Amounts) -> Amounts
-        requires { InUse book.now.bytes.now k × IsSum (book_of book.now.bytes.now) self.client self.symbol k a }
-        ensures { IsSum (book_of book.now.bytes.now) self.client self.symbol (k + 1) result }
+    fn with(&self, book: &Kept<'_>, k: usize, a: Amounts) -> Amounts
+        requires { InUse book.now.bytes.now k × IsSum (book_of book.now.bytes.now) self.now.client self.now.symbol k a }
+        ensures { IsSum (book_of book.now.bytes.now) self.now.client self.now.symbol (k + 1) result }
     {
         if !self.has(book.bytes, k) {
             return a;
@@ -75,9 +75,9 @@ impl Pair {
     }
 
     // What all orders bought and sold of it, if none of the first n did.
-    pub(crate) fn amounts(self, book: &Kept<'_>, n: usize) -> Amounts
-        requires { (n ≤ order_count book.now.bytes.now) × (unseen (book_of book.now.bytes.now) self.client self.symbol n ≡ true) }
-        ensures { result ≡ filled_in (book_of book.now.bytes.now) self.client self.symbol }
+    pub(crate) fn amounts(&self, book: &Kept<'_>, n: usize) -> Amounts
+        requires { (n ≤ order_count book.now.bytes.now) × (unseen (book_of book.now.bytes.now) self.now.client self.now.symbol n ≡ true) }
+        ensures { result ≡ filled_in (book_of book.now.bytes.now) self.now.client self.now.symbol }
     {
         let mut a = Amounts::default();
         for k in n..store::order_count(book.bytes) {

@@ -89,6 +89,25 @@ pub fn nothing(change: &mut Change)
     unchanged(0, &store::NO_ORDER, change);
 }
 
+// The order is copied part by part: whole, it is so long that the compiler calls `memmove`, which the archive would
+// ask of its host.
+fn put_order(order: &mut Order, o: &Order)
+    ensures { order.new ≡ o.now }
+{
+    order.client = o.client;
+    order.venue = o.venue;
+    order.names.name = o.names.name;
+    order.names.clordid = o.names.clordid;
+    order.names.downstream = o.names.downstream;
+    order.names.symbol = o.names.symbol;
+    order.names.venueorderid = o.names.venueorderid;
+    order.terms = o.terms;
+    order.state = o.state;
+    order.links = o.links;
+    order.pending = o.pending;
+    order.gateway = o.gateway;
+}
+
 // Nothing changes: the order at a place stands as it is given. Place and order one by one, here and below, as machine's
 // definitions take them: the order changes on the way, the place does not.
 #[tactic(auto, unfolding(machine::specs::Changes::unchanged))]
@@ -97,7 +116,7 @@ pub fn unchanged(place: u16, o: &Order, change: &mut Change)
 {
     change.refusal = 0;
     change.place = place;
-    change.order = *o;
+    put_order(&mut change.order, o);
     change.requests = NO_REQUESTS;
     change.output = SILENT;
 }
@@ -163,7 +182,7 @@ pub fn settled(link: u16, outcome: u8, place: u16, o: &Order, change: &mut Chang
 pub fn sending_on(message: &Record, request: &Request, o: &Order, change: &mut Change)
     ensures { change.new ≡ telling message.now (adding request.now (with_order o.now change.old)) }
 {
-    change.order = *o;
+    put_order(&mut change.order, o);
     adding(request, change);
     telling(message, change);
 }

@@ -5,12 +5,24 @@ ghost use Rattle.std.specs.Prelude.{◌≡◌, ◌∷◌, ◌<◌, ◌+◌, ◌�
 ghost use Rattle.prelude.specs.Span.{splice};
 ghost use Rattle.prelude.specs.Number.{bytes_of};
 
+// Writes bytes at an index, one by one: for `copy_from_slice` of two slices the compiler calls `memmove`, which the
+// archive would ask of its host.
+#[tactic(auto, using(prelude::specs::Laws::Span::copy_all))]
+fn put_bytes(dst: &mut [u8], at: usize, bytes: &[u8])
+    requires { at + length bytes.now ≤ length dst.old }
+    ensures { dst.new ≡ splice dst.old at bytes.now }
+{
+    for (i, byte) in bytes.iter().enumerate() {
+        dst[at + i] = *byte;
+    }
+}
+
 // Writes a number in n bytes, and returns the position after it.
 pub(crate) fn put_number(dst: &mut [u8], at: usize, value: u64, n: usize) -> usize
     requires { (n ≤ 8) × (at + n ≤ length dst.old) }
     ensures { (result ≡ at + n) × (dst.new ≡ splice dst.old at (bytes_of n value)) }
 {
-    dst[at..at + n].copy_from_slice(&value.to_le_bytes()[..n]);
+    put_bytes(dst, at, &value.to_le_bytes()[..n]);
     at + n
 }
 
@@ -23,6 +35,6 @@ pub(crate) fn put_text(dst: &mut [u8], at: usize, text: &[u8]) -> usize
     let n = text.len();
     dst[at] = n as u8;
     let p = at + 1;
-    dst[p..p + n].copy_from_slice(text);
+    put_bytes(dst, p, text);
     p + n
 }

@@ -131,10 +131,17 @@ pub struct Tenth {
 pub fn by_ten(n: [u64; 2]) -> Tenth
     ensures { (result.quotient ≡ words (value n / 10)) × (result.digit ≡ value n % 10) }
 {
-    let low = divide(n[1] % 10, n[0], 10);
+    if n[1] != 0 {
+        let low = divide(n[1] % 10, n[0], 10);
+        return Tenth {
+            quotient: [low.quotient, n[1] / 10],
+            digit: low.rest,
+        };
+    }
+    // One word, as most prices are: by the machine's own division.
     Tenth {
-        quotient: [low.quotient, n[1] / 10],
-        digit: low.rest,
+        quotient: [n[0] / 10, 0],
+        digit: n[0] % 10,
     }
 }
 

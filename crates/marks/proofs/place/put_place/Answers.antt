@@ -1,7 +1,6 @@
 -- `put_place` meets its contract: it writes the name, and the book behind it. Rests on Written.
-use Rattle.std.proofs.Common.{ℕ, ◌+◌, List, ap, ap₂, ◌∙◌, rules}
+use Rattle.std.proofs.Common.{ℕ, ◌+◌, List, ap, ◌∙◌}
 use Rattle.prelude.specs.Span.{splice}
-use Rattle.prelude.specs.Laws.Span.{part_splice}
 use Rattle.marks.specs.Marks.{name_size, place_base}
 use Rattle.marks.proofs.Laws.Written.{name_then_book}
 use Rattle.marks.proofs.place.put_place.Goals as goal
@@ -10,8 +9,6 @@ pub returns : goal.returns
 returns c =
     let b = c.args.book.now.bytes.now in
     let at = place_base c.args.i in
-    part_splice _ _ (at + name_size) _ (search rules)
-    ∙ ap₂ (λ (s w : List ℕ). splice s (at + name_size) w)
-    (part_splice c.args.places.now _ at name_size (search rules) ∙ ap (splice c.args.places.now at) c.copy_from_slice.ensures.after)
-    c.copy_from_slice-2.ensures.after
+    c.put-2.ensures
+    ∙ ap (λ (s : List ℕ). splice s (at + name_size) b) c.put.ensures
     ∙ name_then_book c.args.places.now c.args.name.now.letters.now b c.bytes.result c.args.i c.requires c.bytes.ensures

@@ -1,7 +1,6 @@
 -- `fields::put_number`: the first n bytes of the number. Assumes nothing.
 use Rattle.std.proofs.Common.{◌≡◌, ℕ, zero, suc, ◌≤◌, ◌%◌, ◌/◌, ◌∷◌, List, take, rules, refl, ap, ◌∙◌, arith}
 use Rattle.prelude.specs.Span.{splice}
-use Rattle.prelude.specs.Laws.Span.{part_splice}
 use Rattle.prelude.specs.Number.{bytes_of}
 use Rattle.records.proofs.fields.put_number.Goals as goal
 
@@ -14,4 +13,4 @@ pub returns : goal.returns
 returns c =
     let a = c.args in
     let e : c.to_le_bytes.result ≡ bytes_of 8 a.value = search rules in
-    (refl, part_splice _ _ _ _ (search rules) ∙ ap (splice a.dst.now a.at) (c.copy_from_slice.ensures.after ∙ ap (take a.n) e ∙ first_bytes 8 a.n a.value c.requires.0))
+    (refl, c.put_bytes.ensures ∙ ap (splice a.dst.now a.at) (ap (take a.n) e ∙ first_bytes 8 a.n a.value c.requires.0))

@@ -11,10 +11,10 @@ slice_bounds-get16-end c = omega (arith, used_few c.args.book.now c.args.k c.req
 pub returns-then-get16-self : goal.returns-then-get16-self
 returns-then-get16-self c =
     let b = c.args.book.now in
-    pair_same b c.args.k (in_use b c.args.k c.requires) c.args.self.client c.args.self.symbol _ (c.get16.ensures ∙ window_16 b (order_base c.args.k + order·client)) c.if-get16-self.true _ c.text_is.ensures
+    pair_same b c.args.k (in_use b c.args.k c.requires) c.args.self.now.client c.args.self.now.symbol _ (c.get16.ensures ∙ window_16 b (order_base c.args.k + order·client)) c.if-get16-self.true _ c.text_is.ensures
 
 pub returns-else-get16-self : goal.returns-else-get16-self
 returns-else-get16-self c =
     let b = c.args.book.now in
     ne_eqb _ _ c.if-get16-self.false
-    ∙ pair_other b c.args.k (in_use b c.args.k c.requires) c.args.self.client c.args.self.symbol _ (c.get16.ensures ∙ window_16 b (order_base c.args.k + order·client)) c.if-get16-self.false
+    ∙ pair_other b c.args.k (in_use b c.args.k c.requires) c.args.self.now.client c.args.self.now.symbol _ (c.get16.ensures ∙ window_16 b (order_base c.args.k + order·client)) c.if-get16-self.false

@@ -9,5 +9,5 @@ use Rattle.net.proofs.pair.Pair.unseen.Goals as goal
 
 pub returns : goal.returns
 returns c =
-    all_from_yields_List (miss_at (book_of c.args.book.now) c.args.self.client c.args.self.symbol) _ _ _ c.all.ensures.ran (YieldsList-from_range 0 c.args.n c.args.n (cc) (omega arith)) (λ x b q k. search (rules, tests))
+    all_from_yields_List (miss_at (book_of c.args.book.now) c.args.self.now.client c.args.self.now.symbol) _ _ _ c.all.ensures.ran (YieldsList-from_range 0 c.args.n c.args.n (cc) (omega arith)) (λ x b q k. search (rules, tests))
     ∙ all_range _ c.args.n

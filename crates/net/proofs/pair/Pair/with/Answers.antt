@@ -14,7 +14,7 @@ in_list : (s : Start) → s.args.k < length (book_of s.args.book.now.bytes.now).
 in_list s = omega (arith, length_orders s.args.book.now.bytes.now, s.requires.0.used)
 
 -- what was read of an order that is theirs
-theirs : (g : After-get64-filled) → of_pair g.args.self.client g.args.self.symbol (order_in (book_of g.args.book.now.bytes.now) g.args.k) ≡ true
+theirs : (g : After-get64-filled) → of_pair g.args.self.now.client g.args.self.now.symbol (order_in (book_of g.args.book.now.bytes.now) g.args.k) ≡ true
 theirs g = sym g.has.ensures ∙ g.if-not-has.false
 
 is_filled : (g : After-get64-filled) → g.get64-filled.result ≡ (order_in (book_of g.args.book.now.bytes.now) g.args.k).state.cumqty
@@ -27,7 +27,7 @@ small g = omega (arith, is_filled g, (order_at g.args.book.now.bytes.now g.args.
 
 pub returns-then-not-has : goal.returns-then-not-has
 returns-then-not-has c =
-    sum_miss (book_of c.args.book.now.bytes.now) c.args.self.client c.args.self.symbol c.args.k c.args.a c.requires.1 (in_list (goal.at.returns-then-not-has c).Start)
+    sum_miss (book_of c.args.book.now.bytes.now) c.args.self.now.client c.args.self.now.symbol c.args.k c.args.a c.requires.1 (in_list (goal.at.returns-then-not-has c).Start)
     (sym c.has.ensures ∙ c.if-not-has.true)
 
 pub overflow_add-result : goal.overflow_add-result
@@ -40,12 +40,12 @@ pub returns-then-book-base-eq-BUY : goal.returns-then-book-base-eq-BUY
 returns-then-book-base-eq-BUY c =
     let g = (goal.at.returns-then-book-base-eq-BUY c).After-get64-filled in
     let b = c.args.book.now.bytes.now in
-    sum_bought (book_of b) c.args.self.client c.args.self.symbol c.args.k c.args.a c.requires.1 (in_list (goal.at.returns-then-book-base-eq-BUY c).Start)
+    sum_bought (book_of b) c.args.self.now.client c.args.self.now.symbol c.args.k c.args.a c.requires.1 (in_list (goal.at.returns-then-book-base-eq-BUY c).Start)
     c.get64-filled.result (is_filled g) (small g) (theirs g) (side_at b c.args.k c.requires.0 ∙ c.if-book-base-eq-BUY.true)
 
 pub returns-else-book-base-eq-BUY : goal.returns-else-book-base-eq-BUY
 returns-else-book-base-eq-BUY c =
     let g = (goal.at.returns-else-book-base-eq-BUY c).After-get64-filled in
     let b = c.args.book.now.bytes.now in
-    sum_sold (book_of b) c.args.self.client c.args.self.symbol c.args.k c.args.a c.requires.1 (in_list (goal.at.returns-else-book-base-eq-BUY c).Start)
+    sum_sold (book_of b) c.args.self.now.client c.args.self.now.symbol c.args.k c.args.a c.requires.1 (in_list (goal.at.returns-else-book-base-eq-BUY c).Start)
     c.get64-filled.result (is_filled g) (small g) (theirs g) (λ y. c.if-book-base-eq-BUY.false (sym (side_at b c.args.k c.requires.0) ∙ y))
